@@ -1,0 +1,15 @@
+//! The entries that the agent makes of log lines: a body, attributes, a resource, a time and a severity, after
+//! the [OpenTelemetry Logs Data Model](https://opentelemetry.io/docs/specs/otel/logs/data-model/).
+//!
+//! Contracts see a [`Text`] as the list of its UTF-8 bytes, a [`Value`] as its `datum` and an [`Entry`] as its
+//! `log_record`: trees that say what a value is, and nothing of how it lies in memory. A crate above rests on
+//! those three views alone.
+#![tactic(auto)]
+
+mod entry;
+mod text;
+mod value;
+
+pub use entry::{Entry, Severity};
+pub use text::Text;
+pub use value::{Fields, Value, Values};

@@ -1,0 +1,21 @@
+// Values, as bodies and attributes have them.
+use crate::Text;
+use std::collections::BTreeMap;
+
+/// The members of a map, in ascending byte order of their keys.
+pub type Fields = BTreeMap<Text, Value>;
+
+/// The values of a list, in order.
+pub type Values = Vec<Value>;
+
+/// Any value of the data model but floats and bytes: a number with a fraction or an exponent stays text, as
+/// it was spelled.
+#[derive(PartialEq, Drop)]
+pub enum Value {
+    Null,
+    Bool(bool),
+    Int(i64),
+    Text(Text),
+    List(Values),
+    Map(Fields),
+}

@@ -1,0 +1,4 @@
+pub mod Cuts
+pub mod LineTokens
+pub mod Trim
+pub mod EntryText

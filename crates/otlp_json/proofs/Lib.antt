@@ -1,0 +1,12 @@
+pub mod Appended
+pub mod Digits
+pub mod Escapes
+pub mod Members
+pub mod NoLf
+pub mod Numbered
+pub mod Splits
+pub mod SplitsOfLines
+pub mod SplitsOfRecords
+pub mod SplitsOfStrings
+pub mod SplitsOfTails
+pub mod SplitsOfValues

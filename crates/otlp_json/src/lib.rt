@@ -1,0 +1,70 @@
+//! The agent's output lines: one JSON object a log record, in the [OTLP/JSON encoding] of OTLP 1.x.
+//!
+//! The one contract for the layer above is that of [`line`]: what it appends is exactly the definition
+//! `output_line`, for every entry.
+//!
+//! [OTLP/JSON encoding]: https://opentelemetry.io/docs/specs/otlp/#json-protobuf-encoding
+#![tactic(auto)]
+
+ghost use Rattle.std.specs.Prelude.{◌≡◌, ◌++◌, OnOk, OnErr};
+ghost use Rattle.entry_model.specs.LogRecord.{log_record};
+ghost use Rattle.otlp_json.specs.HasFront.{HasFront};
+ghost use Rattle.otlp_json.specs.OutputLine.{output_line, line_tail};
+
+pub mod integers;
+pub mod laws;
+mod record;
+mod string;
+#[cfg(test)]
+mod tests;
+mod value;
+
+use entry_model::Entry;
+use std::alloc::{AllocError, Global};
+
+/// Appends the line of an entry with its LF. `id` is the file's, and `number` the line's among the lines of that
+/// file, from 1.
+///
+/// Fails where memory runs out, and `out` is then as it was. What it needs comes from the allocator of `out`.
+pub fn line(
+    _alloc: Global,
+    id: u32,
+    number: u64,
+    entry: &Entry,
+    out: &mut Vec<u8>,
+) -> Result<(), AllocError>
+    ensures ok { OnOk result (out.new.items
+        ≡ out.old.items ++ output_line id number (log_record entry.now)) }
+    ensures err { OnErr result (out.new.items ≡ out.old.items) }
+{
+    let len = out.len();
+    let written = append_line(id, number, entry, out);
+    if written.is_err() {
+        out.truncate(len);
+    }
+    written
+}
+
+fn append_line(id: u32, number: u64, entry: &Entry, out: &mut Vec<u8>) -> Result<(), AllocError>
+    ensures ok { OnOk result (out.new.items
+        ≡ out.old.items ++ output_line id number (log_record entry.now)) }
+    ensures front { HasFront out.old.items out.new.items }
+{
+    out.extend_from_slice(b"{\"resourceLogs\":[{\"resource\":{\"attributes\":")?;
+    record::append_attributes(&entry.resource, out)?;
+    out.extend_from_slice(b"},\"scopeLogs\":[{\"logRecords\":[")?;
+    record::append_record(entry, out)?;
+    out.extend_from_slice(b"],\"scope\":{\"attributes\":[{\"key\":")?;
+    append_tail(id, number, out)
+}
+
+fn append_tail(id: u32, number: u64, out: &mut Vec<u8>) -> Result<(), AllocError>
+    ensures ok { OnOk result (out.new.items ≡ out.old.items ++ line_tail id number) }
+    ensures front { HasFront out.old.items out.new.items }
+{
+    out.extend_from_slice(b"\"agent.file\",\"value\":{\"intValue\":\"")?;
+    string::append_decimal(u64::from(id), out)?;
+    out.extend_from_slice(b"\"}},{\"key\":\"agent.line\",\"value\":{\"intValue\":\"")?;
+    string::append_decimal(number, out)?;
+    out.extend_from_slice(b"\"}}],\"name\":\"stanza_agent\"}}]}]}\n")
+}

@@ -1,0 +1,85 @@
+// A LogRecord, and the attributes of a record or a resource.
+ghost use Rattle.std.specs.Prelude.{◌≡◌, ◌++◌, OnOk};
+ghost use Rattle.entry_model.specs.Datum.{datum};
+ghost use Rattle.entry_model.specs.LogRecord.{log_record, members_in};
+ghost use Rattle.otlp_json.specs.HasFront.{HasFront};
+ghost use Rattle.otlp_json.specs.RecordText.{attributes_text, body_text, severity_number_text, severity_name_text, time_text, record_text};
+
+use crate::string::{append_decimal, append_escaped};
+use crate::value::{append_members, append_value};
+use entry_model::{Entry, Value};
+use std::alloc::AllocError;
+
+pub fn append_record(entry: &Entry, out: &mut Vec<u8>) -> Result<(), AllocError>
+    ensures ok { OnOk result (out.new.items ≡ out.old.items ++ record_text (log_record entry.now)) }
+    ensures front { HasFront out.old.items out.new.items }
+{
+    out.extend_from_slice(b"{\"attributes\":")?;
+    append_attributes(&entry.attributes, out)?;
+    append_body(&entry.body, out)?;
+    append_severity_number(entry.severity.number, out)?;
+    append_severity_name(entry.severity_text.as_str(), out)?;
+    append_time(entry.timestamp, out)?;
+    out.extend_from_slice(b"}")
+}
+
+pub fn append_attributes(attributes: &Value, out: &mut Vec<u8>) -> Result<(), AllocError>
+    ensures ok { OnOk result (out.new.items
+        ≡ out.old.items ++ attributes_text (members_in (datum attributes.now))) }
+    ensures front { HasFront out.old.items out.new.items }
+{
+    let Value::Map(fields) = attributes else {
+        return out.extend_from_slice(b"[]");
+    };
+    out.extend_from_slice(b"[")?;
+    append_members(fields, out)?;
+    out.extend_from_slice(b"]")
+}
+
+fn append_body(body: &Value, out: &mut Vec<u8>) -> Result<(), AllocError>
+    ensures ok { OnOk result (out.new.items ≡ out.old.items ++ body_text (datum body.now)) }
+    ensures front { HasFront out.old.items out.new.items }
+{
+    match body {
+        Value::Null => Ok(()),
+        _ => {
+            out.extend_from_slice(b",\"body\":")?;
+            append_value(body, out)
+        }
+    }
+}
+
+fn append_severity_number(severity: u8, out: &mut Vec<u8>) -> Result<(), AllocError>
+    ensures ok { OnOk result (out.new.items ≡ out.old.items ++ severity_number_text severity) }
+    ensures front { HasFront out.old.items out.new.items }
+{
+    if severity == 0 {
+        return Ok(());
+    }
+    out.extend_from_slice(b",\"severityNumber\":")?;
+    append_decimal(u64::from(severity), out)
+}
+
+fn append_severity_name(name: &str, out: &mut Vec<u8>) -> Result<(), AllocError>
+    ensures ok { OnOk result (out.new.items ≡ out.old.items ++ severity_name_text name.now) }
+    ensures front { HasFront out.old.items out.new.items }
+{
+    if name.is_empty() {
+        return Ok(());
+    }
+    out.extend_from_slice(b",\"severityText\":\"")?;
+    append_escaped(name.as_bytes(), out)?;
+    out.extend_from_slice(b"\"")
+}
+
+fn append_time(time: Option<u64>, out: &mut Vec<u8>) -> Result<(), AllocError>
+    ensures ok { OnOk result (out.new.items ≡ out.old.items ++ time_text time) }
+    ensures front { HasFront out.old.items out.new.items }
+{
+    let Some(nanoseconds) = time else {
+        return Ok(());
+    };
+    out.extend_from_slice(b",\"timeUnixNano\":\"")?;
+    append_decimal(nanoseconds, out)?;
+    out.extend_from_slice(b"\"")
+}

@@ -1,0 +1,22 @@
+-- The steps that other processes may do. A path in use can't be taken, nor can one that would make a file a folder.
+use Rattle.std.specs.Prelude.{ℕ, List, Bool, false, not, ◌||◌, ◌&&◌}
+use Rattle.std.specs.List.{list_any}
+use Rattle.std.specs.Str.{bytes_eq}
+use Rattle.outside.specs.Path.{is_path, is_below}
+use Rattle.outside.specs.World.{Event, create, append, rename, remove, look, miss, unlisted, History, Names, names, has_name, was_created}
+
+-- both paths can't be names of files at once
+abbrev pub clashes : List ℕ → List ℕ → Bool
+clashes path other = bytes_eq path other || (is_below path other || is_below other path)
+
+abbrev pub is_free : Names → List ℕ → Bool
+is_free names path = is_path path && not (list_any (λ name. clashes path name.0) names)
+
+abbrev pub is_lawful : History → Event → Bool
+is_lawful history (create file path) = not (was_created history file) && is_free (names history) path
+is_lawful history (append file _) = has_name (names history) file
+is_lawful history (rename file path) = has_name (names history) file && is_free (names history) path
+is_lawful history (remove file) = has_name (names history) file
+is_lawful history (look _) = false
+is_lawful history (miss _) = false
+is_lawful history (unlisted _) = false

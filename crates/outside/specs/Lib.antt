@@ -1,0 +1,15 @@
+pub mod Count
+pub mod Path
+pub mod World
+pub mod Lawful
+pub mod Moment
+pub mod Content
+pub mod Listing
+pub mod Opening
+pub mod Reading
+pub mod Closing
+pub mod Plan
+pub mod Image
+pub mod Crash
+pub mod DiskCalls
+pub mod Stream

@@ -1,0 +1,13 @@
+pub mod Status
+pub mod Folder
+pub mod SummaryLine
+pub mod Cause
+pub mod LogLines
+pub mod Look
+pub mod Progress
+pub mod Words
+pub mod Polled
+pub mod Appended
+pub mod Report
+pub mod Found
+pub mod Silent

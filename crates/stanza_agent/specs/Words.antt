@@ -1,0 +1,10 @@
+-- The commands, as lists of words.
+use Rattle.std.specs.Prelude.{Bool, false, List, [], ◌∷◌, codes, String, string_bytes}
+use Rattle.std.specs.Str.{bytes_eq}
+use Rattle.std.specs.declared.alloc.Global.{Global}
+
+-- the one word `once`
+abbrev pub is_once : List (String Global) → Bool
+is_once [] = false
+is_once (word ∷ []) = bytes_eq (string_bytes word) (codes "once")
+is_once (word ∷ other ∷ rest) = false

@@ -1,0 +1,78 @@
+// Why a command ends with a status other than 0.
+ghost use Rattle.std.specs.Prelude.{◌≡◌};
+ghost use Rattle.stanza_agent.specs.declared.fault.Fault.TheVariants.{Disk, Memory};
+
+use outside::{CallFault, Failed};
+use std::alloc::{AllocError, AllocFailed};
+
+/// Why a command ends with a status other than 0.
+#[derive(Clone, Copy, Debug, PartialEq, Eq)]
+pub enum Fault {
+    /// The words are no command.
+    Usage,
+    /// A call on the disk failed.
+    Disk,
+    /// Memory ran out.
+    Memory,
+    /// With the next line the output would have this many bytes, more than it may have.
+    OutputFull { length: u64 },
+    /// The agent can't do this yet: other settings, an output that isn't empty, or a log file that is too long or
+    /// compressed.
+    NotBuilt,
+}
+
+impl Fault {
+    ghost use Rattle.stanza_agent.specs.Status.{status_of};
+
+    /// The exit status.
+    pub fn status(self) -> u8
+        ensures { result ≡ status_of self }
+    {
+        match self {
+            Fault::Usage => 2,
+            Fault::Disk => 7,
+            Fault::Memory => 10,
+            Fault::OutputFull { .. } => 11,
+            Fault::NotBuilt => 14,
+        }
+    }
+}
+
+impl From<AllocError> for Fault {
+    ghost from_gives = { λ _ fault. fault ≡ Memory };
+
+    fn from(_: AllocError) -> Self {
+        Fault::Memory
+    }
+}
+
+impl<T: Drop> From<AllocFailed<T>> for Fault {
+    ghost from_gives = { λ _ fault. fault ≡ Memory };
+
+    fn from(_: AllocFailed<T>) -> Self {
+        Fault::Memory
+    }
+}
+
+/// For a call on the disk.
+impl From<Failed> for Fault {
+    ghost from_gives = { λ _ fault. fault ≡ Disk };
+
+    fn from(_: Failed) -> Self {
+        Fault::Disk
+    }
+}
+
+/// For a call on the disk that takes memory.
+impl From<CallFault> for Fault {
+    ghost use Rattle.stanza_agent.specs.Cause.{disk_fault};
+
+    ghost from_gives = { λ fault made. made ≡ disk_fault fault };
+
+    fn from(fault: CallFault) -> Self {
+        match fault {
+            CallFault::Failed => Fault::Disk,
+            CallFault::Memory => Fault::Memory,
+        }
+    }
+}

@@ -1,0 +1,46 @@
+// Standard input.
+ghost use Rattle.std.specs.Io.{ReadsAtMost};
+
+use super::{TRIES, counted};
+use outside::{Failed, Source};
+use std::io;
+use std::io::{ErrorKind, Read};
+
+/// The machine's standard input.
+#[derive(Drop)]
+pub struct RealSource<'a> {
+    rt: &'a HostRuntime,
+    faults: u64,
+}
+
+impl<'a> RealSource<'a> {
+    pub fn new(rt: &'a HostRuntime) -> Self {
+        RealSource { rt, faults: 0 }
+    }
+}
+
+impl Source for RealSource<'_> {
+    ghost use Rattle.std.specs.Prelude.{None};
+
+    ghost rest = { λ _. None };
+
+    ghost faults = { λ source. source.faults };
+
+    fn read(&mut self, buf: &mut [u8]) -> Result<usize, Failed> {
+        let given = read_retrying(self.rt, buf);
+        counted(&mut self.faults, given)
+    }
+}
+
+fn read_retrying(rt: &HostRuntime, buf: &mut [u8]) -> io::Result<usize>
+    ensures { ReadsAtMost result buf.new }
+{
+    let mut input = rt.stdin();
+    for _ in 1..TRIES {
+        match input.read(buf) {
+            Err(e) if e.kind() == ErrorKind::Interrupted => {}
+            given => return given,
+        }
+    }
+    input.read(buf)
+}

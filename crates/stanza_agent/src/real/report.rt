@@ -1,0 +1,38 @@
+// Standard output.
+use super::counted_call;
+use outside::{CallFault, Sink};
+use std::alloc::Global;
+use std::io;
+use std::io::Write;
+
+/// The machine's standard output.
+#[derive(Drop)]
+pub struct RealSink<'a> {
+    rt: &'a HostRuntime,
+    faults: u64,
+}
+
+impl<'a> RealSink<'a> {
+    pub fn new(rt: &'a HostRuntime) -> Self {
+        RealSink { rt, faults: 0 }
+    }
+}
+
+impl Sink for RealSink<'_> {
+    ghost use Rattle.std.specs.Prelude.{None};
+
+    ghost written = { λ _. None };
+
+    ghost faults = { λ sink. sink.faults };
+
+    fn write(&mut self, _alloc: Global, bytes: &[u8]) -> Result<(), CallFault> {
+        let given = write_out(self.rt, bytes);
+        counted_call(&mut self.faults, given)
+    }
+}
+
+fn write_out(rt: &HostRuntime, bytes: &[u8]) -> io::Result<()> {
+    let mut output = io::writer(rt);
+    output.write_all(bytes)?;
+    output.flush()
+}
