@@ -1,0 +1,15 @@
+pub mod Members
+pub mod Addresses
+pub mod Sorting
+pub mod Emissions
+pub mod Logs
+pub mod Traces
+pub mod Walks
+pub mod Closings
+pub mod Delivering
+pub mod Pushing
+pub mod Pigeons
+pub mod Reaching
+pub mod Ordering
+pub mod Routes
+pub mod Checks
