@@ -1,0 +1,10 @@
+use Rattle.std.proofs.Common.{rules, tests}
+use Rattle.std.proofs.lemmas.Iterator.Consumers.{YieldsList-from_deque}
+use Rattle.std.proofs.lemmas.Iterator.Search.{any_from_yields_List}
+use Rattle.outside.specs.Path.{is_below}
+use Rattle.mem_world.proofs.TreeStoring.{any_map}
+use Rattle.mem_world.proofs.tree.names.is_on_a_path.Goals as goal
+
+pub returns : goal.returns
+returns c =
+    rw any_map (any_from_yields_List (λ name. is_below c.args.folder.now name.path) _ _ c.any.result c.any.ensures.ran (YieldsList-from_deque c.args.names.now.items c.iter.ensures.rest) (λ x b q k. search (rules, tests)))

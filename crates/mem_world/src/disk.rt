@@ -1,0 +1,185 @@
+// A disk in memory.
+ghost use Rattle.std.specs.Prelude.{◌≡◌, ℕ, ◌+◌, ◌≤◌, ◌∷◌, ◌++◌, [], true, false, IfSome, IsOk, IfOk, OnOk, OnErr, None, Some, option_map, if◌then◌else◌};
+ghost use Rattle.outside.specs.Count.{Rose};
+ghost use Rattle.std.proofs.Props.{props};
+ghost use Rattle.outside.specs.declared.disk.DiskFile.{DiskFile};
+ghost use Rattle.outside.specs.Image.{AtFile};
+ghost use Rattle.outside.specs.Crash.{Passes, IsDurable};
+ghost use Rattle.mem_world.specs.DiskLog.{Leaves, calls_of};
+ghost use Rattle.mem_world.specs.DiskStore.{log_of};
+ghost use Rattle.mem_world.specs.DiskCount.{done_count};
+ghost use Rattle.mem_world.specs.DiskPlans.{limit_of, left_of, failed, new_fuse, is_reached};
+
+mod calls;
+mod contents;
+pub(crate) mod failures;
+mod fuse;
+mod log;
+mod plans;
+mod store;
+mod tear;
+#[cfg(test)]
+mod tests;
+
+use log::Change;
+use outside::{CallFault, DiskFile, Failed};
+use plans::Plans;
+use std::alloc::{AllocError, Global};
+use store::Store;
+use tear::Tear;
+
+/// The agent's four files in memory. It tells its images, and may be stopped inside any call.
+#[derive(Debug, Drop)]
+pub struct MemDisk {
+    store: Store,
+    plans: Plans,
+    ghost limited: { IfSome (limit_of plans.fuse) (λ most. done_count (log_of store) + left_of plans.fuse ≤ most) } by { Prim.hlevel props },
+}
+
+impl MemDisk {
+    ghost use Rattle.mem_world.specs.MemDisk.{history_of, fuse_of, failures_of, faults_of, seen_of, MayLeave, moment_of, MayHaveLeft, most_faults, done_of, most_done, next_fate, IsFresh, KeepsPlans, Counts, Calls};
+    ghost use Rattle.mem_world.specs.CrashOutcome.{without_unsynced, with_unsynced};
+
+    /// Four empty files.
+    pub fn new(alloc: Global) -> Result<Self, AllocError>
+        ensures ok { IsOk result }
+        ensures empty { IfOk result (λ disk. (file : DiskFile) → seen_of disk file ≡ []) }
+        ensures durable { IfOk result (λ disk. (file : DiskFile) → IsDurable MayLeave seen_of file disk) }
+        ensures fresh { IfOk result IsFresh }
+    {
+        Ok(MemDisk {
+            store: Store::new(alloc),
+            plans: Plans::new(alloc),
+        })
+    }
+
+    /// Sets a file, synced.
+    pub fn put(&mut self, alloc: Global, file: DiskFile, bytes: &[u8]) -> Result<(), AllocError>
+        ensures seen { OnOk result (AtFile file (λ _ new. new ≡ bytes.now) (seen_of self.old) (seen_of self.new)) }
+        ensures durable { OnOk result (IsDurable MayLeave seen_of file self.new) }
+        ensures crash { OnOk result (Passes MayLeave moment_of MayHaveLeft (AtFile file (λ _ new. new ≡ bytes.now)) self.old self.new) }
+        ensures done { done_of self.new ≡ done_of self.old }
+        ensures plans { KeepsPlans self.old self.new }
+        ensures err { OnErr result (history_of self.new ≡ history_of self.old) }
+    {
+        let bytes = bytes.to_vec(alloc)?;
+        self.store.record(alloc, file, Change::Put { bytes }, true)
+    }
+
+    /// What reads give of a file.
+    pub fn bytes(&self, file: DiskFile) -> &[u8]
+        ensures { result.now ≡ seen_of self.now file }
+    {
+        self.store.bytes(file)
+    }
+
+    /// Lets so many further calls pass. Each later one fails without effect, but the first of them counts as begun,
+    /// where it is a write or a cut. A call that was set to fail is one of so many, and one for which memory ran out
+    /// isn't.
+    pub fn fuse(&mut self, calls: u32)
+        ensures limit { most_done self.new ≡ option_map (λ done. done + calls) (done_of self.old) }
+        ensures bound { most_faults self.new ≡ None }
+        ensures fuse { fuse_of self.new ≡ Some (new_fuse (done_count (history_of self.old)) calls) }
+        ensures history { history_of self.new ≡ history_of self.old }
+        ensures faults { faults_of self.new ≡ faults_of self.old }
+        ensures failures { failures_of self.new ≡ failures_of self.old }
+    {
+        self.plans.set_fuse(self.store.done(), calls);
+    }
+
+    /// Makes the call with this number from now, where 1 is the next, fail without effect. No call has the number 0, and
+    /// one for which memory runs out isn't counted.
+    pub fn fail(&mut self, _alloc: Global, call: u32) -> Result<(), AllocError>
+        ensures ok { OnOk result (failures_of self.new ≡ failures_of self.old ++ call ∷ []) }
+        ensures bound { OnOk result (most_faults self.new ≡ option_map (λ most. most + 1) (most_faults self.old)) }
+        ensures err { OnErr result (KeepsPlans self.old self.new) }
+        ensures history { history_of self.new ≡ history_of self.old }
+        ensures faults { faults_of self.new ≡ faults_of self.old }
+        ensures fuse { fuse_of self.new ≡ fuse_of self.old }
+    {
+        self.plans.fail(call)
+    }
+
+    /// Drops the failures that weren't reached, and the fuse where it wasn't. One that was reached stays.
+    pub fn clear_plans(&mut self)
+        ensures bound { most_faults self.new ≡ (if is_reached (fuse_of self.old) then None else Some (faults_of self.old)) }
+        ensures limit { most_done self.new ≡ (if is_reached (fuse_of self.old) then most_done self.old else None) }
+        ensures failures { failures_of self.new ≡ [] }
+        ensures fuse { fuse_of self.new ≡ (if is_reached (fuse_of self.old) then fuse_of self.old else None) }
+        ensures history { history_of self.new ≡ history_of self.old }
+        ensures faults { faults_of self.new ≡ faults_of self.old }
+    {
+        self.plans.clear();
+    }
+
+    /// The disk after a crash, with no faults and nothing planned. Nothing is left to sync.
+    ///
+    /// `outcome` modulo 5 picks what is left of each write and cut that no sync followed. With v for `outcome / 5`:
+    ///
+    /// - 0: nothing.
+    /// - 1: all.
+    /// - 2: the front of each write: its first half, or its first v bytes where v isn't 0. No cut.
+    /// - 3: garbage in the range of each write, which begins with a5, or with 5a where the write has a5 there. Each cut.
+    /// - 4, where v is 0: of each write so many fifths as the file's place among the four, and garbage behind them. No
+    ///   cut.
+    /// - 4, where v isn't 0: two bits of v - 1 pick 0, 1, 2 or 3 for each file, the lowest two for the settings.
+    ///
+    /// Any other byte of garbage is the write's, grown by 1 and v modulo 254, and by one more where that gives the byte
+    /// with which garbage would begin. A call that failed and counts as begun is left in the same ways. A write that
+    /// begins behind what is left of its file is lost.
+    pub fn crash(self, alloc: Global, outcome: u32) -> Result<MemDisk, AllocError>
+        ensures image { IfOk result (λ disk. MayLeave self (seen_of disk)) }
+        ensures durable { IfOk result (λ disk. (file : DiskFile) → IsDurable MayLeave seen_of file disk) }
+        ensures fresh { IfOk result IsFresh }
+        ensures nothing { outcome ≡ 0 → IfOk result (λ disk. (file : DiskFile) → seen_of disk file ≡ without_unsynced (calls_of file (history_of self))) }
+        ensures all { outcome ≡ 1 → IfOk result (λ disk. (file : DiskFile) → seen_of disk file ≡ with_unsynced (calls_of file (history_of self))) }
+    {
+        let settings = self.left(alloc, DiskFile::Settings, outcome)?;
+        let output = self.left(alloc, DiskFile::Output, outcome)?;
+        let slot_a = self.left(alloc, DiskFile::SlotA, outcome)?;
+        let slot_b = self.left(alloc, DiskFile::SlotB, outcome)?;
+        let mut disk = MemDisk::new(alloc)?;
+        disk.put(alloc, DiskFile::Settings, &settings)?;
+        disk.put(alloc, DiskFile::Output, &output)?;
+        disk.put(alloc, DiskFile::SlotA, &slot_a)?;
+        disk.put(alloc, DiskFile::SlotB, &slot_b)?;
+        Ok(disk)
+    }
+
+    // What the outcome leaves of a file.
+    fn left(&self, alloc: Global, file: DiskFile, outcome: u32) -> Result<Vec<u8>, AllocError>
+        ensures left { IfOk result (λ left. Leaves (calls_of file (history_of self.now)) left.items) }
+        ensures nothing { outcome ≡ 0 → IfOk result (λ left. left.items ≡ without_unsynced (calls_of file (history_of self.now))) }
+        ensures all { outcome ≡ 1 → IfOk result (λ left. left.items ≡ with_unsynced (calls_of file (history_of self.now))) }
+    {
+        self.store.left(alloc, file, Tear::of(outcome, file))
+    }
+
+    // A write, a cut or a sync. Where memory runs out nothing is done, and the call isn't counted.
+    fn call(&mut self, alloc: Global, file: DiskFile, change: Change) -> Result<(), CallFault>
+        ensures { Calls file change result self.old self.new }
+    {
+        let fate = self.plans.fate();
+        self.store.record_by(alloc, fate, file, change)?;
+        self.plans.count();
+        if fate.fails() {
+            return Err(CallFault::Failed);
+        }
+        Ok(())
+    }
+
+    // A call that changes nothing.
+    fn look(&mut self) -> Result<(), Failed>
+        ensures ok { OnOk result (failed (next_fate self.old) ≡ false) }
+        ensures err { OnErr result ((failed (next_fate self.old) ≡ true) × Rose (faults_of self.old) (faults_of self.new)) }
+        ensures counts { Counts self.old self.new }
+        ensures history { history_of self.new ≡ history_of self.old }
+    {
+        let fate = self.plans.fate();
+        self.plans.count();
+        if fate.fails() {
+            return Err(Failed);
+        }
+        Ok(())
+    }
+}

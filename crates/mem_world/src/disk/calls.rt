@@ -1,0 +1,151 @@
+// The calls of a disk in memory.
+ghost use Rattle.std.specs.Prelude.{◌≡◌, ◌≤◌, ◌+◌, ◌↔◌, length, true, refl, Some, IsErr, IfOk, OnOk};
+ghost use Rattle.outside.specs.Count.{HasCause, HasOneCause};
+ghost use Rattle.outside.specs.Content.{Gives};
+ghost use Rattle.outside.specs.Image.{AtFile, Torn, Holds, MayCut, IsCut, IsWithin, Same};
+ghost use Rattle.outside.specs.Crash.{Passes, IsDurable};
+ghost use Rattle.outside.specs.DiskCalls.{last_end, done_after};
+
+use super::MemDisk;
+use super::log::Change;
+use outside::{CallFault, Disk, DiskFile, Failed};
+use std::alloc::Global;
+
+impl Disk for MemDisk {
+    ghost use Rattle.mem_world.specs.MemDisk.{history_of, fuse_of, failures_of, faults_of, seen_of, MayLeave, moment_of, MayHaveLeft, most_faults, done_of, most_done, next_fate, Counts, Calls, Writes};
+    ghost use Rattle.mem_world.specs.DiskLaws.{leaves_shown, left_now, left_only_now, within_part};
+    ghost use Rattle.mem_world.specs.DiskPlans.{failed, pending, left_of};
+    ghost use Rattle.mem_world.specs.DiskCount.{done_count};
+    ghost use Rattle.mem_world.specs.declared.disk.log.Change.TheVariants.{Cut, Sync};
+
+    ghost tells = { λ _. true };
+
+    ghost seen = { seen_of };
+
+    ghost may_leave = { MayLeave };
+
+    ghost moment = { moment_of };
+
+    ghost left_since = { MayHaveLeft };
+
+    ghost faults = { faults_of };
+
+    ghost bound = { most_faults };
+
+    ghost done = { done_of };
+
+    ghost limit = { most_done };
+
+    ghost told = { λ _ _ _. refl };
+
+    ghost shown = { λ disk _. leaves_shown (history_of disk) };
+
+    ghost counts_now = { λ disk from image early left. left_now (history_of disk) from image early left };
+
+    ghost only_now = { λ disk image left. left_only_now (history_of disk) image left };
+
+    ghost within_bound = { λ disk. within_part (most_faults disk) (faults_of disk) (pending (failures_of disk)) disk.plans.within };
+
+    ghost within_limit = { λ disk. within_part (most_done disk) (done_count (history_of disk)) (left_of (fuse_of disk)) disk.limited };
+
+    fn length(&mut self, file: DiskFile) -> Result<u64, Failed>
+        ensures length { IfOk result (λ size. size ≡ length (seen_of self.old file)) }
+        ensures seen { seen_of self.new ≡ seen_of self.old }
+        ensures crash { Passes MayLeave moment_of MayHaveLeft Same self.old self.new }
+        ensures cause { HasOneCause result (faults_of self.old) (faults_of self.new) }
+        ensures bound { most_faults self.new ≡ most_faults self.old }
+        ensures done { done_of self.new ≡ done_of self.old }
+        ensures limit { most_done self.new ≡ most_done self.old }
+
+        // It fails where its fate wants.
+        ensures fails { IsErr result ↔ (failed (next_fate self.old) ≡ true) }
+        ensures counts { Counts self.old self.new }
+        ensures history { history_of self.new ≡ history_of self.old }
+    {
+        self.look()?;
+        Ok(self.bytes(file).len() as u64)
+    }
+
+    fn read(&mut self, file: DiskFile, offset: u64, buf: &mut [u8]) -> Result<usize, Failed>
+        ensures within { IfOk result (λ count. count ≤ length buf.new) }
+        ensures bytes { IfOk result (λ count. Gives (seen_of self.old file) offset buf.new count) }
+        ensures seen { seen_of self.new ≡ seen_of self.old }
+        ensures crash { Passes MayLeave moment_of MayHaveLeft Same self.old self.new }
+        ensures cause { HasOneCause result (faults_of self.old) (faults_of self.new) }
+        ensures bound { most_faults self.new ≡ most_faults self.old }
+        ensures done { done_of self.new ≡ done_of self.old }
+        ensures limit { most_done self.new ≡ most_done self.old }
+
+        // It fails where its fate wants.
+        ensures fails { IsErr result ↔ (failed (next_fate self.old) ≡ true) }
+        ensures counts { Counts self.old self.new }
+        ensures history { history_of self.new ≡ history_of self.old }
+    {
+        self.look()?;
+        let bytes = self.bytes(file);
+        if offset >= bytes.len() as u64 {
+            return Ok(0);
+        }
+        let rest = &bytes[offset as usize..];
+        let count = rest.len().min(buf.len());
+        buf[..count].copy_from_slice(&rest[..count]);
+        Ok(count)
+    }
+
+    fn write_at(
+        &mut self,
+        alloc: Global,
+        file: DiskFile,
+        offset: u64,
+        bytes: &[u8],
+    ) -> Result<(), CallFault>
+        requires begins { offset ≤ length (seen_of self.old file) }
+        requires ends { offset + length bytes.now ≤ last_end file }
+        ensures written { OnOk result (AtFile file (Holds offset bytes.now) (seen_of self.old) (seen_of self.new)) }
+        ensures begun { AtFile file (Torn offset (length bytes.now)) (seen_of self.old) (seen_of self.new) }
+        ensures crash { Passes MayLeave moment_of MayHaveLeft (AtFile file (Torn offset (length bytes.now))) self.old self.new }
+        ensures cause { HasCause result (faults_of self.old) (faults_of self.new) }
+        ensures bound { most_faults self.new ≡ most_faults self.old }
+        ensures done { done_of self.new ≡ done_after result (done_of self.old) }
+        ensures limit { most_done self.new ≡ most_done self.old }
+
+        // It does what its fate wants, or nothing where memory runs out.
+        ensures calls { Writes file offset bytes.now result self.old self.new }
+    {
+        let bytes = bytes.to_vec(alloc)?;
+        let offset = offset as usize;
+        self.call(alloc, file, Change::Write { offset, bytes })
+    }
+
+    fn cut(&mut self, alloc: Global, file: DiskFile, length: u64) -> Result<(), CallFault>
+        requires { IsWithin length (seen_of self.old file) }
+        ensures cut { OnOk result (AtFile file (IsCut length) (seen_of self.old) (seen_of self.new)) }
+        ensures begun { AtFile file (MayCut length) (seen_of self.old) (seen_of self.new) }
+        ensures crash { Passes MayLeave moment_of MayHaveLeft (AtFile file (MayCut length)) self.old self.new }
+        ensures cause { HasCause result (faults_of self.old) (faults_of self.new) }
+        ensures bound { most_faults self.new ≡ most_faults self.old }
+        ensures done { done_of self.new ≡ done_after result (done_of self.old) }
+        ensures limit { most_done self.new ≡ most_done self.old }
+
+        // It does what its fate wants, or nothing where memory runs out.
+        ensures calls { Calls file (Cut length) result self.old self.new }
+    {
+        let length = length as usize;
+        self.call(alloc, file, Change::Cut { length })
+    }
+
+    fn sync(&mut self, alloc: Global, file: DiskFile) -> Result<(), CallFault>
+        ensures durable { OnOk result (IsDurable MayLeave seen_of file self.new) }
+        ensures seen { seen_of self.new ≡ seen_of self.old }
+        ensures crash { Passes MayLeave moment_of MayHaveLeft Same self.old self.new }
+        ensures cause { HasCause result (faults_of self.old) (faults_of self.new) }
+        ensures bound { most_faults self.new ≡ most_faults self.old }
+        ensures done { done_of self.new ≡ done_after result (done_of self.old) }
+        ensures limit { most_done self.new ≡ most_done self.old }
+
+        // It does what its fate wants, or nothing where memory runs out.
+        ensures calls { Calls file Sync result self.old self.new }
+    {
+        self.call(alloc, file, Change::Sync)
+    }
+}

@@ -1,0 +1,6 @@
+pub mod Copies
+pub mod Depths
+pub mod Drafts
+pub mod Lists
+pub mod Numbers
+pub mod Texts

@@ -1,0 +1,10 @@
+pub mod DraftView
+pub mod FlagsView
+pub mod Grammar
+pub mod Ids
+pub mod Kinds
+pub mod Operators
+pub mod Outcome
+pub mod Place
+pub mod SettingsData
+pub mod ValueData

@@ -1,0 +1,273 @@
+// The kinds of a key. `at` and `key` name the place: what stands before the key, and the key.
+ghost use Rattle.std.specs.Prelude.{◌≡◌, ◌++◌, [], map, None, Ok};
+ghost use Rattle.std.specs.Str.{bytes_eq};
+ghost use Rattle.std.specs.List.{list_any};
+ghost use Rattle.entry_model.specs.Datum.{no_members, datum};
+ghost use Rattle.serde_json.specs.Find.{get};
+ghost use Rattle.serde_json.specs.View.{view, items_view, members_view};
+ghost use Rattle.settings_text.specs.Kinds as kinds;
+ghost use Rattle.settings_text.specs.Outcome.{Gives};
+ghost use Rattle.settings_text.specs.Place.{item_place, member_place};
+ghost use Rattle.settings_text.specs.SettingsData.{fields_data};
+
+use crate::fault::SettingsFault;
+use crate::place::{item_place, member_place, place};
+use crate::values::{fields_of, has_fraction, nests_past, value_of};
+use entry_model::{Fields, Text};
+use serde_json::{Map, Value};
+use std::alloc::Global;
+
+/// How deep lists and objects may nest in a value.
+const MOST_NESTED: usize = 64;
+
+fn is_among(name: &str, keys: &[&str]) -> bool
+    ensures { result ≡ list_any (λ key. bytes_eq name.now key.now) keys.now }
+{
+    keys.iter().any(|key| name == *key)
+}
+
+/// Refuses the least key of the members that is not one of these.
+#[tactic(auto, using(crate::proofs::Lists::among), unfolding(crate::specs::Kinds::known))]
+pub fn check_known(
+    alloc: Global,
+    members: &Map<String, Value>,
+    at: &str,
+    keys: &[&str],
+) -> Result<(), SettingsFault>
+    ensures { Gives (λ done. done) result
+        (kinds.known (map (λ key. key.now) keys.now) at.now (members_view members.now.entries)) }
+{
+    for (name, _value) in members.iter() {
+        if !is_among(name.as_str(), keys) {
+            return Err(SettingsFault::Unknown {
+                key: place(alloc, at, name.as_str())?,
+            });
+        }
+    }
+    Ok(())
+}
+
+/// The name that stands at the place.
+pub fn name<'v>(
+    alloc: Global,
+    value: &'v Value,
+    at: &str,
+    key: &str,
+) -> Result<&'v str, SettingsFault>
+    ensures { Gives (λ name. name.now) result (kinds.text (at.now ++ key.now) (view value.now)) }
+{
+    match value.as_str() {
+        Some(name) => Ok(name),
+        None => Err(SettingsFault::WrongKind {
+            key: place(alloc, at, key)?,
+        }),
+    }
+}
+
+/// A text that must be there.
+pub fn text(alloc: Global, object: &Value, at: &str, key: &str) -> Result<Text, SettingsFault>
+    ensures { Gives (λ text. text) result (kinds.must at.now key.now kinds.text (view object.now)) }
+{
+    let Some(value) = object.get(key) else {
+        return Err(SettingsFault::Missing {
+            key: place(alloc, at, key)?,
+        });
+    };
+    match value.as_str() {
+        Some(content) => Ok(Text::from_str(alloc, content)?),
+        None => Err(SettingsFault::WrongKind {
+            key: place(alloc, at, key)?,
+        }),
+    }
+}
+
+pub fn flag(
+    alloc: Global,
+    object: &Value,
+    at: &str,
+    key: &str,
+    default: bool,
+) -> Result<bool, SettingsFault>
+    ensures { Gives (λ flag. flag) result (kinds.may at.now key.now kinds.flag default (view object.now)) }
+{
+    let Some(value) = object.get(key) else {
+        return Ok(default);
+    };
+    match value.as_bool() {
+        Some(flag) => Ok(flag),
+        None => Err(SettingsFault::WrongKind {
+            key: place(alloc, at, key)?,
+        }),
+    }
+}
+
+/// A whole number from `low` to `high`.
+pub fn whole(
+    alloc: Global,
+    object: &Value,
+    at: &str,
+    key: &str,
+    low: u32,
+    high: u32,
+    default: u32,
+) -> Result<u32, SettingsFault>
+    ensures { Gives (λ number. number) result
+        (kinds.may at.now key.now (kinds.whole low high) default (view object.now)) }
+{
+    let Some(value) = object.get(key) else {
+        return Ok(default);
+    };
+    let Some(number) = value.as_number() else {
+        return Err(SettingsFault::WrongKind {
+            key: place(alloc, at, key)?,
+        });
+    };
+    if number.is_f64() {
+        return Err(SettingsFault::Fraction {
+            key: place(alloc, at, key)?,
+        });
+    }
+    match number.as_u64() {
+        Some(number) if u64::from(low) <= number && number <= u64::from(high) => Ok(number as u32),
+        _ => Err(SettingsFault::OutOfRange {
+            key: place(alloc, at, key)?,
+        }),
+    }
+}
+
+fn item_text(
+    alloc: Global,
+    value: &Value,
+    at: &str,
+    key: &str,
+    index: usize,
+) -> Result<Text, SettingsFault>
+    ensures { Gives (λ text. text) result (kinds.text (item_place (at.now ++ key.now) index) (view value.now)) }
+{
+    match value.as_str() {
+        Some(content) => Ok(Text::from_str(alloc, content)?),
+        None => Err(SettingsFault::WrongKind {
+            key: item_place(alloc, at, key, index)?,
+        }),
+    }
+}
+
+fn item_texts(
+    alloc: Global,
+    values: &Vec<Value>,
+    at: &str,
+    key: &str,
+) -> Result<Vec<Text>, SettingsFault>
+    ensures { Gives (λ texts. texts.items) result
+        (kinds.item_texts (at.now ++ key.now) (items_view values.now.items)) }
+{
+    let mut texts = Vec::new(alloc);
+    for (index, value) in values.iter().enumerate() {
+        let text = item_text(alloc, value, at, key, index)?;
+        texts.push(text)?;
+    }
+    Ok(texts)
+}
+
+/// A list of texts, none where the key is missing.
+pub fn texts(alloc: Global, object: &Value, at: &str, key: &str) -> Result<Vec<Text>, SettingsFault>
+    ensures { Gives (λ texts. texts.items) result (kinds.may at.now key.now kinds.texts [] (view object.now)) }
+{
+    let Some(value) = object.get(key) else {
+        return Ok(Vec::new(alloc));
+    };
+    match value.as_array() {
+        Some(values) => item_texts(alloc, values, at, key),
+        None => Err(SettingsFault::WrongKind {
+            key: place(alloc, at, key)?,
+        }),
+    }
+}
+
+/// A list of at least one text, which must be there.
+pub fn some_texts(
+    alloc: Global,
+    object: &Value,
+    at: &str,
+    key: &str,
+) -> Result<Vec<Text>, SettingsFault>
+    ensures { Gives (λ texts. texts.items) result (kinds.must at.now key.now kinds.some_texts (view object.now)) }
+{
+    let Some(value) = object.get(key) else {
+        return Err(SettingsFault::Missing {
+            key: place(alloc, at, key)?,
+        });
+    };
+    match value.as_array() {
+        Some(values) if values.as_slice().is_empty() => Err(SettingsFault::OutOfRange {
+            key: place(alloc, at, key)?,
+        }),
+        Some(values) => item_texts(alloc, values, at, key),
+        None => Err(SettingsFault::WrongKind {
+            key: place(alloc, at, key)?,
+        }),
+    }
+}
+
+#[tactic(auto, unfolding(crate::specs::Kinds::are_texts))]
+fn check_texts(
+    alloc: Global,
+    members: &Map<String, Value>,
+    at: &str,
+    key: &str,
+) -> Result<(), SettingsFault>
+    ensures { Gives (λ done. done) result
+        (kinds.are_texts (at.now ++ key.now) (members_view members.now.entries)) }
+{
+    for (name, value) in members.iter() {
+        if !value.is_string() {
+            return Err(SettingsFault::WrongKind {
+                key: member_place(alloc, at, key, name.as_str())?,
+            });
+        }
+    }
+    Ok(())
+}
+
+/// An object of texts, without members where the key is missing.
+pub fn fields(alloc: Global, object: &Value, at: &str, key: &str) -> Result<Fields, SettingsFault>
+    ensures { Gives fields_data result (kinds.may at.now key.now kinds.fields no_members (view object.now)) }
+{
+    let Some(value) = object.get(key) else {
+        return Ok(Fields::new(alloc));
+    };
+    let Some(members) = value.as_object() else {
+        return Err(SettingsFault::WrongKind {
+            key: place(alloc, at, key)?,
+        });
+    };
+    check_texts(alloc, members, at, key)?;
+    Ok(fields_of(alloc, members)?)
+}
+
+/// Any value, which must be there.
+pub fn value(
+    alloc: Global,
+    object: &Value,
+    at: &str,
+    key: &str,
+) -> Result<entry_model::Value, SettingsFault>
+    ensures { Gives datum result (kinds.must at.now key.now kinds.value (view object.now)) }
+{
+    let Some(value) = object.get(key) else {
+        return Err(SettingsFault::Missing {
+            key: place(alloc, at, key)?,
+        });
+    };
+    if has_fraction(value) {
+        return Err(SettingsFault::Fraction {
+            key: place(alloc, at, key)?,
+        });
+    }
+    if nests_past(value, MOST_NESTED) {
+        return Err(SettingsFault::OutOfRange {
+            key: place(alloc, at, key)?,
+        });
+    }
+    Ok(value_of(alloc, value)?)
+}

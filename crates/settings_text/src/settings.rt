@@ -1,0 +1,63 @@
+// What settings say.
+use entry_model::{Fields, Text, Value};
+
+/// Where reading of a file begins that is found by the first poll.
+#[derive(Clone, Copy, Debug, PartialEq, Eq)]
+pub enum StartAt {
+    Beginning,
+    End,
+}
+
+/// What becomes of an entry that an operator cannot work on.
+#[derive(Clone, Copy, Debug, PartialEq, Eq)]
+pub enum OnError {
+    Send,
+    Drop,
+    SendQuiet,
+    DropQuiet,
+}
+
+/// The settings of an agent. A key that is not written has its default here.
+#[derive(Drop)]
+pub struct Settings {
+    /// At least one.
+    pub include: Vec<Text>,
+    pub exclude: Vec<Text>,
+    pub start_at: StartAt,
+    /// In bytes, 16 to 4,096.
+    pub fingerprint_size: u32,
+    /// In bytes, 64 to 4,194,304.
+    pub max_log_size: u32,
+    pub preserve_leading_whitespaces: bool,
+    pub preserve_trailing_whitespaces: bool,
+    pub include_file_name: bool,
+    pub include_file_path: bool,
+    pub include_file_record_number: bool,
+    /// Texts.
+    pub attributes: Fields,
+    /// Texts.
+    pub resource: Fields,
+    /// At most 64.
+    pub operators: Vec<OpSpec>,
+}
+
+/// An operator. Field paths in it are as they were written.
+#[derive(Drop)]
+pub struct OpSpec {
+    pub id: Text,
+    pub on_error: OnError,
+    pub kind: OpKind,
+}
+
+/// What an operator does.
+#[derive(Drop)]
+pub enum OpKind {
+    Noop,
+    Move { from: Text, to: Text },
+    Copy { from: Text, to: Text },
+    Add { field: Text, value: Value },
+    Remove { field: Text },
+    Flatten { field: Text },
+    /// At least one.
+    Retain { fields: Vec<Text> },
+}
