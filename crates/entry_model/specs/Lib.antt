@@ -1,2 +1,4 @@
 pub mod Datum
 pub mod LogRecord
+pub mod Seen
+pub mod Code

@@ -6,10 +6,14 @@
 //! those three views alone.
 #![tactic(auto)]
 
+mod copy;
 mod entry;
+#[cfg(test)]
+mod tests;
 mod text;
 mod value;
 
+pub use copy::copy_fields;
 pub use entry::{Entry, Severity};
 pub use text::Text;
 pub use value::{Fields, Value, Values};

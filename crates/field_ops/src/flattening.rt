@@ -1,0 +1,91 @@
+// Flattening a map into the one that holds it.
+ghost use Rattle.std.specs.Prelude.{◌≡◌, ◌≢◌, [], OnOk, OnErr, IfOk, IfErr, Ok, Err, Some, IfSome, IfNone};
+ghost use Rattle.std.specs.BTreeMap.{insert_entry};
+ghost use Rattle.std.specs.Cmp.Lexicographic.{slice_cmp};
+ghost use Rattle.std.specs.Ordering.{nat_cmp};
+ghost use Rattle.entry_model.specs.Datum.{datum, fields, Members};
+ghost use Rattle.entry_model.specs.LogRecord.{log_record, members_in};
+ghost use Rattle.field_paths.specs.MapOf.{members_seen};
+ghost use Rattle.field_paths.specs.Members.{member_at};
+ghost use Rattle.field_ops.specs.Outcome.{Outcome, where_found};
+ghost use Rattle.field_ops.specs.Rows.{flattened, member_of, with_members, raised_in, where_a_map};
+ghost use Rattle.field_ops.specs.declared.fault.FieldFault.TheVariants.{Memory};
+
+use crate::FieldFault;
+use entry_model::{Entry, Fields, Text, Value};
+use field_paths::FieldPath;
+use std::alloc::{AllocError, Global};
+
+/// Puts the members of a map into the map that holds it, in its place.
+#[derive(Drop)]
+pub struct Flatten {
+    parent: FieldPath,
+    name: Text,
+}
+
+impl Flatten {
+    /// The path has at least one member.
+    pub fn new(field: FieldPath) -> Flatten
+        requires { field.names ≢ [] }
+        ensures { field ≡ member_of result.parent result.name }
+    {
+        let (parent, name) = field.split_last();
+        Flatten { parent, name }
+    }
+
+    /// `Missing` exactly where there is no value, and `NotAMap` exactly where the value is no map. Where a member of
+    /// the map has the name of one beside the map, the raised one stands.
+    pub fn apply(&self, alloc: Global, entry: &mut Entry) -> Result<(), FieldFault>
+        ensures ok { OnOk result (flattened self.now.parent self.now.name (log_record entry.old)
+            ≡ Ok (log_record entry.new)) }
+        ensures fault { IfErr result (λ fault. fault ≢ Memory
+            → flattened self.now.parent self.now.name (log_record entry.old) ≡ Err fault) }
+        ensures err { OnErr result (log_record entry.new ≡ log_record entry.old) }
+    {
+        let Some(holder) = self.parent.get(entry) else {
+            return Err(FieldFault::Missing);
+        };
+        let changed = flatten_member(alloc, holder, &self.name)?;
+        self.parent.set(alloc, entry, changed)?;
+        Ok(())
+    }
+}
+
+/// The map that holds a member, with the members of that member in its place.
+fn flatten_member(alloc: Global, holder: &Value, name: &Text) -> Result<Value, FieldFault>
+    ensures ok { IfOk result (λ changed. (raised : Members)
+        × (member_at name.now (members_in (datum holder.now)) ≡ Some (fields raised))
+        × (datum changed ≡ raised_in name.now (datum holder.now) raised)) }
+    ensures fault { IfErr result (λ fault. fault ≢ Memory → (then_so : Members → Outcome)
+        → where_found (member_at name.now (members_in (datum holder.now))) (λ value. where_a_map value then_so)
+        ≡ Err fault) }
+{
+    let Value::Map(mut members) = holder.copy(alloc)? else {
+        return Err(FieldFault::Missing);
+    };
+    let Some(member) = members.remove(name) else {
+        return Err(FieldFault::Missing);
+    };
+    let Value::Map(raised) = member else {
+        return Err(FieldFault::NotAMap);
+    };
+    raise(raised, &mut members)?;
+    Ok(Value::Map(members))
+}
+
+fn raise(raised: Fields, members: &mut Fields) -> Result<(), AllocError>
+    ensures { OnOk result (members_seen members.new.entries
+        ≡ with_members (members_seen raised.entries) (members_seen members.old.entries)) }
+{
+    for (name, value) in raised {
+        insert(members, name, value)?;
+    }
+    Ok(())
+}
+
+fn insert(members: &mut Fields, name: Text, value: Value) -> Result<(), AllocError>
+    ensures { OnOk result (members.new.entries ≡ insert_entry (slice_cmp nat_cmp) members.old.entries name value) }
+{
+    members.insert(name, value)?;
+    Ok(())
+}

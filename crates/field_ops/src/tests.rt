@@ -1,0 +1,261 @@
+// Entries written by hand.
+use crate::{Add, Copy, FieldFault, Flatten, Move, Remove, Retain};
+use entry_model::{Entry, Fields, Text, Value};
+use field_paths::FieldPath;
+use std::alloc::{AllocError, Global};
+use std::test::Fail;
+
+fn map(alloc: Global) -> Fields {
+    Fields::new(alloc)
+}
+
+fn put(alloc: Global, fields: &mut Fields, name: &str, value: Value) -> Result<(), AllocError> {
+    fields.insert(Text::from_str(alloc, name)?, value)?;
+    Ok(())
+}
+
+fn text(alloc: Global, content: &str) -> Result<Value, AllocError> {
+    Ok(Value::Text(Text::from_str(alloc, content)?))
+}
+
+// {a: 1, b: 2}
+fn pair(alloc: Global) -> Result<Fields, AllocError> {
+    let mut fields = map(alloc);
+    put(alloc, &mut fields, "a", Value::Int(1))?;
+    put(alloc, &mut fields, "b", Value::Int(2))?;
+    Ok(fields)
+}
+
+// body {a: {a: 1, b: 2}, c: "s", n: null}, attributes {x: 1, y: 2} and no resource.
+fn sample(alloc: Global) -> Result<Entry, Fail> {
+    let mut entry = Entry::new(alloc, Text::from_str(alloc, "")?)?;
+    let mut body = map(alloc);
+    put(alloc, &mut body, "a", Value::Map(pair(alloc)?))?;
+    put(alloc, &mut body, "c", text(alloc, "s")?)?;
+    put(alloc, &mut body, "n", Value::Null)?;
+    entry.body = Value::Map(body);
+    let mut attributes = map(alloc);
+    put(alloc, &mut attributes, "x", Value::Int(1))?;
+    put(alloc, &mut attributes, "y", Value::Int(2))?;
+    entry.attributes = Value::Map(attributes);
+    Ok(entry)
+}
+
+fn path(alloc: Global, text: &str) -> Result<FieldPath, Fail> {
+    Ok(FieldPath::read(alloc, text)?)
+}
+
+const MISSING: Result<(), FieldFault> = Err(FieldFault::Missing);
+
+const NO_MAP: Result<(), FieldFault> = Err(FieldFault::NotAMap);
+
+// Whether the value arrived as it was, or the entry is unchanged on a fault.
+fn arrived(
+    alloc: Global,
+    (from, to): (&str, &str),
+    entry: &Entry,
+    answer: Result<(), FieldFault>,
+) -> Result<bool, Fail> {
+    let before = sample(alloc)?;
+    if answer.is_err() {
+        return Ok(*entry == before);
+    }
+    Ok(path(alloc, to)?.get(entry) == path(alloc, from)?.get(&before))
+}
+
+fn moves(
+    alloc: Global,
+    from: &str,
+    to: &str,
+    expected: Result<(), FieldFault>,
+) -> Result<bool, Fail> {
+    let mut entry = sample(alloc)?;
+    let answer = Move::new(path(alloc, from)?, path(alloc, to)?).apply(alloc, &mut entry);
+    Ok(answer == expected && arrived(alloc, (from, to), &entry, answer)?)
+}
+
+fn copies(
+    alloc: Global,
+    from: &str,
+    to: &str,
+    expected: Result<(), FieldFault>,
+) -> Result<bool, Fail> {
+    let mut entry = sample(alloc)?;
+    let answer = Copy::new(path(alloc, from)?, path(alloc, to)?).apply(alloc, &mut entry);
+    Ok(answer == expected && arrived(alloc, (from, to), &entry, answer)?)
+}
+
+#[test]
+fn moves_and_copies(rt: HostRuntime) -> Result<(), Fail> {
+    let alloc = rt.alloc();
+    let table = [
+        ("attributes.zz", "body.q", MISSING, MISSING),
+        ("attributes.x", "body.q", Ok(()), Ok(())),
+        ("attributes.x", "body", Ok(()), Ok(())),
+        ("attributes.x", "body.c.d", NO_MAP, NO_MAP),
+        ("body.a", "body.a.b", Ok(()), Ok(())),
+        ("body.c", "body.c.d", Ok(()), NO_MAP),
+        ("body.a.a", "body", Ok(()), Ok(())),
+        ("body", "attributes", Ok(()), Ok(())),
+        ("attributes.x", "attributes", NO_MAP, NO_MAP),
+        ("body.c", "resource", NO_MAP, NO_MAP),
+        ("attributes", "resource", Ok(()), Ok(())),
+        ("body.n", "body.n.m", Ok(()), Ok(())),
+        ("body.c.d", "body.q", MISSING, MISSING),
+        ("resource", "body.r", Ok(()), Ok(())),
+    ];
+    for (from, to, moved, copied) in table {
+        assert!(rt; moves(alloc, from, to, moved)?, "{from} to {to}");
+        assert!(rt; copies(alloc, from, to, copied)?, "{from} to {to}");
+    }
+    Ok(())
+}
+
+fn adds(alloc: Global, field: &str, expected: Result<(), FieldFault>) -> Result<bool, Fail> {
+    let mut entry = sample(alloc)?;
+    let answer = Add::new(path(alloc, field)?, text(alloc, "v")?).apply(alloc, &mut entry);
+    if answer.is_err() {
+        return Ok(answer == expected && entry == sample(alloc)?);
+    }
+    let value = text(alloc, "v")?;
+    Ok(answer == expected && path(alloc, field)?.get(&entry) == Some(&value))
+}
+
+// Whether the entry is another afterwards is told too.
+fn removes(
+    alloc: Global,
+    field: &str,
+    expected: Result<(), FieldFault>,
+    changes: bool,
+) -> Result<bool, Fail> {
+    let mut entry = sample(alloc)?;
+    let answer = Remove::new(path(alloc, field)?).apply(alloc, &mut entry);
+    let changed = entry != sample(alloc)?;
+    Ok(answer == expected && changed == changes)
+}
+
+#[test]
+fn adds_and_removes(rt: HostRuntime) -> Result<(), Fail> {
+    let alloc = rt.alloc();
+    let table = [
+        ("body", Ok(()), Ok(()), true),
+        ("body.a", Ok(()), Ok(()), true),
+        ("body.a.a", Ok(()), Ok(()), true),
+        ("body.q", Ok(()), MISSING, false),
+        ("body.c.d", NO_MAP, MISSING, false),
+        ("body.n", Ok(()), Ok(()), true),
+        ("body.n.m", Ok(()), MISSING, false),
+        ("attributes", NO_MAP, Ok(()), true),
+        ("attributes.y", Ok(()), Ok(()), true),
+        ("attributes.y.z", NO_MAP, MISSING, false),
+        ("resource", NO_MAP, Ok(()), false),
+        ("resource.a.b", Ok(()), MISSING, false),
+    ];
+    for (field, added, removed, changes) in table {
+        assert!(rt; adds(alloc, field, added)?, "{field}");
+        assert!(rt; removes(alloc, field, removed, changes)?, "{field}");
+    }
+    Ok(())
+}
+
+fn flatten(alloc: Global, entry: &mut Entry, text: &str) -> Result<Result<(), FieldFault>, Fail> {
+    let field = path(alloc, text)?;
+    if field.is_root() {
+        return Ok(MISSING);
+    }
+    Ok(Flatten::new(field).apply(alloc, entry))
+}
+
+fn flattens_to(alloc: Global, text: &str, expected: Result<(), FieldFault>) -> Result<bool, Fail> {
+    let mut entry = sample(alloc)?;
+    let answer = flatten(alloc, &mut entry, text)?;
+    let changed = entry != sample(alloc)?;
+    Ok(answer == expected && changed == expected.is_ok())
+}
+
+#[test]
+fn flattens(rt: HostRuntime) -> Result<(), Fail> {
+    let alloc = rt.alloc();
+    let table = [
+        ("body.a", Ok(())),
+        ("body.zz", MISSING),
+        ("body.c", NO_MAP),
+        ("body.n", NO_MAP),
+        ("body.a.a", NO_MAP),
+        ("body.a.zz", MISSING),
+        ("body.c.d", MISSING),
+        ("attributes.x", NO_MAP),
+        ("attributes.x.y", MISSING),
+        ("attributes.zz", MISSING),
+        ("resource.a", MISSING),
+    ];
+    for (text, expected) in table {
+        assert!(rt; flattens_to(alloc, text, expected)?, "{text}");
+    }
+    Ok(())
+}
+
+// {a: {a: 1, b: 2}} becomes {a: 1, b: 2}.
+#[test]
+fn raised_members_win(rt: HostRuntime) -> Result<(), Fail> {
+    let alloc = rt.alloc();
+    let mut entry = sample(alloc)?;
+    let mut body = map(alloc);
+    put(alloc, &mut body, "a", Value::Map(pair(alloc)?))?;
+    entry.body = Value::Map(body);
+    assert!(rt; flatten(alloc, &mut entry, "body.a")?.is_ok());
+    assert!(rt; entry.body == Value::Map(pair(alloc)?));
+    Ok(())
+}
+
+// Which of these fields are there, as letters.
+fn fields_there(alloc: Global, entry: &Entry) -> Result<String, Fail> {
+    let mut letters = String::new(alloc);
+    for (letter, field) in [
+        ('a', "body.a"),
+        ('b', "body.a.b"),
+        ('c', "body.c"),
+        ('x', "attributes.x"),
+        ('y', "attributes.y"),
+    ] {
+        if path(alloc, field)?.get(entry).is_some() {
+            letters.push(letter)?;
+        }
+    }
+    Ok(letters)
+}
+
+fn kept(alloc: Global, first: &str, second: &str) -> Result<String, Fail> {
+    let mut fields = Vec::new(alloc);
+    fields.push(path(alloc, first)?)?;
+    fields.push(path(alloc, second)?)?;
+    let mut entry = sample(alloc)?;
+    Retain::new(fields).apply(alloc, &mut entry)?;
+    fields_there(alloc, &entry)
+}
+
+#[test]
+fn retains(rt: HostRuntime) -> Result<(), Fail> {
+    let alloc = rt.alloc();
+    let table = [
+        ("attributes.x", "attributes.x", "abcx"),
+        ("attributes.y", "attributes.zz", "abcy"),
+        ("attributes", "attributes.x", "abcxy"),
+        ("attributes.zz", "resource.a", "abc"),
+        ("body.a", "body.a.b", "abxy"),
+        ("body.a.b", "body.a", "abxy"),
+        ("body.a.a", "body.zz", "axy"),
+        ("body.c", "attributes.x", "cx"),
+        ("body", "body.c", "abcxy"),
+        ("resource.a", "resource", "abcxy"),
+        ("body.c.d", "attributes.y", "y"),
+    ];
+    for (first, second, expected) in table {
+        assert_eq!(rt;
+            kept(alloc, first, second)?.as_str(),
+            expected,
+            "{first} and {second}"
+        );
+    }
+    Ok(())
+}

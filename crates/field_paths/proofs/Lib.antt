@@ -1,0 +1,11 @@
+pub mod Cases
+pub mod Complete
+pub mod Entries
+pub mod Faults
+pub mod Layers
+pub mod Places
+pub mod Rows
+pub mod Seen
+pub mod Steps
+pub mod Texts
+pub mod Whole

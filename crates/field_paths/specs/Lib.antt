@@ -1,0 +1,10 @@
+pub mod AreApart
+pub mod Change
+pub mod MapOf
+pub mod Members
+pub mod NameIsText
+pub mod PathText
+pub mod Place
+pub mod ReadFault
+pub mod Reader
+pub mod ValueAt

@@ -1,0 +1,20 @@
+//! Field paths: the texts by which operators name a place of an entry, as `body.user.name` or
+//! `attributes["log.file.name"]`.
+//!
+//! The contract for the layer above: a [`FieldPath`] is seen as its `Place`, a root and the names of the members
+//! down to it. [`FieldPath::read`] answers the place that a text spells, or the first byte from which the text
+//! can't go on. [`FieldPath::get`], [`FieldPath::set`] and [`FieldPath::take`] read and change the one value at
+//! that place, in the entry seen as a tree of maps; all else stays. They follow the field syntax of the
+//! OpenTelemetry Collector's log operators.
+#![tactic(auto)]
+
+mod get;
+pub mod laws;
+mod path;
+mod read;
+mod set;
+mod take;
+#[cfg(test)]
+mod tests;
+
+pub use path::{FieldPath, PathFault, Root, SetFault, TakeFault};
