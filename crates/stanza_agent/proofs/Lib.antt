@@ -6,3 +6,6 @@ pub mod Progressing
 pub mod Polling
 pub mod Reporting
 pub mod Statuses
+pub mod Controlling
+pub mod Following
+pub mod OneLine

@@ -1,13 +1,12 @@
 -- The output from token to token.
-use Rattle.std.proofs.Common.{◌≡◌, ◌⊎◌, ℕ, ◌+◌, ◌<◌, ◌≤◌, false, inl, inr, List, [], ◌∷◌, ◌++◌, length, take, drop, Bool, IsTrue, refl, sym, ◌∙◌, ap, subst, arith, append_assoc, length-append}
+use Rattle.std.proofs.Common.{◌≡◌, ◌⊎◌, ℕ, ◌+◌, ◌<◌, ◌≤◌, false, inl, inr, List, [], ◌∷◌, ◌++◌, length, take, drop, Bool, IsTrue, refl, sym, ◌∙◌, ap, arith, append_assoc, length-append}
 use Rattle.std.proofs.lemmas.List.{append-nil, take_at}
 use Rattle.entry_model.specs.Datum.{text}
 use Rattle.entry_model.specs.LogRecord.{LogRecord}
 use Rattle.line_splitter.specs.Cuts.{Cut}
-use Rattle.line_splitter.specs.LineTokens.{tokens, HasNoToken, BeginsWith}
+use Rattle.line_splitter.specs.LineTokens.{HasNoToken, BeginsWith}
 use Rattle.line_splitter.specs.EntryText.{entry_text}
 use Rattle.otlp_json.specs.OutputLines.{output_lines}
-use Rattle.otlp_json.specs.OutputLine.{output_line}
 use Rattle.stanza_agent.specs.LogLines.{max_log_size, entry_with, entries_with, entries_of, entries, output_of}
 use Rattle.stanza_agent.specs.declared.output.Pending.{Pending}
 use Rattle.stanza_agent.specs.Progress.{max_output, Progress, Flushes, IsOutputOf, PassesLimit}

@@ -11,3 +11,6 @@ pub mod Appended
 pub mod Report
 pub mod Found
 pub mod Silent
+pub mod Control
+pub mod Once
+pub mod Follow

@@ -1,14 +1,17 @@
 -- The exit statuses, and the line that tells each fault.
 use Rattle.std.specs.Prelude.{◌≡◌, ◌⊎◌, ℕ, List, ◌++◌, codes, decimal}
 use Rattle.stanza_agent.specs.declared.fault.Fault.{Fault}
-use Rattle.stanza_agent.specs.declared.fault.Fault.TheVariants.{Usage, Disk, Memory, OutputFull, NotBuilt}
+use Rattle.stanza_agent.specs.declared.fault.Fault.TheVariants.{Usage, Disk, Control, Memory, OutputFull, ControlLine, NotBuilt, ControlLong}
 
 abbrev pub status_of : Fault → ℕ
 status_of Usage = 2
 status_of Disk = 7
+status_of Control = 8
 status_of Memory = 10
 status_of (OutputFull _) = 11
+status_of (ControlLine _) = 12
 status_of NotBuilt = 14
+status_of ControlLong = 15
 
 -- the line that reports a fault
 abbrev pub fault_line : Fault → List ℕ
@@ -16,9 +19,15 @@ fault_line Usage = codes "fault 2 usage\n"
 fault_line Disk = codes "fault 7 disk\n"
 fault_line Memory = codes "fault 10 memory\n"
 fault_line (OutputFull length) = codes "fault 11 full " ++ decimal length ++ codes "\n"
+fault_line Control = codes "fault 8 control\n"
+fault_line (ControlLine number) = codes "fault 12 control-line " ++ decimal number ++ codes "\n"
 fault_line NotBuilt = codes "fault 14 not-built\n"
+fault_line ControlLong = codes "fault 15 control-long\n"
+
+-- the statuses that `once` has
+abbrev pub IsOnceStatus : ℕ → Type 0
+IsOnceStatus status = (status ≡ 0) ⊎ (status ≡ 7) ⊎ (status ≡ 9) ⊎ (status ≡ 10) ⊎ (status ≡ 11) ⊎ (status ≡ 14)
 
 -- the statuses that there are
 abbrev pub IsStatus : ℕ → Type 0
-IsStatus status =
-    (status ≡ 0) ⊎ (status ≡ 2) ⊎ (status ≡ 7) ⊎ (status ≡ 9) ⊎ (status ≡ 10) ⊎ (status ≡ 11) ⊎ (status ≡ 14)
+IsStatus status = (status ≡ 2) ⊎ (status ≡ 8) ⊎ (status ≡ 12) ⊎ (status ≡ 15) ⊎ IsOnceStatus status

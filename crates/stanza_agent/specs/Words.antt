@@ -8,3 +8,9 @@ abbrev pub is_once : List (String Global) → Bool
 is_once [] = false
 is_once (word ∷ []) = bytes_eq (string_bytes word) (codes "once")
 is_once (word ∷ other ∷ rest) = false
+
+-- the one word `follow`
+abbrev pub is_follow : List (String Global) → Bool
+is_follow [] = false
+is_follow (word ∷ []) = bytes_eq (string_bytes word) (codes "follow")
+is_follow (word ∷ other ∷ rest) = false

@@ -1,27 +1,27 @@
 // The whole program, over any outside.
-ghost use Rattle.std.specs.Prelude.{◌≡◌, ◌≢◌, ◌⊎◌, ℕ, ◌↔◌, false, Err, IsTrue, IfOk, OnOk, string_bytes};
+ghost use Rattle.std.specs.Prelude.{◌≡◌, ◌≢◌, ◌⊎◌, ◌↔◌, false, IsTrue};
 ghost use Rattle.outside.specs.Count.{Rose};
 ghost use Rattle.outside.specs.Crash.{Passes};
 ghost use Rattle.outside.specs.Image.{Same};
 ghost use Rattle.outside.specs.World.{Told};
-ghost use Rattle.stanza_agent.specs.declared.summary.Summary.{Summary};
-ghost use Rattle.stanza_agent.specs.Cause.{HasDiskCause};
-ghost use Rattle.stanza_agent.specs.Look.{Stood};
-ghost use Rattle.stanza_agent.specs.Polled.{IsKnownFolder, IsOtherFolder, FindsOtherLog, Polled, OverFull, Begins, SeesLog};
-ghost use Rattle.stanza_agent.specs.Report.{Appends, GrowsByPart};
+ghost use Rattle.stanza_agent.specs.Control.{max_control, TakesAtMost, TakesExactly};
+ghost use Rattle.stanza_agent.specs.Follow.{FollowEnds};
+ghost use Rattle.stanza_agent.specs.Once.{OnceEnds};
+ghost use Rattle.stanza_agent.specs.Polled.{Begins};
+ghost use Rattle.stanza_agent.specs.Report.{GrowsByPart};
 ghost use Rattle.stanza_agent.specs.Status.{fault_line, IsStatus};
-ghost use Rattle.stanza_agent.specs.SummaryLine.{summary_line};
-ghost use Rattle.stanza_agent.specs.Words.{is_once};
+ghost use Rattle.stanza_agent.specs.Words.{is_once, is_follow};
 
 use crate::fault::Fault;
-use crate::poll::poll_once;
-use crate::report::{report_fault, report_line};
-use outside::{CallFault, Disk, Sink, Source, Tree};
+use crate::follow::follow;
+use crate::once::once;
+use crate::report::refuse;
+use outside::{Disk, Sink, Source, Tree};
 use std::alloc::Global;
 
 /// Runs the command that the words are, and answers the exit status.
 ///
-/// `control` is the input that later commands read, and `report` the output for summaries and faults.
+/// `control` is the input that `follow` serves, and `report` the output for summaries and faults.
 pub fn run_agent<T: Tree, D: Disk, S: Source, K: Sink>(
     alloc: Global,
     words: &[String],
@@ -32,99 +32,57 @@ pub fn run_agent<T: Tree, D: Disk, S: Source, K: Sink>(
 ) -> u8
     ensures answers { IsStatus result }
 
-    // 0: each complete line of the log file is in the output, in order, whatever a crash does from now on, and the
-    // summary is reported.
-    ensures polled { result ≡ 0 → (summary : Summary)
-        × Polled T.world T.faults D.may_leave tree.old tree.new disk.new summary
-        × Told (Appends (summary_line summary)) (K.written report.old) (K.written report.new) }
-    ensures looked { result ≡ 0 → Stood (T.faults tree.old) (T.faults tree.new)
-        → Told SeesLog (T.world tree.old) (T.world tree.new) }
-    ensures report_stood { result ≡ 0 → K.faults report.new ≡ K.faults report.old }
+    // One poll: its course, status by status.
+    ensures once { IsTrue (is_once words.now)
+        → OnceEnds T.world T.faults D.tells D.seen D.may_leave D.moment D.left_since K.written tree.old tree.new disk.old disk.new report.old report.new result }
+
+    // Polls as control lines ask for them.
+    ensures follow { IsTrue (is_follow words.now)
+        → FollowEnds T.world T.faults D.tells D.seen D.may_leave D.moment D.left_since S.rest K.written tree.old tree.new disk.old disk.new control.old control.new report.old report.new result }
 
     // 2: the words are no command.
-    ensures usage { (result ≡ 2) ↔ (is_once words.now ≡ false) }
+    ensures usage { (result ≡ 2) ↔ ((is_once words.now ≡ false) × (is_follow words.now ≡ false)) }
     ensures usage_told { result ≡ 2 → Told (GrowsByPart (fault_line Fault.Usage)) (K.written report.old) (K.written report.new) }
+    ensures untouched { result ≡ 2 → Passes D.may_leave D.moment D.left_since Same disk.old disk.new }
 
-    // 7: the disk failed.
+    // 7, 8 and 9: the disk, the control input or the report failed.
     ensures disk_failed { result ≡ 7 → Rose (D.faults disk.old) (D.faults disk.new) }
     ensures disk_stood { result ≢ 7 → D.faults disk.new ≡ D.faults disk.old }
-    ensures disk_told { result ≡ 7 → Told (GrowsByPart (fault_line Fault.Disk)) (K.written report.old) (K.written report.new) }
-
-    // 9: the report failed. The output is there all the same.
+    ensures control_failed { result ≡ 8 → Rose (S.faults control.old) (S.faults control.new) }
+    ensures control_stood { result ≢ 8 → S.faults control.new ≡ S.faults control.old }
+    // 15: so many control bytes were taken as may be, which are never passed.
+    ensures control_long { result ≡ 15 → Told (TakesExactly max_control) (S.rest control.old) (S.rest control.new) }
+    ensures control_taken { Told (TakesAtMost max_control) (S.rest control.old) (S.rest control.new) }
+    ensures control_untouched { is_follow words.now ≡ false → control.new ≡ control.old }
     ensures report_failed { result ≡ 9 → Rose (K.faults report.old) (K.faults report.new) }
-    ensures unreported { result ≡ 9 → (summary : Summary)
-        × Polled T.world T.faults D.may_leave tree.old tree.new disk.new summary
-        × Told (GrowsByPart (summary_line summary)) (K.written report.old) (K.written report.new) }
+    ensures report_stood { result ≡ 0 → K.faults report.new ≡ K.faults report.old }
 
-    // 10: memory ran out, at last for the report of a poll that went through.
-    ensures memory { result ≡ 10 → Told (GrowsByPart (fault_line Fault.Memory)) (K.written report.old) (K.written report.new)
-        ⊎ ((summary : Summary) × Polled T.world T.faults D.may_leave tree.old tree.new disk.new summary
-        × Told (GrowsByPart (summary_line summary)) (K.written report.old) (K.written report.new)) }
-
-    // 11: the output would be too long.
-    ensures full { result ≡ 11 → (size : ℕ) × OverFull T.world T.faults tree.old tree.new size
-        × Told (GrowsByPart (fault_line (Fault.OutputFull size))) (K.written report.old) (K.written report.new) }
-
-    // 14: the settings are others, the output isn't empty, or the log file is too long or compressed.
-    ensures not_built { result ≡ 14 → IsTrue (D.tells disk.old) → Stood (T.faults tree.old) (T.faults tree.new)
-        → IsOtherFolder (D.seen disk.old) ⊎ Told FindsOtherLog (T.world tree.old) (T.world tree.new) }
-    ensures built { (result ≡ 0) ⊎ (result ≡ 9) ⊎ (result ≡ 11) → IsTrue (D.tells disk.old) → IsKnownFolder (D.seen disk.old) }
-    ensures not_built_told { result ≡ 14 → Told (GrowsByPart (fault_line Fault.NotBuilt)) (K.written report.old) (K.written report.new) }
-
-    // Nothing is written before these.
-    ensures untouched { (result ≡ 2) ⊎ (result ≡ 14) → Passes D.may_leave D.moment D.left_since Same disk.old disk.new }
     // At each moment only the output may be others than it was.
     ensures begun { Passes D.may_leave D.moment D.left_since Same disk.old disk.new
         ⊎ Begins T.world T.faults D.may_leave D.moment D.left_since tree.old tree.new disk.old disk.new }
 {
-    let _ = control;
-    match run_command(alloc, words, tree, disk) {
-        Ok(line) => match report_line(alloc, line.as_str(), report) {
-            Ok(()) => 0,
-            Err(CallFault::Failed) => 9,
-            Err(CallFault::Memory) => 10,
-        },
-        Err(fault) => {
-            let _ = report_fault(alloc, fault, report);
-            fault.status()
-        }
+    match command_of(words) {
+        Some(Command::Once) => once(alloc, tree, disk, report),
+        Some(Command::Follow) => follow(alloc, tree, disk, control, report),
+        None => refuse(alloc, Fault::Usage, report),
     }
 }
 
-// Does what the words ask for, and answers the line that reports it.
-fn run_command<T: Tree, D: Disk>(
-    alloc: Global,
-    words: &[String],
-    tree: &mut T,
-    disk: &mut D,
-) -> Result<String, Fault>
-    ensures ok { IfOk result (λ line. (summary : Summary) × (string_bytes line ≡ summary_line summary)
-        × Polled T.world T.faults D.may_leave tree.old tree.new disk.new summary) }
-    ensures folder { OnOk result (IsTrue (D.tells disk.old) → IsKnownFolder (D.seen disk.old)) }
-    ensures command { OnOk result (IsTrue (is_once words.now)) }
-    ensures usage { (result ≡ Err Fault.Usage) ↔ (is_once words.now ≡ false) }
-    ensures full { (size : ℕ) → result ≡ Err (Fault.OutputFull size)
-        → OverFull T.world T.faults tree.old tree.new size × (IsTrue (D.tells disk.old) → IsKnownFolder (D.seen disk.old)) }
-    ensures not_built { result ≡ Err Fault.NotBuilt → IsTrue (D.tells disk.old) → Stood (T.faults tree.old) (T.faults tree.new)
-        → IsOtherFolder (D.seen disk.old) ⊎ Told FindsOtherLog (T.world tree.old) (T.world tree.new) }
-    ensures untouched { (result ≡ Err Fault.Usage) ⊎ (result ≡ Err Fault.NotBuilt)
-        → Passes D.may_leave D.moment D.left_since Same disk.old disk.new }
-    ensures cause { HasDiskCause result (D.faults disk.old) (D.faults disk.new) }
-    ensures begun { Passes D.may_leave D.moment D.left_since Same disk.old disk.new
-        ⊎ Begins T.world T.faults D.may_leave D.moment D.left_since tree.old tree.new disk.old disk.new }
-{
-    if !is_command(words) {
-        return Err(Fault::Usage);
-    }
-    let summary = poll_once(alloc, tree, disk)?;
-    Ok(summary.line(alloc)?)
+enum Command {
+    Once,
+    Follow,
 }
 
-fn is_command(words: &[String]) -> bool
-    ensures { result ≡ is_once words.now }
+fn command_of(words: &[String]) -> Option<Command>
+    ensures once { (result ≡ Some Command.Once) ↔ IsTrue (is_once words.now) }
+    ensures follow { (result ≡ Some Command.Follow) ↔ IsTrue (is_follow words.now) }
 {
-    match words {
-        [word] => word.as_str() == "once",
-        _ => false,
+    let [word] = words else {
+        return None;
+    };
+    match word.as_str() {
+        "once" => Some(Command::Once),
+        "follow" => Some(Command::Follow),
+        _ => None,
     }
 }

@@ -12,13 +12,19 @@ pub enum Fault {
     Usage,
     /// A call on the disk failed.
     Disk,
+    /// The control input failed.
+    Control,
     /// Memory ran out.
     Memory,
     /// With the next line the output would have this many bytes, more than it may have.
     OutputFull { length: u64 },
+    /// The control line with this number, from 1, is no request, or too long.
+    ControlLine { number: u64 },
     /// The agent can't do this yet: other settings, an output that isn't empty, or a log file that is too long or
     /// compressed.
     NotBuilt,
+    /// As many bytes of control lines were taken as may be, and the command hasn't ended.
+    ControlLong,
 }
 
 impl Fault {
@@ -31,9 +37,12 @@ impl Fault {
         match self {
             Fault::Usage => 2,
             Fault::Disk => 7,
+            Fault::Control => 8,
             Fault::Memory => 10,
             Fault::OutputFull { .. } => 11,
+            Fault::ControlLine { .. } => 12,
             Fault::NotBuilt => 14,
+            Fault::ControlLong => 15,
         }
     }
 }

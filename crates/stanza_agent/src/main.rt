@@ -5,14 +5,19 @@
 #![tactic(auto)]
 
 mod agent;
+mod control;
 mod fault;
 mod folder;
+mod follow;
 mod log_file;
+mod once;
 mod output;
 mod poll;
 mod real;
 mod report;
 mod summary;
+#[cfg(test)]
+mod tests;
 
 use agent::run_agent;
 use real::{RealDisk, RealSink, RealSource, RealTree};

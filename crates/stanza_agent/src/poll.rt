@@ -6,6 +6,7 @@ ghost use Rattle.outside.specs.Image.{Same};
 ghost use Rattle.outside.specs.World.{Told};
 ghost use Rattle.stanza_agent.specs.Cause.{HasDiskCause};
 ghost use Rattle.stanza_agent.specs.Look.{Stood};
+ghost use Rattle.stanza_agent.specs.Status.{status_of, IsOnceStatus};
 ghost use Rattle.stanza_agent.specs.Polled.{IsCompressed, IsKnownFolder, IsOtherFolder, FindsOtherLog, Polled, OverFull, Begins};
 
 use crate::fault::Fault;
@@ -29,7 +30,7 @@ pub fn poll_once<T: Tree, D: Disk>(
     ensures not_built { result ≡ Err Fault.NotBuilt → IsTrue (D.tells disk.old) → Stood (T.faults tree.old) (T.faults tree.new)
         → IsOtherFolder (D.seen disk.old) ⊎ Told FindsOtherLog (T.world tree.old) (T.world tree.new) }
     ensures untouched { result ≡ Err Fault.NotBuilt → Passes D.may_leave D.moment D.left_since Same disk.old disk.new }
-    ensures no_usage { result ≡ Err Fault.Usage → ⊥ }
+    ensures faults { IfErr result (λ fault. IsOnceStatus (status_of fault)) }
     ensures cause { HasDiskCause result (D.faults disk.old) (D.faults disk.new) }
     ensures count { NeverFalls (T.faults tree.old) (T.faults tree.new) }
     ensures begun { Passes D.may_leave D.moment D.left_since Same disk.old disk.new

@@ -2,7 +2,7 @@ use Rattle.std.proofs.Common.{◌≡◌, ap}
 use Rattle.std.specs.Prelude.{Err}
 use Rattle.std.proofs.lemmas.Result.{err_from_is_err_and}
 use Rattle.stanza_agent.specs.declared.fault.Fault.TheVariants.{OutputFull, NotBuilt}
-use Rattle.stanza_agent.proofs.agent.run_command.Goals as goal
+use Rattle.stanza_agent.proofs.once.poll_line.Goals as goal
 
 pub returns-in_err-summary-clause-full : goal.returns-in_err-summary-clause-full
 returns-in_err-summary-clause-full g c = λ size is.
