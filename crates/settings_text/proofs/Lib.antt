@@ -4,3 +4,4 @@ pub mod Drafts
 pub mod Lists
 pub mod Numbers
 pub mod Texts
+pub mod Limits

@@ -8,3 +8,4 @@ pub mod Outcome
 pub mod Place
 pub mod SettingsData
 pub mod ValueData
+pub mod Limits

@@ -28,6 +28,7 @@ ghost use Rattle.settings_text.specs.Kinds as kinds;
 mod fault;
 mod ids;
 mod kinds;
+pub mod laws;
 mod operators;
 mod place;
 mod settings;
@@ -44,7 +45,7 @@ pub use settings::{OnError, OpKind, OpSpec, Settings, StartAt};
 use std::alloc::Global;
 
 /// The greatest length of a text, in bytes.
-const MAX_LENGTH: usize = 1_048_576;
+pub const MAX_LENGTH: usize = 1_048_576;
 
 fn start_at(alloc: Global, object: &Value) -> Result<StartAt, SettingsFault>
     ensures { Gives (λ start. start) result

@@ -1,0 +1,145 @@
+-- Feeding, token by token.
+use Rattle.std.proofs.Common.{◌≡◌, ℕ, ◌+◌, ◌<◌, List, [], ◌∷◌, ◌++◌, length, drop, map, refl, sym, ◌∙◌, ap, subst, arith, append_assoc, length-append}
+use Rattle.std.proofs.lemmas.List.{append-nil, map-append}
+use Rattle.std.specs.Prelude.{Option}
+use Rattle.entry_model.specs.LogRecord.{LogRecord}
+use Rattle.graph_core.specs.declared.Target.{Target}
+use Rattle.graph_core.specs.Traces.{Network, states_after, outputs, start_states, inputs, Served}
+use Rattle.graph_core.specs.Wiring.{entry_of}
+use Rattle.op_kinds.specs.declared.state.OpState.{OpState}
+use Rattle.line_splitter.specs.Cuts.{Cut}
+use Rattle.line_splitter.specs.LineTokens.{tokens, used, HasNoToken, BeginsWith}
+use Rattle.otlp_json.specs.OutputLines.{output_lines}
+use Rattle.pipeline.specs.Entries.{records_of, record_with, records_behind, text_of}
+use Rattle.pipeline.specs.Fed.{Fed, GoesOn}
+use Rattle.pipeline.specs.GraphOutput.{graph_output, StandsFor}
+use Rattle.pipeline.specs.declared.state.FileState.{FileState}
+use Rattle.settings_text.specs.SettingsData.{SettingsData}
+
+-- the laws of lines in a row and of requests after requests, as the crates that make them state them
+pub record LineLaws : Type 0 where
+  pub none : (id number : ℕ) → output_lines id number [] ≡ []
+  pub append : (id number : ℕ) (front back : List LogRecord) → output_lines id number (front ++ back) ≡ output_lines id number front ++ output_lines id (number + length front) back
+
+pub record GraphLaws (network : Network OpState LogRecord) : Type 0 where
+  pub begin : (from : List OpState) (before : List LogRecord) → Served network from before (inputs network []) from before
+  pub states : (from : List OpState) (earlier later : List (Target × Option LogRecord)) → states_after network from (earlier ++ later) ≡ states_after network (states_after network from earlier) later
+  pub items : (from : List OpState) (earlier later : List (Target × Option LogRecord)) → outputs network from (earlier ++ later) ≡ outputs network from earlier ++ outputs network (states_after network from earlier) later
+
+records_append : (settings : SettingsData) (path : List ℕ) (n : ℕ) (a b : List (List ℕ)) → records_behind settings path n (a ++ b) ≡ records_behind settings path n a ++ records_behind settings path (n + length a) b
+records_append settings path n [] b = ap (λ k. records_behind settings path k b) (omega arith)
+records_append settings path n (token ∷ a) b =
+    ap (λ rest. records_of settings path (n + 1) (text_of settings token) ++ rest)
+    (records_append settings path (n + 1) a b ∙ ap (λ k. records_behind settings path (n + 1) a ++ records_behind settings path k b) (omega arith))
+    ∙ sym (append_assoc (records_of settings path (n + 1) (text_of settings token)) (records_behind settings path (n + 1) a) (records_behind settings path (n + length (token ∷ a)) b))
+
+module _ (settings : SettingsData) (network : Network OpState LogRecord) (path : List ℕ) (graph : GraphLaws network) where
+  inputs_append : (n : ℕ) (a b : List (List ℕ)) (m : ℕ) → m ≡ n + length a → inputs network (records_behind settings path n (a ++ b)) ≡ inputs network (records_behind settings path n a) ++ inputs network (records_behind settings path m b)
+  inputs_append n a b m e =
+      ap (inputs network) (records_append settings path n a b)
+      ∙ map-append _ (records_behind settings path n a) (records_behind settings path (n + length a) b)
+      ∙ ap (λ k. inputs network (records_behind settings path n a) ++ inputs network (records_behind settings path k b)) (sym e)
+
+  pub fed_none : (lines : LineLaws) (id : ℕ) (state : FileState) (out : List ℕ) → Fed settings network id path [] state state out out
+  fed_none lines id state out = record {
+    made = [];
+    served = graph.begin state.states.items [];
+    records = omega arith;
+    lines = omega arith;
+    written = sym (append-nil out) ∙ ap (λ t. out ++ t) (sym (lines.none id (state.lines + 1)));
+  }
+
+  pub fed_then : (laws : LineLaws) (id : ℕ) (a b : List (List ℕ)) (s m t : FileState) (o q r : List ℕ) → Fed settings network id path a s m o q → Fed settings network id path b m t q r → Fed settings network id path (a ++ b) s t o r
+  fed_then laws id a b s m t o q r first next =
+      let joined = inputs_append s.records a b m.records first.records in
+      let front = inputs network (records_behind settings path s.records a) in
+      let back = inputs network (records_behind settings path m.records b) in
+      record {
+        made = first.made ++ next.made;
+        served = record {
+          states = next.served.states ∙ ap (λ from. states_after network from back) first.served.states ∙ sym (graph.states s.states.items front back) ∙ ap (states_after network s.states.items) (sym joined);
+          items =
+              ap (λ x. x ++ next.made) first.served.items
+              ∙ ap (λ x. outputs network s.states.items front ++ x) (next.served.items ∙ ap (λ from. outputs network from back) first.served.states)
+              ∙ sym (graph.items s.states.items front back) ∙ ap (outputs network s.states.items) (sym joined);
+        };
+        records = omega (arith, first.records, next.records, length-append a b);
+        lines = omega (arith, first.lines, next.lines, length-append first.made next.made);
+        written =
+            next.written ∙ ap (λ x. x ++ output_lines id (m.lines + 1) next.made) first.written
+            ∙ append_assoc o (output_lines id (s.lines + 1) first.made) (output_lines id (m.lines + 1) next.made)
+            ∙ ap (λ x. o ++ x) (ap (λ n. output_lines id (s.lines + 1) first.made ++ output_lines id n next.made) (omega (arith, first.lines)) ∙ sym (laws.append id (s.lines + 1) first.made next.made));
+      }
+
+  pub goes_on : (id : ℕ) (earlier more : List (List ℕ)) (s t : FileState) (o r : List ℕ) → StandsFor settings network path earlier s → Fed settings network id path more s t o r → GoesOn settings network id path earlier more t o r
+  goes_on id earlier more s t o r stands fed =
+      let joined = inputs_append 0 earlier more s.records (omega (arith, stands.records)) in
+      let start = start_states network in
+      let front = inputs network (records_behind settings path 0 earlier) in
+      let back = inputs network (records_behind settings path s.records more) in
+      let past : graph_output settings network path (earlier ++ more) ≡ graph_output settings network path earlier ++ fed.made =
+      ap (outputs network start) joined ∙ graph.items start front back ∙ ap (λ x. outputs network start front ++ x) (ap (λ from. outputs network from back) (sym stands.states) ∙ sym fed.served.items) in
+      record {
+        stands = record {
+          states = fed.served.states ∙ ap (λ from. states_after network from back) stands.states ∙ sym (graph.states start front back) ∙ ap (states_after network start) (sym joined);
+          records = omega (arith, fed.records, stands.records, length-append earlier more);
+          lines = omega (arith, fed.lines, stands.lines, ap length past, length-append (graph_output settings network path earlier) fed.made);
+        };
+        made = fed.made;
+        past = past;
+        written = fed.written ∙ ap (λ n. o ++ output_lines id (n + 1) fed.made) stands.lines;
+      }
+
+-- some tokens of the bytes were fed, and those of the rest are left
+pub record FeedsOn (settings : SettingsData) (network : Network OpState LogRecord) (id : ℕ) (path bytes rest : List ℕ) (at : ℕ) (before after : FileState) (out grown : List ℕ) : Type 0 where
+  pub done : List (List ℕ)
+  pub left : tokens settings.max_log_size bytes ≡ done ++ tokens settings.max_log_size rest
+  pub used_so_far : used settings.max_log_size bytes ≡ at + used settings.max_log_size rest
+  pub fed : Fed settings network id path done before after out grown
+
+module _ (settings : SettingsData) (network : Network OpState LogRecord) (id : ℕ) (path : List ℕ) (graph : GraphLaws network) (laws : LineLaws) (bytes : List ℕ) (s : FileState) (o : List ℕ) where
+  pub feeds_from_start : FeedsOn settings network id path bytes bytes 0 s s o o
+  feeds_from_start = record { done = []; left = refl; used_so_far = omega arith; fed = fed_none settings network path graph laws id s o }
+
+  pub feeds_token : (rest : List ℕ) (at : ℕ) (c : Cut) (m t : FileState) (q r : List ℕ) → BeginsWith settings.max_log_size rest c → FeedsOn settings network id path bytes rest at s m o q → Fed settings network id path (c.text ∷ []) m t q r → FeedsOn settings network id path bytes (drop c.used rest) (at + c.used) s t o r
+  feeds_token rest at c m t q r begins so_far next = record {
+    done = so_far.done ++ c.text ∷ [];
+    left = so_far.left ∙ ap (λ ts. so_far.done ++ ts) begins.tokens_follow ∙ sym (append_assoc so_far.done (c.text ∷ []) (tokens settings.max_log_size (drop c.used rest)));
+    used_so_far = omega (arith, so_far.used_so_far, begins.used_follow);
+    fed = fed_then settings network path graph laws id so_far.done (c.text ∷ []) s m t o q r so_far.fed next;
+  }
+
+  pub feeds_all : (rest : List ℕ) (at : ℕ) (t : FileState) (r : List ℕ) → HasNoToken settings.max_log_size rest → FeedsOn settings network id path bytes rest at s t o r → (at ≡ used settings.max_log_size bytes) × Fed settings network id path (tokens settings.max_log_size bytes) s t o r
+  feeds_all rest at t r ends so_far =
+      let all : so_far.done ≡ tokens settings.max_log_size bytes = sym (so_far.left ∙ ap (λ ts. so_far.done ++ ts) ends.no_tokens ∙ append-nil so_far.done) in
+      (omega (arith, so_far.used_so_far, ends.none_used), subst (λ ts. Fed settings network id path ts s t o r) all so_far.fed)
+
+pub prefix_kept : (settings : SettingsData) (network : Network OpState LogRecord) → GraphLaws network → (path : List ℕ) (earlier more : List (List ℕ)) → (rest : List LogRecord) × (graph_output settings network path (earlier ++ more) ≡ graph_output settings network path earlier ++ rest)
+prefix_kept settings network graph path earlier more =
+    let start = start_states network in
+    let front = inputs network (records_behind settings path 0 earlier) in
+    let back = inputs network (records_behind settings path (length earlier) more) in
+    (outputs network (states_after network start front) back, ap (outputs network start) (inputs_append settings network path graph 0 earlier more (length earlier) (omega arith)) ∙ graph.items start front back)
+
+-- the records of one token
+pub record_none : (settings : SettingsData) (path : List ℕ) (before : ℕ) (token : List ℕ) → text_of settings token ≡ [] → records_behind settings path before (token ∷ []) ≡ []
+record_none settings path before token empty = ap (λ body. records_of settings path (before + 1) body ++ []) empty
+
+pub record_one : (settings : SettingsData) (path : List ℕ) (before : ℕ) (token : List ℕ) → 0 < length (text_of settings token) → records_behind settings path before (token ∷ []) ≡ record_with settings path (before + 1) (text_of settings token) ∷ []
+record_one settings path before token some = append-nil _ ∙ by (text_of settings token) some
+  where
+    by : (body : List ℕ) → 0 < length body → records_of settings path (before + 1) body ≡ record_with settings path (before + 1) body ∷ []
+    by [] some = absurd (omega (arith, some))
+    by (byte ∷ more) some = refl
+
+-- a token with a record, which went through the network
+pub one_fed : (settings : SettingsData) (network : Network OpState LogRecord) (id : ℕ) (path token : List ℕ) (record_of_it : LogRecord) (made : List LogRecord) (s t : FileState) (o r : List ℕ)
+    → records_behind settings path s.records (token ∷ []) ≡ record_of_it ∷ [] → Served network s.states.items [] (inputs network (record_of_it ∷ [])) t.states.items made
+    → t.records ≡ s.records + 1 → t.lines ≡ s.lines + length made → r ≡ o ++ output_lines id (s.lines + 1) made → Fed settings network id path (token ∷ []) s t o r
+one_fed settings network id path token record_of_it made s t o r one served records lines written = record {
+  made = made;
+  served = subst (λ rs. Served network s.states.items [] (inputs network rs) t.states.items made) (sym one) served;
+  records = records;
+  lines = lines;
+  written = written;
+}

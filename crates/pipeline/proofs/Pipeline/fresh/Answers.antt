@@ -1,0 +1,15 @@
+use Rattle.std.proofs.Common.{◌≡◌, [], refl, sym, ap, ◌∙◌, map, take, length, arith}
+use Rattle.std.proofs.lemmas.List.{take_all}
+use Rattle.graph_core.specs.Traces.{start_states}
+use Rattle.op_kinds.specs.Operator.{behavior_of}
+use Rattle.pipeline.specs.Parts.{network}
+use Rattle.pipeline.proofs.Pipeline.fresh.Goals as goal
+
+pub returns-clause-stands : goal.returns-clause-stands
+returns-clause-stands c = λ path.
+    let start : c.loop-node.states.items ≡ start_states (network c.args.self.now) = c.loop-node.invariant ∙ ap (λ nodes. map (λ behavior. behavior.first) (map (λ node. behavior_of node.op) nodes)) (take_all c.loop-node.node-index c.nodes-node-items.result.now c.loop-node-test.false ∙ c.nodes-node-items.ensures) in
+    record {
+      states = start ∙ (c.begin.ensures (start_states (network c.args.self.now)) []).states;
+      records = refl;
+      lines = ap length (c.begin.ensures (start_states (network c.args.self.now)) []).items;
+    }

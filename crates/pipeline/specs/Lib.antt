@@ -1,0 +1,6 @@
+pub mod Entries
+pub mod Wired
+pub mod BuildFaults
+pub mod Parts
+pub mod GraphOutput
+pub mod Fed

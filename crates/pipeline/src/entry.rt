@@ -1,0 +1,127 @@
+// Entries of a file.
+ghost use Rattle.std.specs.Prelude.{◌≡◌, ℕ, pos, codes, ◌≤◌, ◌^◌, List, string_bytes, IfOk, OnOk};
+ghost use Rattle.std.specs.BTreeMap.{insert_entry};
+ghost use Rattle.std.specs.Cmp.Lexicographic.{slice_cmp};
+ghost use Rattle.std.specs.Ordering.{nat_cmp};
+ghost use Rattle.entry_model.specs.Datum as model;
+ghost use Rattle.entry_model.specs.Datum.{datum};
+ghost use Rattle.entry_model.specs.LogRecord.{log_record};
+ghost use Rattle.field_paths.specs.MapOf.{members_seen};
+ghost use Rattle.field_paths.specs.Members.{with_member};
+ghost use Rattle.pipeline.specs.Entries.{base_name, with_asked, file_attributes, attributes_at, record_with};
+ghost use Rattle.pipeline.specs.Parts.{settings_of};
+
+use crate::Pipeline;
+use entry_model::{Entry, Fields, Severity, Text, Value, copy_fields};
+use std::alloc::{AllocError, Global};
+
+impl Pipeline {
+    /// What each entry of a file has.
+    pub(crate) fn file_attributes(&self, alloc: Global, path: &str) -> Result<Fields, AllocError>
+        ensures { IfOk result (λ members. members_seen members.entries ≡ file_attributes (settings_of self.now) path.now) }
+    {
+        let own = copy_fields(alloc, &self.settings.attributes)?;
+        let named = self.with_name(alloc, own, path)?;
+        self.with_path(alloc, named, path)
+    }
+
+    fn with_name(&self, alloc: Global, attributes: Fields, path: &str) -> Result<Fields, AllocError>
+        ensures { IfOk result (λ members. members_seen members.entries ≡ with_asked (settings_of self.now).flags.include_file_name
+            (codes "log.file.name") (model.text (base_name path.now)) (members_seen attributes.entries)) }
+    {
+        if !self.settings.include_file_name {
+            return Ok(attributes);
+        }
+        let name = text(alloc, base_name(path))?;
+        Ok(put(alloc, attributes, "log.file.name", name)?)
+    }
+
+    fn with_path(&self, alloc: Global, attributes: Fields, path: &str) -> Result<Fields, AllocError>
+        ensures { IfOk result (λ members. members_seen members.entries ≡ with_asked (settings_of self.now).flags.include_file_path
+            (codes "log.file.path") (model.text path.now) (members_seen attributes.entries)) }
+    {
+        if !self.settings.include_file_path {
+            return Ok(attributes);
+        }
+        let whole = text(alloc, path)?;
+        Ok(put(alloc, attributes, "log.file.path", whole)?)
+    }
+
+    fn attributes_at(
+        &self,
+        alloc: Global,
+        shared: &Fields,
+        number: u64,
+    ) -> Result<Fields, AllocError>
+        requires { number ≤ 2 ^ 62 }
+        ensures { IfOk result (λ members. (path : List ℕ) → members_seen shared.now.entries ≡ file_attributes (settings_of self.now) path
+            → members_seen members.entries ≡ attributes_at (settings_of self.now) path number) }
+    {
+        let attributes = copy_fields(alloc, shared)?;
+        if !self.settings.include_file_record_number {
+            return Ok(attributes);
+        }
+        Ok(put(alloc, attributes, "log.file.record_number", int(number))?)
+    }
+
+    /// The entry of the token with this number, from 1.
+    pub(crate) fn entry(
+        &self,
+        alloc: Global,
+        shared: &Fields,
+        number: u64,
+        body: String,
+    ) -> Result<Entry, AllocError>
+        requires { number ≤ 2 ^ 62 }
+        ensures { IfOk result (λ entry. (path : List ℕ) → members_seen shared.now.entries ≡ file_attributes (settings_of self.now) path
+            → log_record entry ≡ record_with (settings_of self.now) path number (string_bytes body)) }
+    {
+        Ok(Entry {
+            body: Value::Text(Text::new(body)),
+            attributes: Value::Map(self.attributes_at(alloc, shared, number)?),
+            resource: Value::Map(copy_fields(alloc, &self.settings.resource)?),
+            timestamp: None,
+            severity: Severity { number: 0 },
+            severity_text: Text::new(String::new(alloc)),
+        })
+    }
+}
+
+fn int(number: u64) -> Value
+    requires { number ≤ 2 ^ 62 }
+    ensures { datum result ≡ model.int (pos number) }
+{
+    Value::Int(number as i64)
+}
+
+fn text(alloc: Global, content: &str) -> Result<Value, AllocError>
+    ensures { IfOk result (λ value. datum value ≡ model.text content.now) }
+{
+    Ok(Value::Text(Text::from_str(alloc, content)?))
+}
+
+// The members with one more, or with another value.
+fn put(alloc: Global, mut members: Fields, name: &str, value: Value) -> Result<Fields, AllocError>
+    ensures { IfOk result (λ grown. members_seen grown.entries ≡ with_member name.now (datum value) (members_seen members.entries)) }
+{
+    insert(alloc, &mut members, name, value)?;
+    Ok(members)
+}
+
+fn insert(alloc: Global, fields: &mut Fields, name: &str, value: Value) -> Result<(), AllocError>
+    ensures { OnOk result (fields.new.entries ≡ insert_entry (slice_cmp nat_cmp) fields.old.entries name.now value) }
+{
+    let name = Text::from_str(alloc, name)?;
+    fields.insert(name, value)?;
+    Ok(())
+}
+
+// What stands behind the last `/`.
+fn base_name(path: &str) -> &str
+    ensures { result.now ≡ base_name path.now }
+{
+    match path.rsplit_once('/') {
+        Some((_folders, name)) => name,
+        None => path,
+    }
+}

@@ -1,0 +1,120 @@
+// From bytes to lines.
+ghost use Rattle.std.specs.Prelude.{◌≡◌, ℕ, ◌+◌, ◌-◌, ◌^◌, ◌≤◌, [], ◌∷◌, ◌++◌, List, length, string_bytes, OnOk, IfOk};
+ghost use Rattle.field_paths.specs.MapOf.{members_seen};
+ghost use Rattle.graph_core.specs.Traces.{inputs, Served};
+ghost use Rattle.line_splitter.specs.LineTokens.{tokens, used};
+ghost use Rattle.otlp_json.specs.OutputLines.{output_lines};
+ghost use Rattle.pipeline.specs.Entries.{file_attributes, records_behind, record_with};
+ghost use Rattle.pipeline.specs.Fed.{Fed, GoesOn};
+ghost use Rattle.pipeline.specs.GraphOutput.{StandsFor};
+ghost use Rattle.pipeline.specs.Parts.{settings_of, network, node_count};
+
+use crate::{FileState, Pipeline};
+use entry_model::Fields;
+use graph_core::laws as graph;
+use line_splitter::{entry_text, next};
+use op_kinds::Record;
+use otlp_json::laws::{line_is_one_line, lines_append};
+use otlp_json::line;
+use std::alloc::{AllocError, Global};
+
+impl Pipeline {
+    /// Takes the tokens of the bytes, appends the lines of what comes out, and answers how many bytes the tokens used.
+    /// `id` and `path` are the file's.
+    pub fn feed(
+        &self,
+        alloc: Global,
+        state: &mut FileState,
+        id: u32,
+        path: &str,
+        bytes: &[u8],
+        out: &mut Vec<u8>,
+    ) -> Result<usize, AllocError>
+        requires states { length state.old.states.items ≡ node_count self.now }
+        requires lines { state.old.lines ≤ 2 ^ 40 }
+        requires records { state.old.records + length bytes.now ≤ 2 ^ 62 }
+        ensures used { IfOk result (λ count. count ≡ used (settings_of self.now).max_log_size bytes.now) }
+
+        // From any state.
+        ensures fed { OnOk result (Fed (settings_of self.now) (network self.now) id path.now
+            (tokens (settings_of self.now).max_log_size bytes.now) state.old state.new out.old.items out.new.items) }
+        ensures records { OnOk result (state.new.records ≤ state.old.records + used (settings_of self.now).max_log_size bytes.now) }
+        ensures lines { OnOk result (state.new.lines + length out.old.items ≤ state.old.lines + length out.new.items) }
+        ensures states { length state.new.states.items ≡ length state.old.states.items }
+
+        // From a state that stands for the tokens before.
+        ensures goes_on { OnOk result ((earlier : List (List ℕ))
+            → StandsFor (settings_of self.now) (network self.now) path.now earlier state.old
+            → GoesOn (settings_of self.now) (network self.now) id path.now earlier
+            (tokens (settings_of self.now).max_log_size bytes.now) state.new out.old.items out.new.items) }
+    {
+        graph::begin(&self.graph);
+        graph::go_on(&self.graph);
+        lines_append();
+        let max = self.settings.max_log_size as usize;
+        let shared = self.file_attributes(alloc, path)?;
+        let mut at = 0;
+        while let Some(token) = next(max, &bytes[at..]) {
+            let rest = &bytes[at..];
+            self.feed_token(alloc, state, id, &shared, &rest[token.from..token.to], out)?;
+            at += token.after;
+        }
+        Ok(at)
+    }
+
+    fn feed_token(
+        &self,
+        alloc: Global,
+        state: &mut FileState,
+        id: u32,
+        shared: &Fields,
+        token: &[u8],
+        out: &mut Vec<u8>,
+    ) -> Result<(), AllocError>
+        requires states { length state.old.states.items ≡ node_count self.now }
+        requires lines { state.old.lines ≤ 2 ^ 40 + length out.old.items }
+        requires records { state.old.records + 1 ≤ 2 ^ 62 }
+        ensures fed { OnOk result ((path : List ℕ) → members_seen shared.now.entries ≡ file_attributes (settings_of self.now) path
+            → Fed (settings_of self.now) (network self.now) id path (token.now ∷ []) state.old state.new out.old.items out.new.items) }
+        ensures lines { OnOk result (state.new.lines + length out.old.items ≤ state.old.lines + length out.new.items) }
+        ensures records { OnOk result (state.new.records ≡ state.old.records + 1) }
+        ensures states { length state.new.states.items ≡ length state.old.states.items }
+    {
+        graph::begin(&self.graph);
+        lines_append();
+        state.records += 1;
+        let leading = self.settings.preserve_leading_whitespaces;
+        let trailing = self.settings.preserve_trailing_whitespaces;
+        let Some(body) = entry_text(alloc, token, leading, trailing)? else {
+            return Ok(());
+        };
+        let entry = self.entry(alloc, shared, state.records, body)?;
+        let mut made = Vec::new(alloc);
+        self.graph
+            .push(alloc, &mut state.states, Record::new(entry), &mut made)?;
+        append_lines(alloc, id, &mut state.lines, &made, out)?;
+        Ok(())
+    }
+}
+
+// Appends the lines of the records, and counts them.
+fn append_lines(
+    alloc: Global,
+    id: u32,
+    lines: &mut u64,
+    made: &[Record],
+    out: &mut Vec<u8>,
+) -> Result<(), AllocError>
+    requires { lines.old ≤ 2 ^ 40 + length out.old.items }
+    ensures lines { OnOk result (lines.new ≡ lines.old + length made.now) }
+    ensures written { OnOk result (out.new.items ≡ out.old.items ++ output_lines id (lines.old + 1) made.now) }
+    ensures within { OnOk result (lines.new + length out.old.items ≤ lines.old + length out.new.items) }
+{
+    lines_append();
+    line_is_one_line();
+    for record in made {
+        *lines += 1;
+        line(alloc, id, *lines, record.entry(), out)?;
+    }
+    Ok(())
+}

@@ -1,0 +1,33 @@
+//! From the bytes of a log file to the lines of the output: tokens, entries, operators, lines.
+//!
+//! **The contract for the layer above.** [`Pipeline::build`] makes the operators that the settings ask for, wired one behind
+//! the other, or tells the first reason for which it can't. `graph_output` of `specs/GraphOutput` is what comes out for the
+//! tokens of a file: their records, through the graph's traces. [`Pipeline::feed`] takes the tokens of some bytes: from
+//! a state that stands for the tokens before, it appends the lines of what comes out past what those gave, and leaves
+//! the state that stands for all of them. So a file can be fed in pieces, each from the first byte that wasn't used.
+#![tactic(auto)]
+
+ghost use Rattle.std.specs.Prelude.{◌≤◌};
+
+mod build;
+mod entry;
+mod fault;
+mod feed;
+pub mod laws;
+mod state;
+#[cfg(test)]
+mod tests;
+
+pub use fault::BuildFault;
+use graph_core::Graph;
+use op_kinds::AnyOp;
+use settings_text::Settings;
+pub use state::FileState;
+
+/// The operators of some settings, ready for any file.
+#[derive(Drop)]
+pub struct Pipeline {
+    settings: Settings,
+    graph: Graph<AnyOp>,
+    ghost some_bytes: { 1 ≤ settings.max_log_size },
+}
