@@ -1,0 +1,15 @@
+pub mod Boundaries
+pub mod Complete
+pub mod Equal
+pub mod Stacks
+pub mod Kept
+pub mod Lengths
+pub mod Loops
+pub mod Openings
+pub mod Outcomes
+pub mod Parts
+pub mod Patterns
+pub mod Quotes
+pub mod Reading
+pub mod Same
+pub mod Sound

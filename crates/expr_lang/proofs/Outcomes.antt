@@ -1,0 +1,132 @@
+-- What `read` answers, from what its loop found.
+use Rattle.std.proofs.Common.{◌≡◌, ℕ, ◌+◌, ◌<◌, ◌≤◌, List, [], ◌∷◌, ◌++◌, sym, refl, subst, length, drop, arith, inl, inr, Bool, true, false, cond, nat_le, nat_lt, ◌&&◌, None}
+use Rattle.std.proofs.lemmas.Bool.Decides.{nat_tests}
+use Rattle.std.proofs.lemmas.List.{drop_all}
+use Rattle.expr_lang.specs.declared.read.ExprReadFault.{ExprReadFault}
+use Rattle.expr_lang.specs.declared.read.ExprReadFault.TheVariants.{Syntax, Pattern, Memory}
+use Rattle.expr_lang.specs.declared.token.Token.{Token}
+use Rattle.expr_lang.specs.declared.token.Token.TheVariants as token
+use Rattle.expr_lang.specs.declared.tree.Node.{Node}
+use Rattle.expr_lang.specs.Fault.{IsFaultAt, IsPatternFaultAt, IsFront, Opens}
+use Rattle.expr_lang.specs.Grammar.{IsExpression, HavePatterns}
+use Rattle.expr_lang.specs.Machine as m
+use Rattle.expr_lang.specs.Outcome.{IsReadFault, IsNoExpression}
+use Rattle.expr_lang.specs.Reads.{Reads, IsParseFault, cut}
+use Rattle.expr_lang.specs.Row.{Placed, IsToken}
+use Rattle.expr_lang.specs.StepFault.{IsStepFault}
+use Rattle.expr_lang.specs.Tree.{Tree}
+use Rattle.expr_lang.specs.TreeOf.{tree}
+use Rattle.expr_lang.proofs.Complete.{finishes}
+use Rattle.expr_lang.proofs.Kept.{no_tree_with}
+use Rattle.expr_lang.proofs.Openings.{Reached, reached_opens, reached_refused, reached_partial}
+use Rattle.expr_lang.proofs.Patterns.{patterns_of}
+use Rattle.expr_lang.proofs.Reading.{Follows, no_expression, one_word, no_word}
+use Rattle.expr_lang.proofs.Sound.{spelled, BehindPhase}
+
+pub expression_is : (text : List ℕ) (root : Node) → Reads text 0 m.start (tree root) → length text ≤ 4096 → IsExpression text (tree root)
+expression_is text root (row, is, e) short = record { words = row; row = is; spells = spelled row (tree root) e; patterns = patterns_of root; short = short }
+
+too_long : (text : List ℕ) → 4096 < length text → IsNoExpression text
+too_long text long = λ tree e. (let s = e.short in absurd (omega (arith, s, long)))
+
+pub too_long_tree : (text : List ℕ) (root : Node) → 4096 < length text → Reads text 0 m.start (tree root) → IsReadFault text (Syntax 4096)
+too_long_tree text root long (row, is, e) = (too_long text long, omega arith, inr (refl, (long, inr (row, tree root, is, spelled row (tree root) e))))
+
+no_pattern_tree : (text : List ℕ) → ((tree : Tree) → Reads text 0 m.start tree → HavePatterns tree → ⊥) → IsNoExpression text
+no_pattern_tree text none tree e = none tree (e.words, e.row, finishes e.words tree e.spells) e.patterns
+
+pub fault_is : (text : List ℕ) (fault : ExprReadFault) → IsParseFault text fault → IsReadFault text (cut fault (length text))
+fault_is text (Syntax at) f = by (nat_le 4096 at) (nat_lt 4096 (length text)) refl refl
+  where
+    short : at ≤ 4096 → IsReadFault text (Syntax at)
+    short l = (no_expression text f.0, l, inl f.1)
+
+    by : (a b : Bool) → nat_le 4096 at ≡ a → nat_lt 4096 (length text) ≡ b → IsReadFault text (cond (a && b) (Syntax 4096) (Syntax at))
+    by true true p q =
+        let far : 4096 ≤ at = grind (arith, nat_tests) in
+        let long : 4096 < length text = grind (arith, nat_tests) in
+        (too_long text long, omega arith, inr (refl, (long, inl (at, far, inl f.1))))
+    by true false p q = short (let few : length text ≤ 4096 = grind (arith, nat_tests) in let to = f.1.to in omega (arith, few, to))
+    by false b p q = short (let near : at < 4096 = grind (arith, nat_tests) in omega (arith, near))
+fault_is text (Pattern at) f = by (nat_le 4096 at) (nat_lt 4096 (length text)) refl refl
+  where
+    by : (a b : Bool) → nat_le 4096 at ≡ a → nat_lt 4096 (length text) ≡ b → IsReadFault text (cond (a && b) (Syntax 4096) (Pattern at))
+    by true true p q =
+        let far : 4096 ≤ at = grind (arith, nat_tests) in
+        let long : 4096 < length text = grind (arith, nat_tests) in
+        (too_long text long, omega arith, inr (refl, (long, inl (at, far, inr f.1))))
+    by true false p q = (no_pattern_tree text f.0, f.1)
+    by false b p q = (no_pattern_tree text f.0, f.1)
+fault_is text Memory f = tt
+
+-- ---- the faults of the loop
+
+-- no word stands there
+pub fault_at_none : (text : List ℕ) (at place : ℕ) (s : m.State) → at < length text → Reached text at s → ((w : Token) (n : ℕ) → IsToken (drop at text) w n → ⊥)
+    → at ≤ place → place ≤ length text → IsFaultAt text place
+fault_at_none text at place s inside r none from to = record {
+  words = r.words;
+  at = at;
+  front = r.front;
+  opens = reached_opens text at s r;
+  refused = λ w n t o. none w n t;
+  partial = λ tree h spells. absurd (omega (arith, h, inside));
+  from = from;
+  to = to;
+  inside = λ w n t. absurd (none w n t);
+}
+
+-- the word there can't be taken
+pub fault_at_word : (text : List ℕ) (at place : ℕ) (s : m.State) → at < length text → Reached text at s → (w : Token) (n : ℕ) → IsToken (drop at text) w n → m.step s w at ≡ None
+    → at + n ≤ length text → at ≤ place → place ≤ at + n → IsFaultAt text place
+fault_at_word text at place s inside r w n is e fits from to = record {
+  words = r.words;
+  at = at;
+  front = r.front;
+  opens = reached_opens text at s r;
+  refused = λ v k t o. (let same = (one_word (drop at text) v w k n t is).0 in
+      reached_refused text at s r w e (subst (λ (u : Token). Opens (r.words ++ (u, at) ∷ [])) same o));
+  partial = λ tree h spells. absurd (omega (arith, h, inside));
+  from = from;
+  to = omega (arith, to, fits);
+  inside = λ v k t. (let same = (one_word (drop at text) v w k n t is).1 in omega (arith, to, same));
+}
+
+-- the text is over too early
+pub fault_at_end : (text : List ℕ) (at place : ℕ) (s : m.State) → Reached text at s → at ≤ length text → length text ≤ at → m.tree_at s ≡ None → place ≡ length text → IsFaultAt text place
+fault_at_end text at place s r l g e is = record {
+  words = r.words;
+  at = at;
+  front = r.front;
+  opens = reached_opens text at s r;
+  refused = λ w n t o. over w n t;
+  partial = λ tree h spells. reached_partial text at s r e tree spells;
+  from = omega (arith, is, l);
+  to = omega (arith, is);
+  inside = λ w n t. absurd (over w n t);
+}
+  where
+    over : (w : Token) (n : ℕ) → IsToken (drop at text) w n → ⊥
+    over w n t = no_word w n (subst (λ (l : List ℕ). IsToken l w n) (drop_all at text g) t)
+
+matches_last : (phase : m.Phase) (frames : List m.Frame) (words : List Placed) (operator : ℕ) (left : Tree) → phase ≡ m.wants_pattern operator left → BehindPhase phase frames words
+    → (before : List Placed) × (words ≡ before ++ (token.Matches, operator) ∷ [])
+matches_last phase frames words operator left e b = let k = subst (λ (p : m.Phase). BehindPhase p frames words) e b in (k.1, k.2)
+
+pub step_fault_is : (text : List ℕ) (at : ℕ) (s : m.State) → Follows text at s → at < length text → Reached text at s → (w : Token) (n : ℕ) → IsToken (drop at text) w n → (fault : ExprReadFault) → IsStepFault s.phase w at fault → IsParseFault text fault
+step_fault_is text at s follows inside r w n is (Syntax place) f = absurd f
+step_fault_is text at s follows inside r w n is Memory f = tt
+step_fault_is text at s follows inside r w n is (Pattern place) f =
+    let last = matches_last s.phase s.frames r.words f.2.0 f.2.1 f.2.2 r.behind in (
+      no_tree_with text at s follows inside f.2.0 f.2.1 f.2.2 w n is f.1.0 f.1.1 f.1.2,
+      subst (λ (p : ℕ). IsPatternFaultAt text p) (sym f.0) (record {
+        before = last.0;
+        matches = f.2.0;
+        front = subst (λ (l : List Placed). IsFront text 0 l at) last.1 r.front;
+        opens = subst Opens last.1 (reached_opens text at s r);
+        source = f.1.0;
+        n = n;
+        literal = subst (λ (u : Token). IsToken (drop at text) u n) f.1.1 is;
+        no_pattern = f.1.2;
+      }),
+    )

@@ -1,0 +1,43 @@
+-- Where a text stops being the front of an expression, word by word.
+use Rattle.std.specs.Prelude.{◌≡◌, ℕ, ◌+◌, ◌≤◌, false, List, [], ◌∷◌, ◌++◌, length, drop}
+use Rattle.expr_lang.specs.declared.token.Token.{Token}
+use Rattle.expr_lang.specs.declared.token.Token.TheVariants as token
+use Rattle.expr_lang.specs.Grammar.{Spells, Disjoined}
+use Rattle.expr_lang.specs.Patterns.{is_pattern}
+use Rattle.expr_lang.specs.Row.{Placed, IsToken, past_blanks}
+use Rattle.expr_lang.specs.Tree.{Tree}
+
+-- the text has these words from `at` on, and the next one would stand at `next`
+abbrev pub IsFront : List ℕ → ℕ → List Placed → ℕ → Type 0
+IsFront text at [] next = next ≡ past_blanks text at
+IsFront text at (placed ∷ row) next =
+    (placed.1 ≡ past_blanks text at) × ((n : ℕ) × IsToken (drop placed.1 text) placed.0 n × IsFront text (placed.1 + n) row next)
+
+-- some words can follow, so that all of them spell a tree
+abbrev pub Opens : List Placed → Type 0
+Opens words = (more : List Placed) × (tree : Tree) × Spells 32 Disjoined (words ++ more) tree
+
+-- the words before the place can go on, but not with the word that stands there, if one does; or the text is over, and
+-- they spell nothing yet
+pub record IsFaultAt (text : List ℕ) (place : ℕ) : Type 0 where
+  pub words : List Placed
+  pub at : ℕ
+  pub front : IsFront text 0 words at
+  pub opens : Opens words
+  pub refused : (word : Token) (n : ℕ) → IsToken (drop at text) word n → Opens (words ++ (word, at) ∷ []) → ⊥
+  pub partial : (tree : Tree) → length text ≤ at → Spells 32 Disjoined words tree → ⊥
+  -- the place is in that word, or behind it
+  pub from : at ≤ place
+  pub to : place ≤ length text
+  pub inside : (word : Token) (n : ℕ) → IsToken (drop at text) word n → place ≤ at + n
+
+-- a text behind `matches` that is no pattern
+pub record IsPatternFaultAt (text : List ℕ) (place : ℕ) : Type 0 where
+  pub before : List Placed
+  pub matches : ℕ
+  pub front : IsFront text 0 (before ++ (token.Matches, matches) ∷ []) place
+  pub opens : Opens (before ++ (token.Matches, matches) ∷ [])
+  pub source : List ℕ
+  pub n : ℕ
+  pub literal : IsToken (drop place text) (token.Text source) n
+  pub no_pattern : is_pattern source ≡ false
