@@ -1,11 +1,12 @@
 pub mod Filling
-pub mod SettingsText
 pub mod Looking
 pub mod Opening
-pub mod Progressing
 pub mod Polling
 pub mod Reporting
-pub mod Statuses
+pub mod Crossing
+pub mod Lines
+pub mod Settings
+pub mod Naming
 pub mod Controlling
 pub mod Following
 pub mod OneLine

@@ -1,5 +1,9 @@
 -- The calls on the tree, as what they take of the log file.
-use Rattle.std.proofs.Common.{◌≡◌, ℕ, ◌+◌, ◌-◌, ◌<◌, ◌≤◌, List, [], ◌++◌, length, take, drop, Bool, true, false, IsTrue, refl, inl, inr, sym, ◌∙◌, ap, subst, arith, length-append}
+use Rattle.std.specs.Prelude.{◌==◌, ◌||◌, ◌&&◌, not, codes}
+use Rattle.std.specs.List.{list_any, list_all}
+use Rattle.std.specs.Str.{bytes_eq}
+use Rattle.stanza_agent.specs.Task.{is_plain_name, is_special}
+use Rattle.std.proofs.Common.{◌≡◌, ℕ, ◌+◌, ◌-◌, ◌<◌, ◌≤◌, List, [], ◌∷◌, ◌++◌, length, take, drop, Bool, true, false, IsTrue, refl, inl, inr, sym, ◌∙◌, ap, subst, arith, length-append}
 use Rattle.std.specs.Prelude.{Option, None, Some, Ok, Err, Contains, ◌↔◌, is_some, if◌then◌else◌, Vec}
 use Rattle.std.specs.declared.alloc.Global.{Global}
 use Rattle.std.proofs.lemmas.List.{take-append-le, drop-take}
@@ -17,7 +21,6 @@ use Rattle.outside.specs.declared.tree.Listed.TheVariants.{Items}
 use Rattle.outside.proofs.Moving.{moves_none, moves_then, at_one_moment_weaker, moves_by_moment, grows_by}
 use Rattle.outside.proofs.Telling.{told_same, told_weaker, told_then}
 use Rattle.line_splitter.proofs.CutLemmas.{option_tells}
-use Rattle.stanza_agent.specs.LogLines.{log_path}
 use Rattle.stanza_agent.specs.Look.{log_item, HasNoLog, FindsLog, IsRead, ReadsFront}
 use Rattle.stanza_agent.specs.declared.log_file.Ending.TheVariants.{Whole, Failed, Shrunk}
 use Rattle.stanza_agent.proofs.Filling.{length_filled, fills_more}
@@ -25,23 +28,47 @@ use Rattle.stanza_agent.proofs.Filling.{length_filled, fills_more}
 kind_of_file : (all : Names) (path : List ℕ) (file : ℕ) → file_at all path ≡ Some file → kind_at all path ≡ Some File
 kind_of_file all path file named = ap (λ o. if is_some o then Some File else if is_folder all path then Some Folder else None) named
 
--- what isn't listed as a file has no file
-not_listed : (items : List Item) (history : History) → IsListing [] items history → (Contains items log_item → ⊥) → HasNoLog history
-not_listed items history listing absent = elim (option_tells (file_at (names history) log_path)) [
-  | inl none ↦ none
-  | inr some ↦ absurd (absent ((listing.each log_path File refl).0 (kind_of_file (names history) log_path some.0 some.1)))
-]
+no_or : (first rest : Bool) → (first || rest) ≡ false → rest ≡ false
+no_or true rest none = let never : true ≡ false = none in cc
+no_or false rest none = none
 
-finds : (items : Vec Item Global) (is_listed : Bool) (unnamed : ℕ) (old new : World) → IsTrue is_listed ↔ Contains items.items log_item → Lists [] (Ok (Items items unnamed)) old new → FindsLog is_listed unnamed old new
-finds items true unnamed old new listed lists = record { handles = lists.handles; failed_none = lists.history.0; history = moves_by_moment lists.history.1 }
-finds items false unnamed old new listed lists = record {
-  handles = lists.handles;
-  failed_none = lists.history.0;
-  history = at_one_moment_weaker lists.history.1 (λ history listing. not_listed items.items history listing (λ within. let never : false ≡ true = listed.1 within in cc));
-}
+-- a plain name is one component of a path
+no_slash : (path : List ℕ) → list_any is_special path ≡ false → list_all (λ byte. not (byte == 47)) path ≡ true
+no_slash [] none = refl
+no_slash (byte ∷ path) none = by (byte == 47) refl (no_slash path (no_or (is_special byte) (list_any is_special path) none))
+  where
+    by : (b : Bool) → (byte == 47) ≡ b → list_all (λ other. not (other == 47)) path ≡ true → (not (byte == 47) && list_all (λ other. not (other == 47)) path) ≡ true
+    by true is others = let never : true ≡ false = sym (ap (λ b. (b || byte == 42 || byte == 63 || byte == 91 || byte == 123 || byte == 92) || list_any is_special path) is) ∙ none in cc
+    by false is others = ap (λ b. not b && list_all (λ other. not (other == 47)) path) is ∙ others
 
-pub finds_told : (items : Vec Item Global) (is_listed : Bool) (unnamed : ℕ) (old new : Option World) → IsTrue is_listed ↔ Contains items.items log_item → Told (Lists [] (Ok (Items items unnamed))) old new → Told (FindsLog is_listed unnamed) old new
-finds_told items is_listed unnamed old new listed = told_weaker _ _ old new (λ x y. finds items is_listed unnamed x y listed)
+component_of_plain : (path : List ℕ) → IsTrue (is_plain_name path) → (not ((bytes_eq path [] || bytes_eq path (codes ".")) || bytes_eq path (codes "..")) && list_all (λ byte. not (byte == 47)) path) ≡ true
+component_of_plain path plain = by (bytes_eq path []) (bytes_eq path (codes ".")) (bytes_eq path (codes "..")) (list_any is_special path) refl plain
+  where
+    by : (a b c d : Bool) → list_any is_special path ≡ d → (if a then false else (if b then false else (if c then false else not d))) ≡ true → (not ((a || b) || c) && list_all (λ byte. not (byte == 47)) path) ≡ true
+    by false false false false none is = no_slash path none
+    by false false false true none is = let never : false ≡ true = is in cc
+    by false false true d none is = let never : false ≡ true = is in cc
+    by false true c d none is = let never : false ≡ true = is in cc
+    by true b c d none is = let never : false ≡ true = is in cc
+
+module _ (path : List ℕ) (plain : IsTrue (is_plain_name path)) where
+  -- what isn't listed as a file has no file
+  not_listed : (items : List Item) (history : History) → IsListing [] items history → (Contains items (log_item path) → ⊥) → HasNoLog path history
+  not_listed items history listing absent = elim (option_tells (file_at (names history) path)) [
+    | inl none ↦ none
+    | inr some ↦ absurd (absent ((listing.each path File (component_of_plain path plain)).0 (kind_of_file (names history) path some.0 some.1)))
+  ]
+
+  finds : (items : Vec Item Global) (is_listed : Bool) (unnamed : ℕ) (old new : World) → IsTrue is_listed ↔ Contains items.items (log_item path) → Lists [] (Ok (Items items unnamed)) old new → FindsLog path is_listed unnamed old new
+  finds items true unnamed old new listed lists = record { handles = lists.handles; failed_none = lists.history.0; history = moves_by_moment lists.history.1 }
+  finds items false unnamed old new listed lists = record {
+    handles = lists.handles;
+    failed_none = lists.history.0;
+    history = at_one_moment_weaker lists.history.1 (λ history listing. not_listed items.items history listing (λ within. let never : false ≡ true = listed.1 within in cc));
+  }
+
+  pub finds_told : (items : Vec Item Global) (is_listed : Bool) (unnamed : ℕ) (old new : Option World) → IsTrue is_listed ↔ Contains items.items (log_item path) → Told (Lists [] (Ok (Items items unnamed))) old new → Told (FindsLog path is_listed unnamed) old new
+  finds_told items is_listed unnamed old new listed = told_weaker _ _ old new (λ x y. finds items is_listed unnamed x y listed)
 
 -- the bytes at a later moment
 pub later_bytes : (old new : History) (file : ℕ) → Moves old new → (more : List ℕ) × (bytes new file ≡ bytes old file ++ more)

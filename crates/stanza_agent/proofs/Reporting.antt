@@ -1,5 +1,5 @@
 -- How a report grows by a line.
-use Rattle.std.proofs.Common.{ℕ, List, ◌++◌, length, sym, ◌∙◌, ap, arith}
+use Rattle.std.proofs.Common.{◌≡◌, ℕ, List, ◌++◌, length, sym, ◌∙◌, ap, arith, append_assoc}
 use Rattle.std.specs.Prelude.{Option, Result, Ok, Err, OnOk}
 use Rattle.std.proofs.lemmas.List.{take_all, append-nil}
 use Rattle.outside.specs.World.{Told}
@@ -21,3 +21,7 @@ grows_whole_told line (Err fault) old new told = tt
 
 pub grows_none_told : (line : List ℕ) (now : Option (List ℕ)) → Told (GrowsByPart line) now now
 grows_none_told line now = told_same (GrowsByPart line) now (λ text. (0, sym (append-nil text)))
+
+-- a text with a tail of three parts
+pub joined_tail : (text a b c : List ℕ) → text ++ (a ++ (b ++ c)) ≡ ((text ++ a) ++ b) ++ c
+joined_tail text a b c = sym (append_assoc (text ++ a) b c ∙ append_assoc text a (b ++ c))

@@ -3,15 +3,16 @@ use Rattle.std.specs.Prelude.{◌≡◌, ◌≤◌, length}
 use Rattle.outside.specs.Image.{Image}
 use Rattle.outside.specs.declared.disk.DiskFile.{DiskFile}
 use Rattle.outside.specs.declared.disk.DiskFile.TheVariants.{Output}
-use Rattle.stanza_agent.specs.LogLines.{entries, output_of}
+use Rattle.stanza_agent.specs.LogLines.{records, output_of}
+use Rattle.stanza_agent.specs.Task.{Task}
 use Rattle.stanza_agent.specs.Progress.{max_output}
 use Rattle.stanza_agent.specs.declared.log_file.LogFile.{LogFile}
 use Rattle.stanza_agent.specs.declared.summary.Summary.{Summary}
 
-pub record Appended {D : Type 0} (may_leave : D → Image DiskFile → Type 0) (log : LogFile) (disk : D) (summary : Summary) : Type 0 where
-  pub durable : (image : Image DiskFile) → may_leave disk image → image Output ≡ output_of log.bytes.items
-  pub lines : summary.lines ≡ length (entries log.bytes.items)
-  pub output : summary.output ≡ length (output_of log.bytes.items)
+pub record Appended {D : Type 0} (may_leave : D → Image DiskFile → Type 0) (task : Task) (log : LogFile) (disk : D) (summary : Summary) : Type 0 where
+  pub durable : (image : Image DiskFile) → may_leave disk image → image Output ≡ output_of task log.bytes.items
+  pub lines : summary.lines ≡ length (records task log.bytes.items)
+  pub output : summary.output ≡ length (output_of task log.bytes.items)
   pub within : summary.output ≤ max_output
   pub files : summary.files ≡ log.files
   pub gone : summary.gone ≡ log.gone

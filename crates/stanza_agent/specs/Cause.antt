@@ -3,12 +3,14 @@ use Rattle.std.specs.Prelude.{◌≡◌, ℕ, Result, Ok, Err}
 use Rattle.outside.specs.Count.{Rose}
 use Rattle.outside.specs.declared.fault.CallFault.{CallFault}
 use Rattle.stanza_agent.specs.declared.fault.Fault.{Fault}
-use Rattle.stanza_agent.specs.declared.fault.Fault.TheVariants.{Usage, Disk, Control, Memory, OutputFull, ControlLine, NotBuilt, ControlLong}
+use Rattle.stanza_agent.specs.declared.fault.Fault.TheVariants.{Usage, Settings, Build, Disk, Control, Memory, OutputFull, ControlLine, NotBuilt, ControlLong}
 
 -- The disk failed only where its count rose. Any other answer leaves the count as it was.
 abbrev pub HasDiskCause : {T : Type 0} → Result T Fault → ℕ → ℕ → Type 0
 HasDiskCause (Ok _) before after = after ≡ before
 HasDiskCause (Err Usage) before after = after ≡ before
+HasDiskCause (Err (Settings _)) before after = after ≡ before
+HasDiskCause (Err (Build _)) before after = after ≡ before
 HasDiskCause (Err Disk) before after = Rose before after
 HasDiskCause (Err Control) before after = after ≡ before
 HasDiskCause (Err Memory) before after = after ≡ before

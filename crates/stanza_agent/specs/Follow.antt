@@ -34,7 +34,7 @@ pub record StopsFirst {T D : Type 0} (tree tree_after : T) (disk disk_after : D)
 pub record StopsInPoll {T D K : Type 0} (world : T → Option World) (tree_faults : T → ℕ) (tells : D → Bool) (seen : D → Image DiskFile) (may_leave : D → Image DiskFile → Type 0) (moment : D → ℕ) (left_since : D → ℕ → Image DiskFile → Type 0) (written : K → Option (List ℕ)) (tree tree_after : T) (disk disk_after : D) (rest rest_after : Option (List ℕ)) (report report_after : K) (status : ℕ) : Type 0 where
   pub not_ended : status ≢ 0
   pub asked : Told (Asks max_control (Ok Poll)) rest rest_after
-  pub poll : OnceEnds world tree_faults tells seen may_leave moment left_since written tree tree_after disk disk_after report report_after status
+  pub poll : OnceEnds world tree_faults tells seen may_leave moment left_since tree tree_after disk disk_after (written report) (written report_after) status
 
 -- A poll was asked for first, and went through. Then the second request was served.
 pub record StopsSecond {T D K : Type 0} (world : T → Option World) (tree_faults : T → ℕ) (tells : D → Bool) (seen : D → Image DiskFile) (may_leave : D → Image DiskFile → Type 0) (moment : D → ℕ) (left_since : D → ℕ → Image DiskFile → Type 0) (written : K → Option (List ℕ)) (tree tree_after : T) (disk disk_after : D) (rest rest_after : Option (List ℕ)) (report report_after : K) (status : ℕ) : Type 0 where
@@ -43,7 +43,7 @@ pub record StopsSecond {T D K : Type 0} (world : T → Option World) (tree_fault
   pub first_asked : Told (Asks max_control (Ok Poll)) rest rest_between
   pub first_spent : Told (Spends max_control left_between) rest rest_between
   pub report_between : K
-  pub poll : OnceEnds world tree_faults tells seen may_leave moment left_since written tree tree_after disk disk_after report report_between 0
+  pub poll : OnceEnds world tree_faults tells seen may_leave moment left_since tree tree_after disk disk_after (written report) (written report_between) 0
   pub request : Result Request Failed
   pub asked : Told (Asks left_between request) rest_between rest_after
   pub stops : StopsAt request 2 status (written report_between) (written report_after)

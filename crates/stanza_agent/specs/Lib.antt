@@ -1,5 +1,9 @@
 pub mod Status
-pub mod Folder
+pub mod OwnNames
+pub mod Task
+pub mod Held
+pub mod Refusal
+pub mod PollFault
 pub mod SummaryLine
 pub mod Cause
 pub mod LogLines

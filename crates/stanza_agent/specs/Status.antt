@@ -1,10 +1,13 @@
 -- The exit statuses, and the line that tells each fault.
 use Rattle.std.specs.Prelude.{◌≡◌, ◌⊎◌, ℕ, List, ◌++◌, codes, decimal}
+use Rattle.stanza_agent.specs.Refusal.{settings_words, build_words}
 use Rattle.stanza_agent.specs.declared.fault.Fault.{Fault}
-use Rattle.stanza_agent.specs.declared.fault.Fault.TheVariants.{Usage, Disk, Control, Memory, OutputFull, ControlLine, NotBuilt, ControlLong}
+use Rattle.stanza_agent.specs.declared.fault.Fault.TheVariants.{Usage, Settings, Build, Disk, Control, Memory, OutputFull, ControlLine, NotBuilt, ControlLong}
 
 abbrev pub status_of : Fault → ℕ
 status_of Usage = 2
+status_of (Settings _) = 3
+status_of (Build _) = 3
 status_of Disk = 7
 status_of Control = 8
 status_of Memory = 10
@@ -16,6 +19,8 @@ status_of ControlLong = 15
 -- the line that reports a fault
 abbrev pub fault_line : Fault → List ℕ
 fault_line Usage = codes "fault 2 usage\n"
+fault_line (Settings fault) = codes "fault 3 " ++ settings_words fault ++ codes "\n"
+fault_line (Build fault) = codes "fault 3 " ++ build_words fault ++ codes "\n"
 fault_line Disk = codes "fault 7 disk\n"
 fault_line Memory = codes "fault 10 memory\n"
 fault_line (OutputFull length) = codes "fault 11 full " ++ decimal length ++ codes "\n"
@@ -26,7 +31,7 @@ fault_line ControlLong = codes "fault 15 control-long\n"
 
 -- the statuses that `once` has
 abbrev pub IsOnceStatus : ℕ → Type 0
-IsOnceStatus status = (status ≡ 0) ⊎ (status ≡ 7) ⊎ (status ≡ 9) ⊎ (status ≡ 10) ⊎ (status ≡ 11) ⊎ (status ≡ 14)
+IsOnceStatus status = (status ≡ 0) ⊎ (status ≡ 3) ⊎ (status ≡ 7) ⊎ (status ≡ 9) ⊎ (status ≡ 10) ⊎ (status ≡ 11) ⊎ (status ≡ 14)
 
 -- the statuses that there are
 abbrev pub IsStatus : ℕ → Type 0

@@ -34,7 +34,7 @@ pub fn run_agent<T: Tree, D: Disk, S: Source, K: Sink>(
 
     // One poll: its course, status by status.
     ensures once { IsTrue (is_once words.now)
-        → OnceEnds T.world T.faults D.tells D.seen D.may_leave D.moment D.left_since K.written tree.old tree.new disk.old disk.new report.old report.new result }
+        → OnceEnds T.world T.faults D.tells D.seen D.may_leave D.moment D.left_since tree.old tree.new disk.old disk.new (K.written report.old) (K.written report.new) result }
 
     // Polls as control lines ask for them.
     ensures follow { IsTrue (is_follow words.now)
@@ -59,7 +59,7 @@ pub fn run_agent<T: Tree, D: Disk, S: Source, K: Sink>(
 
     // At each moment only the output may be others than it was.
     ensures begun { Passes D.may_leave D.moment D.left_since Same disk.old disk.new
-        ⊎ Begins T.world T.faults D.may_leave D.moment D.left_since tree.old tree.new disk.old disk.new }
+        ⊎ Begins T.world T.faults D.tells D.seen D.may_leave D.moment D.left_since tree.old tree.new disk.old disk.new }
 {
     match command_of(words) {
         Some(Command::Once) => once(alloc, tree, disk, report),

@@ -1,49 +1,74 @@
-// Whether the state folder is one that the agent can serve by now.
-ghost use Rattle.std.specs.Prelude.{◌≡◌, ◌≢◌, ◌⊎◌, ◌≤◌, [], length, take, min, ◌↔◌, Err, IsTrue, OnOk, IfOk, IfErr};
+// What the state folder asks for.
+ghost use Rattle.std.specs.Prelude.{◌≡◌, ◌⊎◌, ℕ, ◌≤◌, List, length, take, Ok, Err, IsTrue, IfOk, IfErr};
 ghost use Rattle.outside.specs.Count.{HasOneCause};
 ghost use Rattle.outside.specs.Crash.{Passes};
 ghost use Rattle.outside.specs.Image.{Same};
+ghost use Rattle.settings_text.specs.Grammar as grammar;
+ghost use Rattle.settings_text.specs.SettingsData.{settings_data};
+ghost use Rattle.settings_text.specs.declared.fault.SettingsFault.{SettingsFault};
 ghost use Rattle.stanza_agent.specs.Cause.{HasDiskCause};
-ghost use Rattle.stanza_agent.specs.Folder.{known_settings};
+ghost use Rattle.stanza_agent.specs.Held.{Holds};
 
 use crate::fault::Fault;
 use outside::{Disk, DiskFile, Failed};
+use settings_text::laws::settings_keep_limits;
+use settings_text::{MAX_LENGTH, Settings, SettingsFault, read};
+use std::alloc::Global;
 
-/// The one text of settings that the agent knows by now.
-const KNOWN_SETTINGS: &[u8; 46] = b"{\"include\":[\"app.log\"],\"start_at\":\"beginning\"}";
+/// What the state folder has before a poll.
+#[derive(Debug, Drop)]
+pub struct Folder {
+    /// The bytes of the settings file, none where it is longer than settings may be.
+    pub settings: Vec<u8>,
+    /// The length of the settings file.
+    pub settings_length: u64,
+    /// The length of the output.
+    pub output_length: u64,
+}
 
-/// Fails with `NotBuilt` unless the settings are the known ones and the output is empty.
-pub fn check_folder<D: Disk>(disk: &mut D) -> Result<(), Fault>
-    ensures ok { OnOk result (IsTrue (D.tells disk.old)
-        → (D.seen disk.old DiskFile.Settings ≡ known_settings) × (D.seen disk.old DiskFile.Output ≡ [])) }
-    ensures not_built { result ≡ Err Fault.NotBuilt → IsTrue (D.tells disk.old)
-        → (D.seen disk.old DiskFile.Settings ≢ known_settings) ⊎ (D.seen disk.old DiskFile.Output ≢ []) }
-    ensures faults { IfErr result (λ fault. (fault ≡ Fault.Disk) ⊎ (fault ≡ Fault.NotBuilt)) }
+/// Looks at the settings file and the output. A file that isn't there has length 0.
+pub fn read_folder<D: Disk>(alloc: Global, disk: &mut D) -> Result<Folder, Fault>
+    ensures ok { IfOk result (λ folder. IsTrue (D.tells disk.old) → Holds folder (D.seen disk.old)) }
+    ensures faults { IfErr result (λ fault. (fault ≡ Fault.Disk) ⊎ (fault ≡ Fault.Memory)) }
     ensures cause { HasDiskCause result (D.faults disk.old) (D.faults disk.new) }
     ensures seen { D.seen disk.new ≡ D.seen disk.old }
     ensures tells { D.tells disk.new ≡ D.tells disk.old }
     ensures crash { Passes D.may_leave D.moment D.left_since Same disk.old disk.new }
 {
-    if !has_known_settings(disk)? || disk.length(DiskFile::Output)? != 0 {
-        return Err(Fault::NotBuilt);
-    }
-    Ok(())
+    let settings_length = disk.length(DiskFile::Settings)?;
+    let output_length = disk.length(DiskFile::Output)?;
+    let size = if settings_length > MAX_LENGTH as u64 {
+        0
+    } else {
+        settings_length as usize
+    };
+    let mut settings = vec![in alloc; 0; size]?;
+    let count = fill(disk, DiskFile::Settings, &mut settings)?;
+    settings.truncate(count);
+    Ok(Folder {
+        settings,
+        settings_length,
+        output_length,
+    })
 }
 
-fn has_known_settings<D: Disk>(disk: &mut D) -> Result<bool, Failed>
-    ensures same { IfOk result (λ known. IsTrue (D.tells disk.old)
-        → (IsTrue known ↔ (D.seen disk.old DiskFile.Settings ≡ known_settings))) }
-    ensures cause { HasOneCause result (D.faults disk.old) (D.faults disk.new) }
-    ensures seen { D.seen disk.new ≡ D.seen disk.old }
-    ensures tells { D.tells disk.new ≡ D.tells disk.old }
-    ensures crash { Passes D.may_leave D.moment D.left_since Same disk.old disk.new }
-{
-    if disk.length(DiskFile::Settings)? != KNOWN_SETTINGS.len() as u64 {
-        return Ok(false);
+impl Folder {
+    /// What the settings say, or their refusal.
+    pub fn settings(&self, alloc: Global) -> Result<Settings, Fault>
+        ensures ok { IfOk result (λ settings. (seen : _) → Holds self.now seen
+            → grammar.settings (seen DiskFile.Settings) ≡ Ok (settings_data settings)) }
+        ensures limits { IfOk result (λ settings. (64 ≤ settings.max_log_size) × (length settings.operators.items ≤ 64)) }
+        ensures refused { IfErr result (λ fault. (fault ≡ Fault.Memory) ⊎ ((refused : SettingsFault) × (fault ≡ Fault.Settings refused)
+            × ((seen : _) → Holds self.now seen → grammar.settings (seen DiskFile.Settings) ≡ Err refused))) }
+    {
+        settings_keep_limits();
+        if self.settings_length > MAX_LENGTH as u64 {
+            return Err(Fault::Settings(SettingsFault::TooLong {
+                length: self.settings_length,
+            }));
+        }
+        Ok(read(alloc, &self.settings)?)
     }
-    let mut text = [0; KNOWN_SETTINGS.len()];
-    let count = fill(disk, DiskFile::Settings, &mut text)?;
-    Ok(text[..count] == KNOWN_SETTINGS[..])
 }
 
 // Fills `buf` from the front of the file, as far as the file goes.

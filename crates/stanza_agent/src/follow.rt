@@ -38,7 +38,7 @@ pub fn follow<T: Tree, D: Disk, S: Source, K: Sink>(
     ensures taken { Told (TakesAtMost max_control) (S.rest control.old) (S.rest control.new) }
     ensures control_long { result ≡ 15 → Told (TakesExactly max_control) (S.rest control.old) (S.rest control.new) }
     ensures begun { Passes D.may_leave D.moment D.left_since Same disk.old disk.new
-        ⊎ Begins T.world T.faults D.may_leave D.moment D.left_since tree.old tree.new disk.old disk.new }
+        ⊎ Begins T.world T.faults D.tells D.seen D.may_leave D.moment D.left_since tree.old tree.new disk.old disk.new }
 {
     let mut left = MAX_CONTROL;
     let first = next_request(control, &mut left);

@@ -1,16 +1,14 @@
 // What is taken of the one log file.
-ghost use Rattle.std.specs.Prelude.{◌≡◌, ◌⊎◌, ◌≤◌, ◌<◌, ◌↔◌, length, take, Contains, Err, IsTrue, IfOk, IfErr};
+ghost use Rattle.std.specs.Prelude.{◌≡◌, ◌⊎◌, ◌≤◌, ◌<◌, ◌↔◌, [], length, take, Contains, Err, IsTrue, IfOk, IfErr};
 ghost use Rattle.outside.specs.Count.{NeverFalls};
 ghost use Rattle.outside.specs.World.{Told};
-ghost use Rattle.stanza_agent.specs.LogLines.{log_path};
+ghost use Rattle.stanza_agent.specs.Task.{is_plain_name};
 ghost use Rattle.stanza_agent.specs.Look.{Stood, log_item, TakesLog, log_counts, FindsLongLog, FindsLog, ReadsFront, HasEndCause, TakesOpened};
 
 use crate::fault::Fault;
+use crate::own_names::is_own_name;
 use outside::{CallFault, Failed, Handle, Item, Kind, Listed, Opened, Tree};
 use std::alloc::Global;
-
-/// The name of the log file, in the working folder.
-pub const LOG_PATH: &str = "app.log";
 
 /// The most bytes that a poll takes from a file: 16 MiB.
 pub const MAX_LOG_BYTES: u64 = 16_777_216;
@@ -41,60 +39,61 @@ enum Ending {
 }
 
 /// Lists the working folder, and where it has the log file as a plain file, takes its bytes up to the length that
-/// it has when it is opened. Fails with `NotBuilt` where that is more than `MAX_LOG_BYTES`.
-pub fn read_log<T: Tree>(alloc: Global, tree: &mut T) -> Result<LogFile, Fault>
+/// it has when it is opened. The agent's own files are passed over. Fails with `NotBuilt` where that is more than `MAX_LOG_BYTES`.
+pub fn read_log<T: Tree>(alloc: Global, tree: &mut T, path: &str) -> Result<LogFile, Fault>
+    requires { IsTrue (is_plain_name path.now) }
     ensures ok { IfOk result (λ log. Stood (T.faults tree.old) (T.faults tree.new)
-        → Told (TakesLog log.bytes.items (log_counts log)) (T.world tree.old) (T.world tree.new)) }
+        → Told (TakesLog path.now log.bytes.items (log_counts log)) (T.world tree.old) (T.world tree.new)) }
+    ensures within { IfOk result (λ log. length log.bytes.items ≤ 16777216) }
     ensures too_long { result ≡ Err Fault.NotBuilt → Stood (T.faults tree.old) (T.faults tree.new)
-        → Told FindsLongLog (T.world tree.old) (T.world tree.new) }
+        → Told (FindsLongLog path.now) (T.world tree.old) (T.world tree.new) }
     ensures faults { IfErr result (λ fault. (fault ≡ Fault.Memory) ⊎ (fault ≡ Fault.NotBuilt)) }
     ensures count { NeverFalls (T.faults tree.old) (T.faults tree.new) }
 {
-    let (is_listed, failed) = find_log(alloc, tree)?;
-    if !is_listed {
-        return Ok(LogFile {
-            bytes: Vec::new(alloc),
-            files: 0,
-            gone: 0,
-            failed,
-            shrunk: 0,
-        });
+    if is_own_name(path) {
+        return Ok(no_log(alloc, 0, 0));
     }
-    let mut log = open_log(alloc, tree)?;
+    let (is_listed, failed) = find_log(alloc, tree, path)?;
+    if !is_listed {
+        return Ok(no_log(alloc, 0, failed));
+    }
+    let mut log = open_log(alloc, tree, path)?;
     log.failed = log.failed.saturating_add(failed);
     Ok(log)
 }
 
 // Whether the working folder has the log file as a plain file, and how many calls and names failed.
-fn find_log<T: Tree>(alloc: Global, tree: &mut T) -> Result<(bool, u32), Fault>
+fn find_log<T: Tree>(alloc: Global, tree: &mut T, path: &str) -> Result<(bool, u32), Fault>
+    requires { IsTrue (is_plain_name path.now) }
     ensures ok { IfOk result (λ found. Stood (T.faults tree.old) (T.faults tree.new)
-        → Told (FindsLog found.0 found.1) (T.world tree.old) (T.world tree.new)) }
+        → Told (FindsLog path.now found.0 found.1) (T.world tree.old) (T.world tree.new)) }
     ensures faults { IfErr result (λ fault. fault ≡ Fault.Memory) }
     ensures count { NeverFalls (T.faults tree.old) (T.faults tree.new) }
 {
     match tree.list(alloc, "") {
-        Ok(Listed::Items { items, unnamed }) => Ok((has_log(&items), unnamed)),
+        Ok(Listed::Items { items, unnamed }) => Ok((has_log(&items, path), unnamed)),
         Ok(Listed::Gone) => Ok((false, 0)),
         Err(CallFault::Failed) => Ok((false, 1)),
         Err(CallFault::Memory) => Err(Fault::Memory),
     }
 }
 
-fn has_log(items: &[Item]) -> bool
-    ensures { IsTrue result ↔ Contains items.now log_item }
+fn has_log(items: &[Item], path: &str) -> bool
+    ensures { IsTrue result ↔ Contains items.now (log_item path.now) }
 {
-    items.iter().any(|item| item.kind == Kind::File && item.name.as_str() == LOG_PATH)
+    items.iter().any(|item| item.kind == Kind::File && item.name.as_str() == path)
 }
 
-fn open_log<T: Tree>(alloc: Global, tree: &mut T) -> Result<LogFile, Fault>
+fn open_log<T: Tree>(alloc: Global, tree: &mut T, path: &str) -> Result<LogFile, Fault>
     ensures ok { IfOk result (λ log. Stood (T.faults tree.old) (T.faults tree.new)
-        → Told (TakesLog log.bytes.items (log_counts log)) (T.world tree.old) (T.world tree.new)) }
+        → Told (TakesLog path.now log.bytes.items (log_counts log)) (T.world tree.old) (T.world tree.new)) }
+    ensures within { IfOk result (λ log. length log.bytes.items ≤ 16777216) }
     ensures too_long { result ≡ Err Fault.NotBuilt → Stood (T.faults tree.old) (T.faults tree.new)
-        → Told FindsLongLog (T.world tree.old) (T.world tree.new) }
+        → Told (FindsLongLog path.now) (T.world tree.old) (T.world tree.new) }
     ensures faults { IfErr result (λ fault. (fault ≡ Fault.Memory) ⊎ (fault ≡ Fault.NotBuilt)) }
     ensures count { NeverFalls (T.faults tree.old) (T.faults tree.new) }
 {
-    let (gone, failed) = match tree.open_file(alloc, LOG_PATH) {
+    let (gone, failed) = match tree.open_file(alloc, path) {
         Ok(Opened::File { handle, size }) => {
             let log = take_opened(alloc, tree, handle, size);
             tree.close(handle);
@@ -104,13 +103,21 @@ fn open_log<T: Tree>(alloc: Global, tree: &mut T) -> Result<LogFile, Fault>
         Err(CallFault::Failed) => (0, 1),
         Err(CallFault::Memory) => return Err(Fault::Memory),
     };
-    Ok(LogFile {
+    Ok(no_log(alloc, gone, failed))
+}
+
+// Nothing was taken.
+fn no_log(alloc: Global, gone: u32, failed: u32) -> LogFile
+    ensures bytes { result.bytes.items ≡ [] }
+    ensures counts { log_counts result ≡ record { files = 0; gone = gone; failed = failed; shrunk = 0 } }
+{
+    LogFile {
         bytes: Vec::new(alloc),
         files: 0,
         gone,
         failed,
         shrunk: 0,
-    })
+    }
 }
 
 // Takes the first `size` bytes of an open file.
@@ -122,7 +129,8 @@ fn take_opened<T: Tree>(
 ) -> Result<LogFile, Fault>
     ensures ok { IfOk result (λ log. Stood (T.faults tree.old) (T.faults tree.new)
         → Told (TakesOpened handle.0 size log) (T.world tree.old) (T.world tree.new)) }
-    ensures within { IfOk result (λ log. size ≤ MAX_LOG_BYTES) }
+    ensures within { IfOk result (λ log. length log.bytes.items ≤ 16777216) }
+    ensures size { IfOk result (λ log. size ≤ MAX_LOG_BYTES) }
     ensures too_long { result ≡ Err Fault.NotBuilt → (MAX_LOG_BYTES < size) × (tree.new ≡ tree.old) }
     ensures faults { IfErr result (λ fault. (fault ≡ Fault.Memory) ⊎ (fault ≡ Fault.NotBuilt)) }
     ensures count { NeverFalls (T.faults tree.old) (T.faults tree.new) }

@@ -12,10 +12,12 @@ mod follow;
 mod log_file;
 mod once;
 mod output;
+mod own_names;
 mod poll;
 mod real;
 mod report;
 mod summary;
+mod task;
 #[cfg(test)]
 mod tests;
 

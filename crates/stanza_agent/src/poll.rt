@@ -1,47 +1,83 @@
 // One poll of the one log file.
-ghost use Rattle.std.specs.Prelude.{◌≡◌, ◌⊎◌, ℕ, ◌↔◌, Err, IsTrue, IfOk, IfErr, OnOk};
+ghost use Rattle.std.specs.Prelude.{◌≡◌, ◌⊎◌, ℕ, ◌≤◌, ◌↔◌, [], length, Err, Ok, IsTrue, IfOk, IfErr, OnOk};
 ghost use Rattle.outside.specs.Count.{NeverFalls};
 ghost use Rattle.outside.specs.Crash.{Passes};
-ghost use Rattle.outside.specs.Image.{Same};
+ghost use Rattle.outside.specs.Image.{AtFile, Same, Torn};
 ghost use Rattle.outside.specs.World.{Told};
+ghost use Rattle.pipeline.specs.Parts.{settings_of, network};
+ghost use Rattle.settings_text.specs.SettingsData.{settings_data};
+ghost use Rattle.stanza_agent.specs.Appended.{Appended};
 ghost use Rattle.stanza_agent.specs.Cause.{HasDiskCause};
+ghost use Rattle.stanza_agent.specs.LogLines.{output_of};
 ghost use Rattle.stanza_agent.specs.Look.{Stood};
-ghost use Rattle.stanza_agent.specs.Status.{status_of, IsOnceStatus};
-ghost use Rattle.stanza_agent.specs.Polled.{IsCompressed, IsKnownFolder, IsOtherFolder, FindsOtherLog, Polled, OverFull, Begins};
+ghost use Rattle.stanza_agent.specs.PollFault.{IsPollFault, IsJobFault, ComesFirst};
+ghost use Rattle.stanza_agent.specs.Polled.{IsCompressed, Polled, Begins, SeesLog};
+ghost use Rattle.stanza_agent.specs.Progress.{PassesLimit};
+ghost use Rattle.stanza_agent.specs.Task.{Task, IsAsked, is_plain_name};
 
 use crate::fault::Fault;
-use crate::folder::check_folder;
+use crate::folder::read_folder;
 use crate::log_file::{LogFile, read_log};
 use crate::output::write_lines;
 use crate::summary::Summary;
+use crate::task::one_log;
+use entry_model::Text;
 use outside::{Disk, DiskFile, Tree};
+use pipeline::Pipeline;
+use settings_text::Settings;
 use std::alloc::Global;
 
-/// Appends the lines of the log file to the empty output, and makes them last.
+/// Puts the lines of the log file that the settings ask for into the empty output, and makes them last.
 pub fn poll_once<T: Tree, D: Disk>(
     alloc: Global,
     tree: &mut T,
     disk: &mut D,
 ) -> Result<Summary, Fault>
-    ensures ok { IfOk result (Polled T.world T.faults D.may_leave tree.old tree.new disk.new) }
-    ensures folder { OnOk result (IsTrue (D.tells disk.old) → IsKnownFolder (D.seen disk.old)) }
-    ensures full { (size : ℕ) → result ≡ Err (Fault.OutputFull size)
-        → OverFull T.world T.faults tree.old tree.new size × (IsTrue (D.tells disk.old) → IsKnownFolder (D.seen disk.old)) }
-    ensures not_built { result ≡ Err Fault.NotBuilt → IsTrue (D.tells disk.old) → Stood (T.faults tree.old) (T.faults tree.new)
-        → IsOtherFolder (D.seen disk.old) ⊎ Told FindsOtherLog (T.world tree.old) (T.world tree.new) }
-    ensures untouched { result ≡ Err Fault.NotBuilt → Passes D.may_leave D.moment D.left_since Same disk.old disk.new }
-    ensures faults { IfErr result (λ fault. IsOnceStatus (status_of fault)) }
+    ensures ok { IfOk result (Polled T.world T.faults D.tells D.seen D.may_leave tree.old tree.new disk.old disk.new) }
+    ensures fault { IfErr result (IsPollFault T.world T.faults D.tells D.seen tree.old tree.new disk.old) }
+    ensures untouched { IfErr result (λ fault. ComesFirst fault → Passes D.may_leave D.moment D.left_since Same disk.old disk.new) }
     ensures cause { HasDiskCause result (D.faults disk.old) (D.faults disk.new) }
     ensures count { NeverFalls (T.faults tree.old) (T.faults tree.new) }
     ensures begun { Passes D.may_leave D.moment D.left_since Same disk.old disk.new
-        ⊎ Begins T.world T.faults D.may_leave D.moment D.left_since tree.old tree.new disk.old disk.new }
+        ⊎ Begins T.world T.faults D.tells D.seen D.may_leave D.moment D.left_since tree.old tree.new disk.old disk.new }
 {
-    check_folder(disk)?;
-    let log = read_log(alloc, tree)?;
+    let job = read_job(alloc, disk)?;
+    let log = read_log(alloc, tree, job.path.as_str())?;
     if is_compressed(&log.bytes) {
         return Err(Fault::NotBuilt);
     }
-    append_log(alloc, &log, disk)
+    let pipeline = Pipeline::build(alloc, job.settings)?;
+    append_log(alloc, disk, &pipeline, job.path.as_str(), &log)
+}
+
+// What the state folder asks for.
+#[derive(Drop)]
+struct Job {
+    settings: Settings,
+    path: Text,
+    ghost max_log_size: { 64 ≤ settings.max_log_size },
+    ghost few_operators: { length settings.operators.items ≤ 64 },
+    ghost plain: { IsTrue (is_plain_name path) },
+}
+
+fn read_job<D: Disk>(alloc: Global, disk: &mut D) -> Result<Job, Fault>
+    ensures ok { IfOk result (λ job. IsTrue (D.tells disk.old) → IsAsked (D.seen disk.old) (settings_data job.settings) job.path) }
+    ensures fault { IfErr result (IsJobFault (D.tells disk.old) (D.seen disk.old)) }
+    ensures cause { HasDiskCause result (D.faults disk.old) (D.faults disk.new) }
+    ensures seen { D.seen disk.new ≡ D.seen disk.old }
+    ensures tells { D.tells disk.new ≡ D.tells disk.old }
+    ensures crash { Passes D.may_leave D.moment D.left_since Same disk.old disk.new }
+{
+    let folder = read_folder(alloc, disk)?;
+    let settings = folder.settings(alloc)?;
+    let Some(path) = one_log(&settings) else {
+        return Err(Fault::NotBuilt);
+    };
+    if folder.output_length != 0 {
+        return Err(Fault::NotBuilt);
+    }
+    let path = Text::from_str(alloc, path.as_str())?;
+    Ok(Job { settings, path })
 }
 
 // Whether a file begins as gzip's do.
@@ -51,23 +87,26 @@ fn is_compressed(content: &[u8]) -> bool
     content.len() >= 2 && content[0] == 0x1f && content[1] == 0x8b
 }
 
-ghost use Rattle.std.specs.Prelude.{[], length};
-ghost use Rattle.outside.specs.Image.{AtFile, Torn};
-ghost use Rattle.stanza_agent.specs.LogLines.{output_of};
-ghost use Rattle.stanza_agent.specs.Progress.{PassesLimit};
-ghost use Rattle.stanza_agent.specs.Appended.{Appended};
-
-// Appends the lines of what was taken, and makes them last.
-fn append_log<D: Disk>(alloc: Global, log: &LogFile, disk: &mut D) -> Result<Summary, Fault>
-    requires { IsTrue (D.tells disk.old) → D.seen disk.old DiskFile.Output ≡ [] }
-    ensures ok { IfOk result (Appended D.may_leave log.now disk.new) }
-    ensures full { (size : ℕ) → result ≡ Err (Fault.OutputFull size) → PassesLimit log.now.bytes.items size }
+// Puts the lines of what was taken into the output, and makes them last.
+fn append_log<D: Disk>(
+    alloc: Global,
+    disk: &mut D,
+    pipeline: &Pipeline,
+    path: &str,
+    log: &LogFile,
+) -> Result<Summary, Fault>
+    requires empty { IsTrue (D.tells disk.old) → D.seen disk.old DiskFile.Output ≡ [] }
+    requires few { length log.now.bytes.items ≤ 16777216 }
+    ensures ok { IfOk result (Appended D.may_leave record { said = settings_of pipeline.now; path = path.now; network = network pipeline.now } log.now disk.new) }
+    ensures full { (size : ℕ) → result ≡ Err (Fault.OutputFull size)
+        → PassesLimit record { said = settings_of pipeline.now; path = path.now; network = network pipeline.now } log.now.bytes.items size }
+    ensures unwritten { (size : ℕ) → result ≡ Err (Fault.OutputFull size) → disk.new ≡ disk.old }
     ensures faults { IfErr result (λ fault. (fault ≡ Fault.Memory) ⊎ (fault ≡ Fault.Disk) ⊎ ((size : ℕ) × (fault ≡ Fault.OutputFull size))) }
     ensures cause { HasDiskCause result (D.faults disk.old) (D.faults disk.new) }
     ensures crash { Passes D.may_leave D.moment D.left_since
-        (AtFile DiskFile.Output (Torn 0 (length (output_of log.now.bytes.items)))) disk.old disk.new }
+        (AtFile DiskFile.Output (Torn 0 (length (output_of record { said = settings_of pipeline.now; path = path.now; network = network pipeline.now } log.now.bytes.items)))) disk.old disk.new }
 {
-    let written = write_lines(alloc, disk, &log.bytes)?;
+    let written = write_lines(alloc, disk, pipeline, path, &log.bytes)?;
     disk.sync(alloc, DiskFile::Output)?;
     Ok(Summary {
         files: log.files,

@@ -1,13 +1,18 @@
 // What a command reports.
-ghost use Rattle.std.specs.Prelude.{◌≡◌, OnOk};
+ghost use Rattle.std.specs.Prelude.{◌≡◌, ◌++◌, codes, decimal, OnOk, IfOk, string_bytes};
 ghost use Rattle.outside.specs.Count.{HasCause};
 ghost use Rattle.outside.specs.World.{Told};
+ghost use Rattle.stanza_agent.specs.Refusal.{settings_words, build_words, cause_words, graph_words};
 ghost use Rattle.stanza_agent.specs.Report.{Appends, GrowsByPart};
 ghost use Rattle.stanza_agent.specs.Status.{fault_line, status_of};
 
 use crate::fault::Fault;
+use graph_core::GraphFault;
+use op_kinds::OpCause;
 use outside::{CallFault, Sink};
-use std::alloc::Global;
+use pipeline::BuildFault;
+use settings_text::SettingsFault;
+use std::alloc::{AllocError, Global};
 
 /// Reports a line, which has its LF.
 pub fn report_line<K: Sink>(alloc: Global, line: &str, report: &mut K) -> Result<(), CallFault>
@@ -19,26 +24,85 @@ pub fn report_line<K: Sink>(alloc: Global, line: &str, report: &mut K) -> Result
 }
 
 /// Reports a fault by its line.
-pub fn report_fault<K: Sink>(alloc: Global, fault: Fault, report: &mut K) -> Result<(), CallFault>
-    ensures ok { OnOk result (Told (Appends (fault_line fault)) (K.written report.old) (K.written report.new)) }
-    ensures part { Told (GrowsByPart (fault_line fault)) (K.written report.old) (K.written report.new) }
+pub fn report_fault<K: Sink>(alloc: Global, fault: &Fault, report: &mut K) -> Result<(), CallFault>
+    ensures ok { OnOk result (Told (Appends (fault_line fault.now)) (K.written report.old) (K.written report.new)) }
+    ensures part { Told (GrowsByPart (fault_line fault.now)) (K.written report.old) (K.written report.new) }
     ensures cause { HasCause result (K.faults report.old) (K.faults report.new) }
 {
+    // Where memory ran out, there may be none for a line.
+    if let Fault::Memory = fault {
+        return report_line(alloc, "fault 10 memory\n", report);
+    }
+    let line = line_of(alloc, fault)?;
+    report_line(alloc, line.as_str(), report)
+}
+
+fn line_of(alloc: Global, fault: &Fault) -> Result<String, AllocError>
+    ensures { IfOk result (λ line. string_bytes line ≡ fault_line fault.now) }
+{
     match fault {
-        Fault::Usage => report_line(alloc, "fault 2 usage\n", report),
-        Fault::Disk => report_line(alloc, "fault 7 disk\n", report),
-        Fault::Control => report_line(alloc, "fault 8 control\n", report),
-        Fault::Memory => report_line(alloc, "fault 10 memory\n", report),
-        Fault::OutputFull { length } => {
-            let line = format!(in alloc; "fault 11 full {length}\n")?;
-            report_line(alloc, line.as_str(), report)
+        Fault::Usage => String::from_str(alloc, "fault 2 usage\n"),
+        Fault::Settings(refused) => settings_line(alloc, refused),
+        Fault::Build(refused) => build_line(alloc, refused),
+        Fault::Disk => String::from_str(alloc, "fault 7 disk\n"),
+        Fault::Control => String::from_str(alloc, "fault 8 control\n"),
+        Fault::Memory => String::from_str(alloc, "fault 10 memory\n"),
+        Fault::OutputFull { length } => format!(in alloc; "fault 11 full {length}\n"),
+        Fault::ControlLine { number } => format!(in alloc; "fault 12 control-line {number}\n"),
+        Fault::NotBuilt => String::from_str(alloc, "fault 14 not-built\n"),
+        Fault::ControlLong => String::from_str(alloc, "fault 15 control-long\n"),
+    }
+}
+
+fn settings_line(alloc: Global, refused: &SettingsFault) -> Result<String, AllocError>
+    ensures { IfOk result (λ line. string_bytes line ≡ codes "fault 3 " ++ settings_words refused.now ++ codes "\n") }
+{
+    match refused {
+        SettingsFault::NotJson => String::from_str(alloc, "fault 3 settings not-json\n"),
+        SettingsFault::Missing { key } => format!(in alloc; "fault 3 settings missing {key}\n"),
+        SettingsFault::Unknown { key } => format!(in alloc; "fault 3 settings unknown {key}\n"),
+        SettingsFault::WrongKind { key } => {
+            format!(in alloc; "fault 3 settings wrong-kind {key}\n")
         }
-        Fault::ControlLine { number } => {
-            let line = format!(in alloc; "fault 12 control-line {number}\n")?;
-            report_line(alloc, line.as_str(), report)
+        SettingsFault::OutOfRange { key } => {
+            format!(in alloc; "fault 3 settings out-of-range {key}\n")
         }
-        Fault::NotBuilt => report_line(alloc, "fault 14 not-built\n", report),
-        Fault::ControlLong => report_line(alloc, "fault 15 control-long\n", report),
+        SettingsFault::Fraction { key } => format!(in alloc; "fault 3 settings fraction {key}\n"),
+        SettingsFault::TooLong { length } => {
+            format!(in alloc; "fault 3 settings too-long {length}\n")
+        }
+        SettingsFault::Memory => String::from_str(alloc, "fault 3 settings memory\n"),
+    }
+}
+
+fn build_line(alloc: Global, refused: &BuildFault) -> Result<String, AllocError>
+    ensures { IfOk result (λ line. string_bytes line ≡ codes "fault 3 " ++ build_words refused.now ++ codes "\n") }
+{
+    match refused {
+        BuildFault::SameId { place } => format!(in alloc; "fault 3 same-id {place}\n"),
+        BuildFault::Operator { place, cause } => operator_line(alloc, *place, *cause),
+        BuildFault::Graph(fault) => graph_line(alloc, *fault),
+        BuildFault::Memory => String::from_str(alloc, "fault 3 memory\n"),
+    }
+}
+
+fn operator_line(alloc: Global, place: u64, cause: OpCause) -> Result<String, AllocError>
+    ensures { IfOk result (λ line. string_bytes line ≡ codes "fault 3 operator " ++ decimal place ++ codes " " ++ cause_words cause ++ codes "\n") }
+{
+    match cause {
+        OpCause::Path => format!(in alloc; "fault 3 operator {place} path\n"),
+        OpCause::Memory => format!(in alloc; "fault 3 operator {place} memory\n"),
+    }
+}
+
+fn graph_line(alloc: Global, fault: GraphFault) -> Result<String, AllocError>
+    ensures { IfOk result (λ line. string_bytes line ≡ codes "fault 3 " ++ graph_words fault ++ codes "\n") }
+{
+    match fault {
+        GraphFault::NoSuchNode { node } => format!(in alloc; "fault 3 graph no-such-node {node}\n"),
+        GraphFault::Cycle { node } => format!(in alloc; "fault 3 graph cycle {node}\n"),
+        GraphFault::TooManyPaths => String::from_str(alloc, "fault 3 graph too-many-paths\n"),
+        GraphFault::Memory => String::from_str(alloc, "fault 3 graph memory\n"),
     }
 }
 
@@ -47,6 +111,6 @@ pub fn refuse<K: Sink>(alloc: Global, fault: Fault, report: &mut K) -> u8
     ensures status { result ≡ status_of fault }
     ensures told { Told (GrowsByPart (fault_line fault)) (K.written report.old) (K.written report.new) }
 {
-    let _ = report_fault(alloc, fault, report);
+    let _ = report_fault(alloc, &fault, report);
     fault.status()
 }

@@ -114,7 +114,11 @@ impl OwnFile {
         file.read_at(buf, offset)
     }
 
+    // To write nothing makes no file.
     fn write(&mut self, rt: &HostRuntime, offset: u64, bytes: &[u8]) -> io::Result<()> {
+        if bytes.is_empty() {
+            return Ok(());
+        }
         self.make(rt)?;
         match &self.file {
             Some(file) => file.write_all_at(bytes, offset),

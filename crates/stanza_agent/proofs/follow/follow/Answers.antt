@@ -2,7 +2,6 @@ use Rattle.std.proofs.Common.{◌≡◌, inl, inr, rules, subst}
 use Rattle.std.specs.Prelude.{◌≢◌, Ok}
 use Rattle.outside.specs.World.{Told}
 use Rattle.stanza_agent.specs.Control.{max_control, Asks}
-use Rattle.stanza_agent.specs.Once.{OnceEnds}
 use Rattle.stanza_agent.specs.declared.control.Request.TheVariants.{Poll}
 use Rattle.stanza_agent.proofs.Controlling.{at_most_told, spends_both_told, exactly_both_told, takes_exactly_told}
 use Rattle.stanza_agent.proofs.Following.{exhausted_of_status}
@@ -12,50 +11,23 @@ pub returns-then-status-ne0-clause-course : goal.returns-then-status-ne0-clause-
 returns-then-status-ne0-clause-course g c =
     let first : c.next_request-first.result ≡ Ok Poll = search rules in
     let not_ended : c.once-status.result ≢ 0 = search rules in
-    let once = c.once-status.ensures in
     inr (inl (record {
       not_ended = not_ended;
       asked = subst (λ request. Told (Asks max_control request) (g.S.Source.rest c.args.control.now) (g.S.Source.rest c.next_request-first.new.control)) first c.next_request-first.ensures.asks;
-      poll = record {
-        answers = once.answers;
-        polled = once.polled;
-        looked = once.looked;
-        disk_told = once.disk_told;
-        unreported = once.unreported;
-        memory = once.memory;
-        full = once.full;
-        not_built = once.not_built;
-        built = once.built;
-        not_built_told = once.not_built_told;
-        untouched = once.untouched;
-      };
+      poll = c.once-status.ensures.ends;
     }))
 
 pub returns-clause-course : goal.returns-clause-course
 returns-clause-course g c =
     let first : c.next_request-first.result ≡ Ok Poll = search rules in
     let went : c.once-status.result ≡ 0 = search rules in
-    let once = c.once-status.ensures in
-    let ends : OnceEnds g.T.Tree.world g.T.Tree.faults g.D.Disk.tells g.D.Disk.seen g.D.Disk.may_leave g.D.Disk.moment g.D.Disk.left_since g.K.Sink.written c.args.tree.now c.once-status.new.tree c.args.disk.now c.once-status.new.disk c.args.report.now c.once-status.new.report c.once-status.result = record {
-      answers = once.answers;
-      polled = once.polled;
-      looked = once.looked;
-      disk_told = once.disk_told;
-      unreported = once.unreported;
-      memory = once.memory;
-      full = once.full;
-      not_built = once.not_built;
-      built = once.built;
-      not_built_told = once.not_built_told;
-      untouched = once.untouched;
-    } in
     inr (inr (record {
       rest_between = g.S.Source.rest c.next_request-first.new.control;
       left_between = c.next_request-first.new.left;
       first_asked = subst (λ request. Told (Asks max_control request) (g.S.Source.rest c.args.control.now) (g.S.Source.rest c.next_request-first.new.control)) first c.next_request-first.ensures.asks;
       first_spent = c.next_request-first.ensures.spends;
       report_between = c.once-status.new.report;
-      poll = rw went at ends;
+      poll = rw went at c.once-status.ensures.ends;
       request = c.next_request-second.result;
       asked = c.next_request-second.ensures.asks;
       stops = c.stop-2.ensures.stops;

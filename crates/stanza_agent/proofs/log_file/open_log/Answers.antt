@@ -9,7 +9,7 @@ returns-in-Ok-File-clause-ok g c =
     let closed = never_falls_same c.close.ensures.cause in
     IfOk-weaker c.take_opened-log.result _ _
     (λ log taken stood.
-    takes_told c.in-Ok-File.handle.0 c.in-Ok-File.size log _ _ _ _ (rw c.in-Ok-File.field-0-is at c.in-Ok-File.ensures.history)
+    takes_told c.args.path.now c.in-Ok-File.handle.0 c.in-Ok-File.size log _ _ _ _ (rw c.in-Ok-File.field-0-is at c.in-Ok-File.ensures.history)
     (taken (λ rose. stood (rose_between opened rose closed)))
     c.close.ensures.history)
     c.take_opened-log.ensures.ok
@@ -17,4 +17,4 @@ returns-in-Ok-File-clause-ok g c =
 pub returns-in-Ok-File-clause-too_long : goal.returns-in-Ok-File-clause-too_long
 returns-in-Ok-File-clause-too_long g c = λ is stood.
     let long = c.take_opened-log.ensures.too_long is in
-    long_log_told c.in-Ok-File.handle.0 c.in-Ok-File.size _ _ _ long.0 (rw c.in-Ok-File.field-0-is at c.in-Ok-File.ensures.history) (rw long.1 at c.close.ensures.history)
+    long_log_told c.args.path.now c.in-Ok-File.handle.0 c.in-Ok-File.size _ _ _ long.0 (rw c.in-Ok-File.field-0-is at c.in-Ok-File.ensures.history) (rw long.1 at c.close.ensures.history)

@@ -11,11 +11,11 @@ returns-in_err-log-clause-too_long g c = λ is stood.
     let made = err_from_is_err_and c.from_residual-in_err-log.result c.from_residual-in_err-log.ensures.1 in
     let fault : c.in_err-log.field-0.0 ≡ NotBuilt = cc (made.1, made.2, is) in
     let found = c.in_ok-is_listed.ensures.ok (λ rose. stood (rose_between (never_falls_none _) rose c.in_err-log.ensures.count)) in
-    listed_long_told c.in_ok-is_listed.failed _ _ _ (rw c.if-not-is_listed.false at found)
+    listed_long_told c.args.path.now c.in_ok-is_listed.failed _ _ _ (rw c.if-not-is_listed.false at found)
     (c.in_err-log.ensures.too_long (ap Err fault) (λ rose. stood (rose_between c.in_ok-is_listed.ensures.count rose (never_falls_none _))))
 
 pub returns-clause-ok : goal.returns-clause-ok
 returns-clause-ok g c = λ stood.
     let found = c.in_ok-is_listed.ensures.ok (λ rose. stood (rose_between (never_falls_none _) rose c.in_ok-log.ensures.count)) in
-    listed_then_told c.in_ok-log.log c.in_ok-is_listed.failed c.saturating_add.result _ _ _ (λ log_none found_none. omega (arith, c.saturating_add.ensures)) (rw c.if-not-is_listed.false at found)
+    listed_then_told c.args.path.now c.in_ok-log.log c.in_ok-is_listed.failed c.saturating_add.result _ _ _ (λ log_none found_none. omega (arith, c.saturating_add.ensures)) (rw c.if-not-is_listed.false at found)
     (c.in_ok-log.ensures.ok (λ rose. stood (rose_between c.in_ok-is_listed.ensures.count rose (never_falls_none _))))

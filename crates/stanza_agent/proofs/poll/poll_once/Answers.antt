@@ -3,21 +3,41 @@ use Rattle.std.specs.Prelude.{Err}
 use Rattle.std.proofs.lemmas.Result.{err_from_is_err_and, IfOk-weaker}
 use Rattle.outside.specs.declared.disk.DiskFile.TheVariants.{Output}
 use Rattle.outside.proofs.Tearing.{tearing_after_same}
-use Rattle.stanza_agent.specs.declared.fault.Fault.TheVariants.{NotBuilt}
+use Rattle.pipeline.specs.Parts.{settings_of, network}
+use Rattle.settings_text.specs.SettingsData.{settings_data}
 use Rattle.stanza_agent.specs.Appended.{Appended}
-use Rattle.stanza_agent.proofs.Polling.{takes_content_told, takes_counted}
+use Rattle.stanza_agent.specs.Look.{log_counts}
+use Rattle.stanza_agent.specs.Task.{Task}
+use Rattle.stanza_agent.proofs.Polling.{takes_content_told, takes_counted, log_fault, compressed_fault, build_refused, write_fault, task_asked, err_caused}
 use Rattle.stanza_agent.proofs.poll.poll_once.Goals as goal
 
-pub returns-in_err-check_folder-clause-not_built : goal.returns-in_err-check_folder-clause-not_built
-returns-in_err-check_folder-clause-not_built g c = λ is told stood.
-    let made = err_from_is_err_and c.from_residual.result c.from_residual.ensures.1 in
-    let fault : c.in_err-check_folder.field-0.0 ≡ NotBuilt = cc (made.1, made.2, is) in
-    inl (c.in_err-check_folder.ensures.not_built (ap Err fault) told)
+pub returns-in_err-log-clause-fault : goal.returns-in_err-log-clause-fault
+returns-in_err-log-clause-fault g c =
+    let p = err_from_is_err_and c.from_residual-in_err-log.result c.from_residual-in_err-log.ensures.1 in
+    rw (p.1, p.2) (log_fault g.T.Tree.world g.T.Tree.faults g.D.Disk.tells g.D.Disk.seen c.args.tree.now c.read_log.new.tree c.args.disk.now (settings_data c.in_ok-job.job.settings) c.in_ok-job.job.path c.in_ok-job.ensures.ok c.in_err-log.field-0.0 c.in_err-log.ensures.faults (λ is. rw c.as_str.ensures at (c.in_err-log.ensures.too_long (ap Err is))))
+
+pub returns-then-is_compressed-clause-fault : goal.returns-then-is_compressed-clause-fault
+returns-then-is_compressed-clause-fault g c =
+    compressed_fault g.T.Tree.world g.T.Tree.faults g.D.Disk.tells g.D.Disk.seen c.args.tree.now c.read_log.new.tree c.args.disk.now (settings_data c.in_ok-job.job.settings) c.in_ok-job.job.path c.in_ok-job.ensures.ok
+    c.in_ok-log.log.bytes.items (log_counts c.in_ok-log.log) ((rw c.deref.ensures.value at c.is_compressed.ensures).0 c.if-is_compressed.true) (rw c.as_str.ensures at c.in_ok-log.ensures.ok)
+
+pub returns-in_err-pipeline-clause-fault : goal.returns-in_err-pipeline-clause-fault
+returns-in_err-pipeline-clause-fault g c =
+    let p = err_from_is_err_and c.from_residual-in_err-pipeline.result c.from_residual-in_err-pipeline.ensures.1 in
+    rw (p.1, p.2) (build_refused g.T.Tree.world g.T.Tree.faults g.D.Disk.tells g.D.Disk.seen c.args.tree.now c.read_log.new.tree c.args.disk.now (settings_data c.in_ok-job.job.settings) c.in_ok-job.job.path c.in_ok-job.ensures.ok
+    c.in_ok-log.log.bytes.items
+    (λ compressed. let yes = (rw c.deref.ensures.value at c.is_compressed.ensures).1 compressed in let never : true ≡ false = sym yes ∙ c.if-is_compressed.false in cc)
+    c.in_ok-log.ensures.within
+    (λ stood. takes_content_told c.in_ok-job.job.path _ _ _ _ (rw c.as_str.ensures at (c.in_ok-log.ensures.ok stood)))
+    c.in_err-pipeline.field-0.0 c.in_err-pipeline.ensures.fault)
 
 pub returns-clause-ok : goal.returns-clause-ok
 returns-clause-ok g c =
-    IfOk-weaker c.append_log.result (Appended g.D.Disk.may_leave c.in_ok-log.log c.append_log.new.disk) _
+    let task : Task = record { said = settings_of c.in_ok-pipeline.pipeline; path = c.as_str-2.result.now; network = network c.in_ok-pipeline.pipeline } in
+    IfOk-weaker c.append_log.result (Appended g.D.Disk.may_leave task c.in_ok-log.log c.append_log.new.disk) _
     (λ summary appended. record {
+      task = task;
+      asked = task_asked _ _ _ _ _ _ c.in_ok-pipeline.ensures.settings (rw (sym c.as_str-2.ensures) at c.in_ok-job.ensures.ok) c.in_ok-pipeline.ensures.network;
       content = c.in_ok-log.log.bytes.items;
       durable = appended.durable;
       lines = appended.lines;
@@ -28,23 +48,24 @@ returns-clause-ok g c =
       full_none = appended.full_none;
       deep_none = appended.deep_none;
       plain = λ compressed. let yes = (rw c.deref.ensures.value at c.is_compressed.ensures).1 compressed in let never : true ≡ false = sym yes ∙ c.if-is_compressed.false in cc;
-      taken = λ stood. takes_counted _ _ appended (c.in_ok-log.ensures.ok stood);
+      taken = λ stood. takes_counted c.as_str-2.result.now _ _ appended (rw (c.as_str.ensures ∙ sym c.as_str-2.ensures) at (c.in_ok-log.ensures.ok stood));
     })
     c.append_log.ensures.ok
 
-pub returns-clause-full : goal.returns-clause-full
-returns-clause-full g c = λ size is. (
-  record {
-    content = c.in_ok-log.log.bytes.items;
-    limit = c.append_log.ensures.full size is;
-    taken = λ stood. takes_content_told _ _ _ _ (c.in_ok-log.ensures.ok stood);
-  },
-  λ told. let known = c.in_ok-check_folder.ensures.ok told in record { settings = known.0; output = known.1 },
-)
+pub returns-clause-fault : goal.returns-clause-fault
+returns-clause-fault g c =
+    let task : Task = record { said = settings_of c.in_ok-pipeline.pipeline; path = c.as_str-2.result.now; network = network c.in_ok-pipeline.pipeline } in
+    err_caused c.append_log.result c.append_log.ensures.faults (λ fault is given.
+    write_fault g.T.Tree.world g.T.Tree.faults g.D.Disk.tells g.D.Disk.seen c.args.tree.now c.read_log.new.tree c.args.disk.now (settings_data c.in_ok-job.job.settings) c.in_ok-job.job.path c.in_ok-job.ensures.ok
+    task c.in_ok-log.log.bytes.items (task_asked _ _ _ _ _ _ c.in_ok-pipeline.ensures.settings (rw (sym c.as_str-2.ensures) at c.in_ok-job.ensures.ok) c.in_ok-pipeline.ensures.network)
+    (λ stood. takes_content_told c.as_str-2.result.now _ _ _ _ (rw (c.as_str.ensures ∙ sym c.as_str-2.ensures) at (c.in_ok-log.ensures.ok stood)))
+    fault given (λ size full. c.append_log.ensures.full size (is ∙ ap Err full)))
 
 pub returns-clause-begun : goal.returns-clause-begun
 returns-clause-begun g c = inr (record {
+  task = record { said = settings_of c.in_ok-pipeline.pipeline; path = c.as_str-2.result.now; network = network c.in_ok-pipeline.pipeline };
+  asked = task_asked _ _ _ _ _ _ c.in_ok-pipeline.ensures.settings (rw (sym c.as_str-2.ensures) at c.in_ok-job.ensures.ok) c.in_ok-pipeline.ensures.network;
   content = c.in_ok-log.log.bytes.items;
-  crash = tearing_after_same Output _ c.check_folder.ensures.crash c.append_log.ensures.crash;
-  taken = λ stood. takes_content_told _ _ _ _ (c.in_ok-log.ensures.ok stood);
+  crash = tearing_after_same Output _ c.read_job.ensures.crash c.append_log.ensures.crash;
+  taken = λ stood. takes_content_told c.as_str-2.result.now _ _ _ _ (rw (c.as_str.ensures ∙ sym c.as_str-2.ensures) at (c.in_ok-log.ensures.ok stood));
 })

@@ -1,0 +1,56 @@
+-- Why settings are refused, and the words that tell it.
+use Rattle.std.specs.Prelude.{◌≡◌, ℕ, List, [], ◌++◌, codes, decimal, Ok, Err}
+use Rattle.graph_core.specs.declared.GraphFault.{GraphFault}
+use Rattle.graph_core.specs.declared.GraphFault.TheVariants as graph
+use Rattle.op_kinds.specs.declared.compiling.OpCause.{OpCause}
+use Rattle.op_kinds.specs.declared.compiling.OpCause.TheVariants as cause
+use Rattle.pipeline.specs.declared.fault.BuildFault.{BuildFault}
+use Rattle.pipeline.specs.declared.fault.BuildFault.TheVariants as build
+use Rattle.settings_text.specs.declared.fault.SettingsFault.{SettingsFault}
+use Rattle.settings_text.specs.declared.fault.SettingsFault.TheVariants as read
+use Rattle.stanza_agent.specs.declared.fault.Fault.{Fault}
+use Rattle.stanza_agent.specs.declared.fault.Fault.TheVariants.{Settings, Build, Memory}
+
+abbrev pub settings_fault : SettingsFault → Fault
+settings_fault read.NotJson = Settings read.NotJson
+settings_fault (read.Missing key) = Settings (read.Missing key)
+settings_fault (read.Unknown key) = Settings (read.Unknown key)
+settings_fault (read.WrongKind key) = Settings (read.WrongKind key)
+settings_fault (read.OutOfRange key) = Settings (read.OutOfRange key)
+settings_fault (read.Fraction key) = Settings (read.Fraction key)
+settings_fault (read.TooLong length) = Settings (read.TooLong length)
+settings_fault read.Memory = Memory
+
+abbrev pub build_fault : BuildFault → Fault
+build_fault (build.SameId place) = Build (build.SameId place)
+build_fault (build.Operator place found) = Build (build.Operator place found)
+build_fault (build.Graph fault) = Build (build.Graph fault)
+build_fault build.Memory = Memory
+
+-- a key stands in them as it is written
+abbrev pub settings_words : SettingsFault → List ℕ
+settings_words read.NotJson = codes "settings not-json"
+settings_words (read.Missing key) = codes "settings missing " ++ key
+settings_words (read.Unknown key) = codes "settings unknown " ++ key
+settings_words (read.WrongKind key) = codes "settings wrong-kind " ++ key
+settings_words (read.OutOfRange key) = codes "settings out-of-range " ++ key
+settings_words (read.Fraction key) = codes "settings fraction " ++ key
+settings_words (read.TooLong length) = codes "settings too-long " ++ decimal length
+settings_words read.Memory = codes "settings memory"
+
+abbrev pub cause_words : OpCause → List ℕ
+cause_words cause.Path = codes "path"
+cause_words cause.Memory = codes "memory"
+
+abbrev pub graph_words : GraphFault → List ℕ
+graph_words (graph.NoSuchNode node) = codes "graph no-such-node " ++ decimal node
+graph_words (graph.Cycle node) = codes "graph cycle " ++ decimal node
+graph_words graph.TooManyPaths = codes "graph too-many-paths"
+graph_words graph.Memory = codes "graph memory"
+
+-- places and nodes count from 0
+abbrev pub build_words : BuildFault → List ℕ
+build_words (build.SameId place) = codes "same-id " ++ decimal place
+build_words (build.Operator place found) = codes "operator " ++ decimal place ++ codes " " ++ cause_words found
+build_words (build.Graph fault) = graph_words fault
+build_words build.Memory = codes "memory"
