@@ -1,11 +1,14 @@
 -- Which operator the settings of one ask for.
-use Rattle.std.specs.Prelude.{◌≡◌, ◌⊎◌, ⊤, ℕ, List, [], ◌∷◌, Bool, true, false}
+use Rattle.std.specs.Prelude.{◌≡◌, ◌⊎◌, ⊤, ℕ, List, [], ◌∷◌, Bool, true, false, Option, None, Some, is_some}
+use Rattle.expr_lang.specs.Grammar.{IsExpression}
+use Rattle.expr_lang.specs.Outcome.{IsNoExpression}
+use Rattle.expr_lang.specs.Tree.{Tree}
 use Rattle.field_ops.specs.Rows.{member_of}
 use Rattle.field_paths.specs.PathText.{IsPathText}
 use Rattle.field_paths.specs.Place.{Place}
 use Rattle.op_kinds.specs.Operator as op
-use Rattle.op_kinds.specs.Operator.{Act, Operator}
-use Rattle.settings_text.specs.SettingsData.{KindData, OperatorData}
+use Rattle.op_kinds.specs.Operator.{Act, Operator, conditional, router}
+use Rattle.settings_text.specs.SettingsData.{KindData, OperatorData, RouteData}
 use Rattle.settings_text.specs.SettingsData as kind
 use Rattle.settings_text.specs.declared.settings.OnError.{OnError}
 use Rattle.settings_text.specs.declared.settings.OnError.TheVariants.{Send, Drop, SendQuiet, DropQuiet}
@@ -17,6 +20,11 @@ drops SendQuiet = false
 drops Drop = true
 drops DropQuiet = true
 
+-- whether an entry is dropped on an error; noop passes all on, whatever its condition says
+abbrev pub drops_faulty : KindData → OnError → Bool
+drops_faulty kind.noop on_error = false
+drops_faulty _ on_error = drops on_error
+
 -- each text is that of the place
 abbrev pub ArePathTexts : List (List ℕ) → List Place → Type 0
 ArePathTexts [] [] = ⊤
@@ -24,7 +32,7 @@ ArePathTexts [] (place ∷ places) = ⊥
 ArePathTexts (text ∷ texts) [] = ⊥
 ArePathTexts (text ∷ texts) (place ∷ places) = IsPathText text place × ArePathTexts texts places
 
--- the operator does what the settings say
+-- an operator with one output does what the settings say
 abbrev pub Does : KindData → Act → Type 0
 Does kind.noop done = done ≡ op.noop
 Does (kind.move from to) done = (source : Place) × (target : Place) × IsPathText from source × IsPathText to target × (done ≡ op.move source target)
@@ -33,10 +41,32 @@ Does (kind.add field value) done = (place : Place) × IsPathText field place × 
 Does (kind.remove field) done = (place : Place) × IsPathText field place × (done ≡ op.remove place)
 Does (kind.flatten field) done = (parent : Place) × (name : List ℕ) × IsPathText field (member_of parent name) × (done ≡ op.flatten parent name)
 Does (kind.retain fields) done = (places : List Place) × ArePathTexts fields places × (done ≡ op.retain places)
+Does (kind.filter expr) done = (tree : Tree) × IsExpression expr tree × (done ≡ op.filter tree)
+Does (kind.router routes default) done = ⊥
 
-pub record IsCompiledTo (spec : OperatorData) (operator : Operator) : Type 0 where
-  pub does : Does spec.kind operator.act
-  pub on_error : operator.drops_faulty ≡ drops spec.on_error
+abbrev pub IsCondition : Option (List ℕ) → Option Tree → Type 0
+IsCondition None None = ⊤
+IsCondition None (Some tree) = ⊥
+IsCondition (Some text) None = ⊥
+IsCondition (Some text) (Some tree) = IsExpression text tree
+
+-- each route's expression is that of the tree
+abbrev pub AreExpressions : List RouteData → List Tree → Type 0
+AreExpressions [] [] = ⊤
+AreExpressions [] (tree ∷ trees) = ⊥
+AreExpressions (route ∷ routes) [] = ⊥
+AreExpressions (route ∷ routes) (tree ∷ trees) = IsExpression route.expr tree × AreExpressions routes trees
+
+-- a router routes as the settings say
+abbrev pub Routes : KindData → List Tree → Bool → Type 0
+Routes (kind.router routes default) trees has_default = AreExpressions routes trees × (has_default ≡ is_some default)
+Routes _ trees has_default = ⊥
+
+abbrev pub IsCompiledTo : OperatorData → Operator → Type 0
+IsCompiledTo spec (conditional condition act drops) = IsCondition spec.condition condition × Does spec.kind act × (drops ≡ drops_faulty spec.kind spec.on_error)
+IsCompiledTo spec (router trees has_default) = Routes spec.kind trees has_default
+
+-- ---- why there is none
 
 abbrev pub IsNoPath : List ℕ → Type 0
 IsNoPath text = (place : Place) → IsPathText text place → ⊥
@@ -58,3 +88,24 @@ HasFaultyPath (kind.add field value) = IsNoPath field
 HasFaultyPath (kind.remove field) = IsNoPath field
 HasFaultyPath (kind.flatten field) = IsNoMember field
 HasFaultyPath (kind.retain fields) = IsSomeNoPath fields
+HasFaultyPath (kind.filter expr) = ⊥
+HasFaultyPath (kind.router routes default) = ⊥
+
+abbrev pub IsFaultyCondition : Option (List ℕ) → Type 0
+IsFaultyCondition None = ⊥
+IsFaultyCondition (Some text) = IsNoExpression text
+
+abbrev pub IsSomeNoExpression : List RouteData → Type 0
+IsSomeNoExpression [] = ⊥
+IsSomeNoExpression (route ∷ routes) = IsNoExpression route.expr ⊎ IsSomeNoExpression routes
+
+-- some expression among an operator's own keys can't be read
+abbrev pub HasFaultyOwnExpr : KindData → Type 0
+HasFaultyOwnExpr (kind.filter expr) = IsNoExpression expr
+HasFaultyOwnExpr (kind.router routes default) = IsSomeNoExpression routes
+HasFaultyOwnExpr _ = ⊥
+
+-- every path of the operator can be read, and some expression can't: one of its own, or its condition
+pub record HasOnlyFaultyExpr (spec : OperatorData) : Type 0 where
+  pub paths : HasFaultyPath spec.kind → ⊥
+  pub expr : HasFaultyOwnExpr spec.kind ⊎ IsFaultyCondition spec.condition

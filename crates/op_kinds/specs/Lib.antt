@@ -1,6 +1,9 @@
 pub mod Operator
 pub mod Compiled
 pub mod AnyOpView
+pub mod WorkView
 pub mod Causes
 pub mod Ports
+pub mod PlaceCode
+pub mod TreeCode
 pub mod Code

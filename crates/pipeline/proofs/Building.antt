@@ -1,19 +1,24 @@
 -- The nodes of operators, one after another.
-use Rattle.std.proofs.Common.{◌≡◌, ◌⊎◌, ℕ, zero, suc, ◌+◌, ◌<◌, ◌≤◌, List, [], ◌∷◌, ◌++◌, length, map, take, get_or, Bool, true, false, inl, inr, refl, sym, ◌∙◌, ap, subst, arith, length-append, rules}
-use Rattle.std.proofs.lemmas.List.{map-append, length-map}
-use Rattle.std.proofs.lemmas.Option.{slice_get_within, slice_get-get_or, get_or_from_slice_get, slice_get-map, slice_get_read}
-use Rattle.std.proofs.Math.Seq.{get_or-append_seam, take-suc}
+use Rattle.std.proofs.Common.{◌≡◌, ◌⊎◌, ℕ, zero, suc, ◌+◌, ◌<◌, ◌≤◌, List, [], ◌∷◌, ◌++◌, length, map, take, get_or, Bool, true, false, inl, inr, refl, sym, ◌∙◌, ap, subst, arith, add-one, rules}
+use Rattle.std.proofs.lemmas.List.{map-append, take_all}
+use Rattle.std.proofs.lemmas.Option.{slice_get_within, get_or_from_slice_get, slice_get-map, slice_get_read}
+use Rattle.std.proofs.Math.Seq.{take-suc}
 use Rattle.std.specs.List.{list_any}
-use Rattle.std.specs.Prelude.{Option, Some, None, option_map, slice_get, not, if◌then◌else◌}
+use Rattle.std.specs.Prelude.{Some, option_map, slice_get, not, if◌then◌else◌}
 use Rattle.std.specs.Str.{bytes_eq}
 use Rattle.std.proofs.Common.{Bor}
 use Rattle.std.proofs.lemmas.Bool.{cases_lt}
 use Rattle.settings_text.proofs.Lists.{among}
 use Rattle.graph_core.specs.declared.NodeSpec.{NodeSpec}
-use Rattle.graph_core.specs.declared.Target.{Target}
 use Rattle.op_kinds.specs.Operator.{Operator}
-use Rattle.pipeline.specs.BuildFaults.{IsFineAt, ids_before}
-use Rattle.pipeline.specs.Wired.{IsNode, AreFirstNodes, AreNodes, target_from}
+use Rattle.pipeline.specs.BuildFaults.{IsFineAt, IsBuildFault, ids_before, refusal}
+use Rattle.op_kinds.specs.Compiled.{IsCompiledTo}
+use Rattle.op_kinds.specs.declared.compiling.OpCause.{OpCause}
+use Rattle.op_kinds.specs.declared.compiling.OpCause.TheVariants as cause
+use Rattle.op_kinds.specs.Causes.{Caused}
+use Rattle.op_kinds.specs.Compiled.{HasFaultyPath, HasOnlyFaultyExpr}
+use Rattle.pipeline.specs.Listed.{AreFirstOperators, AreOperatorsFrom}
+use Rattle.pipeline.specs.Wired.{IsNode, AreFirstNodes, ids_of}
 use Rattle.settings_text.specs.Ids.{is_taken}
 use Rattle.settings_text.specs.SettingsData.{OperatorData, operator_data}
 use Rattle.settings_text.specs.declared.settings.OpSpec.{OpSpec}
@@ -31,21 +36,36 @@ last_or_before (z ∷ xs) y x (suc k) at = elim (last_or_before xs y x k at) [
   | inr last ↦ inr (ap suc last.0, last.1)
 ]
 
-pub one_more_node : (operators : List OperatorData) (nodes : List (NodeSpec Operator)) (spec : OperatorData) (node : NodeSpec Operator) → AreFirstNodes operators nodes → slice_get operators (length nodes) ≡ Some spec → IsNode spec (target_from (length operators) (length nodes)) node → AreFirstNodes operators (nodes ++ node ∷ [])
-one_more_node operators nodes spec node so_far there next place other made at is =
-    elim (last_or_before nodes node made place is) [
+pub one_more_operator : (specs : List OperatorData) (operators new : List Operator) (spec : OperatorData) (operator : Operator) (count : ℕ)
+    → length operators ≡ count → AreFirstOperators specs operators → slice_get specs count ≡ Some spec → IsCompiledTo spec operator → new ≡ operators ++ operator ∷ [] → AreFirstOperators specs new
+one_more_operator specs operators new spec operator count many so_far there next is place other made at of_new =
+    elim (last_or_before operators operator made place (rw is at of_new)) [
       | inl before ↦ so_far place other made at before
-      | inr last ↦ subst (λ n. IsNode other (target_from (length operators) place) n) (sym last.1) (subst (λ k. IsNode other (target_from (length operators) k) node) (sym last.0) (subst (λ s. IsNode s (target_from (length operators) (length nodes)) node) (same other last.0 at) next))
+      | inr last ↦ subst (λ o. IsCompiledTo other o) (sym last.1) (subst (λ s. IsCompiledTo s operator) (same (last.0 ∙ many) at) next)
     ]
   where
-    same : (other : OperatorData) {place : ℕ} → place ≡ length nodes → slice_get operators place ≡ Some other → spec ≡ other
-    same other e at = search (rules, there, at, e)
+    same : place ≡ count → slice_get specs place ≡ Some other → spec ≡ other
+    same e here = search (rules, there, here, e)
 
-pub one_more_built : (specs : List OpSpec) (place : ℕ) (spec : OpSpec) (nodes new : List (NodeSpec Operator)) (node : NodeSpec Operator) (to : Target) → length nodes ≡ place → AreFirstNodes (map operator_data specs) nodes → slice_get (map operator_data specs) place ≡ Some (operator_data spec) → to ≡ target_from (length specs) place → IsNode (operator_data spec) to node → new ≡ nodes ++ node ∷ [] → AreFirstNodes (map operator_data specs) new
-one_more_built specs place spec nodes new node to many so_far there leads next is =
-    let here : slice_get (map operator_data specs) (length nodes) ≡ Some (operator_data spec) = ap (slice_get (map operator_data specs)) many ∙ there in
-    let target : to ≡ target_from (length (map operator_data specs)) (length nodes) = leads ∙ ap (target_from (length specs)) (sym many) ∙ ap (λ n. target_from n (length nodes)) (sym (length-map specs operator_data)) in
-    subst (AreFirstNodes (map operator_data specs)) (sym is) (one_more_node (map operator_data specs) nodes (operator_data spec) node so_far here (subst (λ t. IsNode (operator_data spec) t node) target next))
+pub one_more_node : (operators : List OperatorData) (nodes new : List (NodeSpec Operator)) (spec : OperatorData) (node : NodeSpec Operator)
+    → AreFirstNodes operators nodes → slice_get operators (length nodes) ≡ Some spec → IsNode operators (length nodes) spec node → new ≡ nodes ++ node ∷ [] → AreFirstNodes operators new
+one_more_node operators nodes new spec node so_far there next is place other made at of_new =
+    elim (last_or_before nodes node made place (rw is at of_new)) [
+      | inl before ↦ so_far place other made at before
+      | inr last ↦ subst (λ n. IsNode operators place other n) (sym last.1) (subst (λ k. IsNode operators k other node) (sym last.0) (subst (λ s. IsNode operators (length nodes) s node) (same last.0 at) next))
+    ]
+  where
+    same : place ≡ length nodes → slice_get operators place ≡ Some other → spec ≡ other
+    same e here = search (rules, there, here, e)
+
+-- without the first of them
+pub operators_behind : (specs : List OperatorData) (from : ℕ) (first : Operator) (operators all : List Operator) → all ≡ first ∷ operators → AreOperatorsFrom from specs all → AreOperatorsFrom (from + 1) specs operators
+operators_behind specs from first operators all is are place spec operator at of_rest =
+    are (suc place) spec operator (subst (λ k. slice_get specs k ≡ Some spec) (omega arith) at) (rw is of_rest)
+
+pub first_operator : (specs : List OperatorData) (from : ℕ) (spec : OperatorData) (first : Operator) (operators all : List Operator) → all ≡ first ∷ operators → AreOperatorsFrom from specs all → slice_get specs from ≡ Some spec → IsCompiledTo spec first
+first_operator specs from spec first operators all is are there =
+    are 0 spec first (subst (λ k. slice_get specs k ≡ Some spec) (omega arith) there) (rw is refl)
 
 -- what a list of settings has at a place
 pub spec_at : (specs : List OpSpec) (place : ℕ) (spec : OpSpec) → place < length specs → spec ≡ get_or specs place spec → slice_get (map operator_data specs) place ≡ Some (operator_data spec)
@@ -54,7 +74,7 @@ spec_at specs place spec within at = slice_get-map operator_data specs place ∙
 pub one_more_id : (operators : List OperatorData) (place : ℕ) (spec : OperatorData) → slice_get operators place ≡ Some spec → ids_before operators (place + 1) ≡ ids_before operators place ++ spec.id ∷ []
 one_more_id operators place spec there =
     let within = slice_get_within operators place spec there in
-    let grown : take (place + 1) operators ≡ take place operators ++ spec ∷ [] = grind (arith, take-suc operators place spec within, get_or_from_slice_get operators place spec spec there) in
+    let grown : take (place + 1) operators ≡ take place operators ++ spec ∷ [] = rw (add-one, take-suc operators place spec within, get_or_from_slice_get operators place spec spec there) refl in
     ap (map (λ operator. operator.id)) grown ∙ map-append (λ operator. operator.id) (take place operators) (spec ∷ [])
 
 -- whether a text is among the ids, which a set of references holds
@@ -77,3 +97,13 @@ one_more_fine operators place fine next k within = elim (cases_lt k place) [
   | inl before ↦ fine k before
   | inr last ↦ subst (IsFineAt operators) (omega (arith, within, last)) next
 ]
+
+-- the operator at this place can't be made
+pub refused : (operators : List OperatorData) (place : ℕ) (spec : OperatorData) (found : OpCause) → ((k : ℕ) → k < place → IsFineAt operators k) → slice_get operators place ≡ Some spec → is_taken spec.id (ids_before operators place) ≡ false
+    → Caused (HasFaultyPath spec.kind) (HasOnlyFaultyExpr spec) found → IsBuildFault operators (refusal place found)
+refused operators place spec cause.Path fine there new_id given = record { fine_before = fine; spec = spec; there = there; new_id = new_id; faulty = given }
+refused operators place spec cause.Expr fine there new_id given = record { fine_before = fine; spec = spec; there = there; new_id = new_id; faulty = given }
+refused operators place spec cause.Memory fine there new_id given = tt
+
+pub all_ids : (operators : List OperatorData) (place : ℕ) (ids : List (List ℕ)) → length operators ≤ place → ids ≡ ids_before operators place → ids ≡ ids_of operators
+all_ids operators place ids within is = is ∙ ap ids_of (take_all place operators within)

@@ -1,11 +1,10 @@
 -- Feeding, token by token.
-use Rattle.std.proofs.Common.{◌≡◌, ℕ, ◌+◌, ◌<◌, List, [], ◌∷◌, ◌++◌, length, drop, map, refl, sym, ◌∙◌, ap, subst, arith, append_assoc, length-append}
+use Rattle.std.proofs.Common.{◌≡◌, ℕ, ◌+◌, ◌<◌, List, [], ◌∷◌, ◌++◌, length, drop, refl, sym, ◌∙◌, ap, subst, arith, append_assoc, length-append}
 use Rattle.std.proofs.lemmas.List.{append-nil, map-append}
 use Rattle.std.specs.Prelude.{Option}
 use Rattle.entry_model.specs.LogRecord.{LogRecord}
 use Rattle.graph_core.specs.declared.Target.{Target}
 use Rattle.graph_core.specs.Traces.{Network, states_after, outputs, start_states, inputs, Served}
-use Rattle.graph_core.specs.Wiring.{entry_of}
 use Rattle.op_kinds.specs.declared.state.OpState.{OpState}
 use Rattle.line_splitter.specs.Cuts.{Cut}
 use Rattle.line_splitter.specs.LineTokens.{tokens, used, HasNoToken, BeginsWith}

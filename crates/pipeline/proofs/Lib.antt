@@ -1,3 +1,4 @@
 pub mod Feeding
 pub mod Paths
 pub mod Building
+pub mod Targets

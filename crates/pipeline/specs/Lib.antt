@@ -1,5 +1,6 @@
 pub mod Entries
 pub mod Wired
+pub mod Listed
 pub mod BuildFaults
 pub mod Parts
 pub mod GraphOutput

@@ -1,5 +1,7 @@
--- The nodes of a list of operators: each sends to the next, and the last to the output.
-use Rattle.std.specs.Prelude.{◌≡◌, ℕ, ◌+◌, nat_lt, if◌then◌else◌, List, [], ◌∷◌, length, map, Option, Some, slice_get}
+-- The nodes of a list of operators: to which others each sends.
+use Rattle.std.specs.Prelude.{◌≡◌, ℕ, ◌+◌, nat_lt, if◌then◌else◌, List, [], ◌∷◌, ◌++◌, length, map, Option, None, Some, slice_get}
+use Rattle.std.specs.List.{position_or_len}
+use Rattle.std.specs.Str.{bytes_eq}
 use Rattle.graph_core.specs.declared.NodeSpec.{NodeSpec}
 use Rattle.graph_core.specs.declared.Target.{Target}
 use Rattle.graph_core.specs.declared.Target.TheVariants.{Node, Out}
@@ -8,20 +10,49 @@ use Rattle.entry_model.specs.LogRecord.{LogRecord}
 use Rattle.op_kinds.specs.Compiled.{IsCompiledTo}
 use Rattle.op_kinds.specs.Operator.{Operator, behavior_of}
 use Rattle.op_kinds.specs.declared.state.OpState.{OpState}
-use Rattle.settings_text.specs.SettingsData.{OperatorData}
+use Rattle.settings_text.specs.SettingsData.{OperatorData, KindData, router}
 
--- where the operator at this place of so many sends
-abbrev pub target_from : ℕ → ℕ → Target
-target_from count place = if nat_lt (place + 1) count then Node (place + 1) else Out
+abbrev pub ids_of : List OperatorData → List (List ℕ)
+ids_of operators = map (λ operator. operator.id) operators
 
-pub record IsNode (spec : OperatorData) (to : Target) (node : NodeSpec Operator) : Type 0 where
+-- ---- where an operator sends
+
+-- the first operator with this id; a node that isn't there, where none has it
+abbrev pub target_named : List (List ℕ) → List ℕ → Target
+target_named ids id = Node (position_or_len (bytes_eq id) ids)
+
+abbrev pub targets_named : List (List ℕ) → List (List ℕ) → List Target
+targets_named ids names = map (target_named ids) names
+
+-- the next of so many operators, and behind the last one the output
+abbrev pub next_target : ℕ → ℕ → Target
+next_target count place = if nat_lt (place + 1) count then Node (place + 1) else Out
+
+-- the targets of the operator at a place, which names them or sends to the next
+abbrev pub output_targets : List (List ℕ) → ℕ → Option (List (List ℕ)) → List Target
+output_targets ids place None = next_target (length ids) place ∷ []
+output_targets ids place (Some names) = targets_named ids names
+
+-- the port of a router's default, where it has one
+abbrev pub default_ports : List (List ℕ) → Option (List (List ℕ)) → List (List Target)
+default_ports ids None = []
+default_ports ids (Some names) = targets_named ids names ∷ []
+
+-- a port for each route of a router and one for its default, or the one port of another operator
+abbrev pub ports_for : List (List ℕ) → ℕ → Option (List (List ℕ)) → KindData → List (List Target)
+ports_for ids place output (router routes default) = map (λ route. targets_named ids route.output) routes ++ default_ports ids default
+ports_for ids place output _ = output_targets ids place output ∷ []
+
+-- ---- the nodes
+
+pub record IsNode (operators : List OperatorData) (place : ℕ) (spec : OperatorData) (node : NodeSpec Operator) : Type 0 where
   pub compiled : IsCompiledTo spec node.op
-  pub wired : map (λ port. port.items) node.ports.items ≡ (to ∷ []) ∷ []
+  pub wired : map (λ port. port.items) node.ports.items ≡ ports_for (ids_of operators) place spec.output spec.kind
 
 -- each of these nodes is that of the operator at its place
 abbrev pub AreFirstNodes : List OperatorData → List (NodeSpec Operator) → Type 0
 AreFirstNodes operators nodes = (place : ℕ) (spec : OperatorData) (node : NodeSpec Operator)
-    → slice_get operators place ≡ Some spec → slice_get nodes place ≡ Some node → IsNode spec (target_from (length operators) place) node
+    → slice_get operators place ≡ Some spec → slice_get nodes place ≡ Some node → IsNode operators place spec node
 
 pub record AreNodes (operators : List OperatorData) (nodes : List (NodeSpec Operator)) : Type 0 where
   pub many : length nodes ≡ length operators

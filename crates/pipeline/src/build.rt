@@ -1,25 +1,28 @@
 // Pipelines of settings.
-ghost use Rattle.std.specs.Prelude.{◌≡◌, ◌≤◌, ◌<◌, [], length, map, IfOk, IfErr};
+ghost use Rattle.std.specs.Prelude.{◌≡◌, ◌≤◌, ◌<◌, ℕ, [], length, map, OnOk, IfOk, IfErr};
 ghost use Rattle.graph_core.specs.Traces.{start_states};
 ghost use Rattle.op_kinds.specs.Causes.{Caused};
-ghost use Rattle.op_kinds.specs.Compiled.{HasFaultyPath};
-ghost use Rattle.pipeline.specs.BuildFaults.{IsBuildFault};
+ghost use Rattle.pipeline.specs.BuildFaults.{IsBuildFault, IsFineAt, HaveFewRoutes, refusal};
 ghost use Rattle.pipeline.specs.GraphOutput.{StandsFor};
+ghost use Rattle.pipeline.specs.Listed.{AreOperators};
 ghost use Rattle.pipeline.specs.Parts.{settings_of, network, node_count};
-ghost use Rattle.pipeline.specs.Wired.{AreNodes, IsNode, IsNetwork, target_from};
+ghost use Rattle.pipeline.specs.Wired.{AreNodes, IsNetwork, ids_of};
 ghost use Rattle.settings_text.specs.SettingsData.{settings_data, operator_data};
 
+use crate::wiring::wired;
 use crate::{BuildFault, FileState, Pipeline};
-use graph_core::{Graph, GraphFault, NodeSpec, Step, Target, laws as graph};
+use graph_core::{Graph, GraphFault, NodeSpec, Step, laws as graph};
 use indexmap::IndexSet;
 use op_kinds::{AnyOp, OpCause, compile};
 use settings_text::{OpSpec, Settings};
 use std::alloc::{AllocError, Global};
+use std::collections::VecDeque;
 
 impl Pipeline {
-    /// The operators, each of which sends to the next.
+    /// The operators, each of which sends to those that its output names, or to the next one.
     pub fn build(alloc: Global, settings: Settings) -> Result<Pipeline, BuildFault>
         requires operators { length settings.operators.items ≤ 64 }
+        requires routes { HaveFewRoutes (map operator_data settings.operators.items) }
         requires max_log_size { 64 ≤ settings.max_log_size }
         ensures settings { IfOk result (λ pipeline. settings_of pipeline ≡ settings_data settings) }
         ensures network { IfOk result (λ pipeline. IsNetwork (settings_data settings).operators (network pipeline)) }
@@ -58,54 +61,55 @@ impl Pipeline {
     }
 }
 
-// The nodes of the operators, or the first fault among them.
+// The nodes of the operators, or the first fault among these.
 fn nodes_of(alloc: Global, specs: &[OpSpec]) -> Result<Vec<NodeSpec<AnyOp>>, BuildFault>
-    requires { length specs.now ≤ 64 }
+    requires few { length specs.now ≤ 64 }
+    requires routes { HaveFewRoutes (map operator_data specs.now) }
     ensures nodes { IfOk result (λ nodes. AreNodes (map operator_data specs.now) nodes.items) }
+    ensures fine { OnOk result ((k : ℕ) → k < length (map operator_data specs.now) → IsFineAt (map operator_data specs.now) k) }
     ensures fault { IfErr result (IsBuildFault (map operator_data specs.now)) }
 {
-    let mut nodes = Vec::new(alloc);
     let mut ids = IndexSet::new(alloc);
+    let ops = ops_of(alloc, specs, &mut ids)?;
+    Ok(wired(alloc, specs, &ids, ops)?)
+}
+
+// The operators, and their ids, which are none to begin with. Or the first fault among them.
+fn ops_of<'s>(
+    alloc: Global,
+    specs: &'s [OpSpec],
+    ids: &mut IndexSet<&'s str>,
+) -> Result<VecDeque<AnyOp>, BuildFault>
+    requires none { ids.old.keys ≡ [] }
+    requires routes { HaveFewRoutes (map operator_data specs.now) }
+    ensures ids { OnOk result (map (λ id. id.now) ids.new.keys ≡ ids_of (map operator_data specs.now)) }
+    ensures ops { IfOk result (λ ops. AreOperators (map operator_data specs.now) ops.items) }
+    ensures fine { OnOk result ((k : ℕ) → k < length (map operator_data specs.now) → IsFineAt (map operator_data specs.now) k) }
+    ensures fault { IfErr result (IsBuildFault (map operator_data specs.now)) }
+{
+    let mut ops = VecDeque::new(alloc);
     for (place, spec) in specs.iter().enumerate() {
         if !ids.insert(spec.id.as_str())? {
             return Err(BuildFault::SameId {
                 place: place as u64,
             });
         }
-        match node_of(alloc, spec, target_from(specs.len(), place)) {
-            Ok(node) => nodes.push(node)?,
-            Err(OpCause::Memory) => return Err(BuildFault::Memory),
-            Err(OpCause::Path) => {
-                return Err(BuildFault::Operator {
-                    place: place as u64,
-                    cause: OpCause::Path,
-                });
-            }
+        match compile(alloc, spec) {
+            Ok(op) => ops.push_back(op)?,
+            Err(cause) => return Err(refusal(place, cause)),
         }
     }
-    Ok(nodes)
+    Ok(ops)
 }
 
-// Where the operator at this place sends.
-fn target_from(count: usize, place: usize) -> Target
-    requires { place < count × count ≤ 64 }
-    ensures { result ≡ target_from count place }
+fn refusal(place: usize, cause: OpCause) -> BuildFault
+    ensures { result ≡ refusal place cause }
 {
-    if place + 1 < count {
-        Target::Node((place + 1) as u16)
-    } else {
-        Target::Out
+    match cause {
+        OpCause::Memory => BuildFault::Memory,
+        OpCause::Path | OpCause::Expr => BuildFault::Operator {
+            place: place as u64,
+            cause,
+        },
     }
-}
-
-fn node_of(alloc: Global, spec: &OpSpec, to: Target) -> Result<NodeSpec<AnyOp>, OpCause>
-    ensures node { IfOk result (IsNode (operator_data spec.now) to) }
-    ensures cause { IfErr result (Caused (HasFaultyPath (operator_data spec.now).kind)) }
-{
-    let op = compile(alloc, spec)?;
-    let mut targets = Vec::new(alloc);
-    targets.push(to)?;
-    let mut ports = Vec::new(alloc);
-    ports.push(targets)?;
-    Ok(NodeSpec { op, ports })
 }

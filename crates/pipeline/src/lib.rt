@@ -17,6 +17,7 @@ pub mod laws;
 mod state;
 #[cfg(test)]
 mod tests;
+mod wiring;
 
 pub use fault::BuildFault;
 use graph_core::Graph;

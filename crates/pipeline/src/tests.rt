@@ -1,15 +1,15 @@
 // Lines worked out by hand.
 use crate::{BuildFault, FileState, Pipeline};
+use graph_core::GraphFault;
 use op_kinds::OpCause;
+use settings_text::laws::settings_keep_limits;
 use settings_text::read;
 use std::alloc::Global;
 use std::test::Fail;
 
 fn build(alloc: Global, text: &str) -> Result<Result<Pipeline, BuildFault>, Fail> {
+    settings_keep_limits();
     let settings = read(alloc, text.as_bytes())?;
-    if settings.operators.len() > 64 || settings.max_log_size < 64 {
-        return Ok(Err(BuildFault::Memory));
-    }
     Ok(Pipeline::build(alloc, settings))
 }
 
@@ -36,6 +36,49 @@ const REFUSED: &[(&str, BuildFault)] = &[
     (
         "{\"include\":[\"a\"],\"operators\":[{\"type\":\"noop\",\"id\":\"a\"},{\"type\":\"remove\",\"field\":\"x\",\"id\":\"a\"}]}",
         BuildFault::SameId { place: 1 },
+    ),
+    (
+        "{\"include\":[\"a\"],\"operators\":[{\"type\":\"noop\",\"if\":\"1 ==\"}]}",
+        BuildFault::Operator {
+            place: 0,
+            cause: OpCause::Expr,
+        },
+    ),
+    (
+        "{\"include\":[\"a\"],\"operators\":[{\"type\":\"filter\",\"expr\":\"body matches \\\"(\\\"\"}]}",
+        BuildFault::Operator {
+            place: 0,
+            cause: OpCause::Expr,
+        },
+    ),
+    // The path before the condition.
+    (
+        "{\"include\":[\"a\"],\"operators\":[{\"type\":\"remove\",\"field\":\"x\",\"if\":\"(\"}]}",
+        BuildFault::Operator {
+            place: 0,
+            cause: OpCause::Path,
+        },
+    ),
+    // All ids before the graph.
+    (
+        "{\"include\":[\"a\"],\"operators\":[{\"type\":\"noop\",\"id\":\"a\",\"output\":\"zz\"},{\"type\":\"noop\",\"id\":\"a\"}]}",
+        BuildFault::SameId { place: 1 },
+    ),
+    (
+        "{\"include\":[\"a\"],\"operators\":[{\"type\":\"noop\",\"output\":\"zz\"}]}",
+        BuildFault::Graph(GraphFault::NoSuchNode { node: 0 }),
+    ),
+    (
+        "{\"include\":[\"a\"],\"operators\":[{\"type\":\"noop\"},{\"type\":\"router\",\"routes\":[{\"expr\":\"true\",\"output\":\"noop1\"}],\"default\":[\"noop1\",\"zz\"]},{\"type\":\"noop\"}]}",
+        BuildFault::Graph(GraphFault::NoSuchNode { node: 1 }),
+    ),
+    (
+        "{\"include\":[\"a\"],\"operators\":[{\"type\":\"noop\",\"id\":\"a\",\"output\":\"b\"},{\"type\":\"noop\",\"id\":\"b\",\"output\":\"a\"}]}",
+        BuildFault::Graph(GraphFault::Cycle { node: 0 }),
+    ),
+    (
+        "{\"include\":[\"a\"],\"operators\":[{\"type\":\"noop\",\"id\":\"a\",\"output\":\"a\"}]}",
+        BuildFault::Graph(GraphFault::Cycle { node: 0 }),
     ),
 ];
 
@@ -64,7 +107,7 @@ fn fed(
         return Ok((0, 0, out));
     }
     pipeline.feed(alloc, &mut state, 7, "logs/app.log", first, &mut out)?;
-    if state.lines > 1_000 || state.records > 1_000 {
+    if state.lines > 2_000 || state.records > 1_000 {
         return Ok((0, 0, out));
     }
     pipeline.feed(alloc, &mut state, 7, "logs/app.log", second, &mut out)?;
@@ -106,5 +149,81 @@ fn long_lines_are_cut_and_faulty_entries_dropped(rt: HostRuntime) -> Result<(), 
         "{\"include\":[\"a\"],\"operators\":[{\"type\":\"remove\",\"field\":\"attributes.zz\",\"on_error\":\"drop\"}]}";
     assert!(rt; fed(alloc, sent, b"a\n", b"")?.1 == 1);
     assert!(rt; fed(alloc, dropped, b"a\n", b"")?.1 == 0);
+    Ok(())
+}
+
+// As many operators as `count`, each of which sends twice to the next, and one more.
+fn doubling(alloc: Global, count: u8) -> Result<String, Fail> {
+    let mut text = String::from_str(alloc, "{\"include\":[\"a\"],\"operators\":[")?;
+    for place in 0..count {
+        let next = u16::from(place) + 1;
+        text.push_str(format!(in alloc;
+            "{{\"type\":\"noop\",\"id\":\"n{place}\",\"output\":[\"n{next}\",\"n{next}\"]}},"
+        )?.as_str())?;
+    }
+    text.push_str(format!(in alloc; "{{\"type\":\"noop\",\"id\":\"n{count}\"}}]}}")?.as_str())?;
+    Ok(text)
+}
+
+#[test]
+fn entries_take_each_route(rt: HostRuntime) -> Result<(), Fail> {
+    let alloc = rt.alloc();
+    let most = doubling(alloc, 10)?;
+    let (records, lines, _out) = fed(alloc, most.as_str(), b"a\n", b"")?;
+    assert!(rt; records == 1 && lines == 1_024);
+    let more = doubling(alloc, 11)?;
+    let refused = Some(BuildFault::Graph(GraphFault::TooManyPaths));
+    assert!(rt; build(alloc, more.as_str())?.err() == refused);
+    Ok(())
+}
+
+// The bodies of the lines, and behind each the attribute `w`.
+fn bodies(alloc: Global, out: &[u8]) -> Result<String, Fail> {
+    let mut found = String::new(alloc);
+    let mut kept = false;
+    for byte in out {
+        if *byte == b'<' {
+            kept = true;
+        } else if *byte == b'>' {
+            kept = false;
+            found.push(' ')?;
+        } else if kept {
+            found.push(char::from(*byte))?;
+        }
+    }
+    Ok(found)
+}
+
+// Entries go to both operators that a route names, and on to one that takes them in the order in which they come.
+const FORKED: &str =
+    "{\"include\":[\"a\"],\"operators\":[{\"type\":\"router\",\"id\":\"n\",\"routes\":[{\"expr\":\"true\",\"output\":[\"p\",\"q\"]}]},{\"type\":\"add\",\"id\":\"p\",\"field\":\"attributes.w\",\"value\":\"<p>\",\"output\":\"r\"},{\"type\":\"add\",\"id\":\"q\",\"field\":\"attributes.w\",\"value\":\"<q>\",\"output\":\"r\"},{\"type\":\"noop\",\"id\":\"r\"}]}";
+
+// Warnings and errors are told apart, all else is dropped.
+const ROUTED: &str =
+    "{\"include\":[\"a\"],\"operators\":[{\"type\":\"router\",\"routes\":[{\"expr\":\"body contains 'warn'\",\"output\":\"w\"},{\"expr\":\"body contains 'err'\",\"output\":\"e\"}]},{\"type\":\"add\",\"id\":\"e\",\"field\":\"attributes.w\",\"value\":\"<e>\",\"output\":\"end\"},{\"type\":\"add\",\"id\":\"w\",\"field\":\"attributes.w\",\"value\":\"<w>\"},{\"type\":\"noop\",\"id\":\"end\"}]}";
+
+#[test]
+fn routers_send_entries_apart(rt: HostRuntime) -> Result<(), Fail> {
+    let alloc = rt.alloc();
+    let (_records, lines, out) = fed(alloc, FORKED, b"<a>\n<b>\n", b"")?;
+    assert!(rt; lines == 4);
+    assert!(rt; bodies(alloc, &out)?.as_str() == "p a q a p b q b ");
+    let (_records, lines, out) = fed(alloc, ROUTED, b"<err>\n<info>\n<warn err>\n", b"")?;
+    assert!(rt; lines == 2);
+    assert!(rt; bodies(alloc, &out)?.as_str() == "e err w warn err ");
+    Ok(())
+}
+
+#[test]
+fn filters_drop_lines(rt: HostRuntime) -> Result<(), Fail> {
+    let alloc = rt.alloc();
+    let sent = "{\"include\":[\"a\"],\"operators\":[{\"type\":\"filter\",\"expr\":\"body > 1\"}]}";
+    let dropped =
+        "{\"include\":[\"a\"],\"operators\":[{\"type\":\"filter\",\"expr\":\"body > 1\",\"on_error\":\"drop\"}]}";
+    let chosen =
+        "{\"include\":[\"a\"],\"operators\":[{\"type\":\"filter\",\"expr\":\"body == 'b'\"}]}";
+    assert!(rt; fed(alloc, sent, b"x\n", b"")?.1 == 1);
+    assert!(rt; fed(alloc, dropped, b"x\n", b"")?.1 == 0);
+    assert!(rt; fed(alloc, chosen, b"a\nb\nc\n", b"")?.1 == 2);
     Ok(())
 }

@@ -13,7 +13,7 @@ use Rattle.serde_json.specs.declared.value.Value.{Value}
 use Rattle.settings_text.specs.declared.fault.SettingsFault.{SettingsFault}
 use Rattle.settings_text.specs.declared.fault.SettingsFault.TheVariants.{Unknown, OutOfRange}
 use Rattle.settings_text.specs.Kinds.{each, known, item_texts, some_item_texts}
-use Rattle.settings_text.specs.Operators.{at_most_64}
+use Rattle.settings_text.specs.Operators.{at_most_64, routable}
 use Rattle.settings_text.specs.Outcome.{◌>>=◌, Fails}
 
 -- what was read before, and what is still read
@@ -97,3 +97,15 @@ few place vs le = rw (items_len-items_view vs, le-ltb 64 (length vs) le) refl
 
 pub too_many : (place : List ℕ) (vs : List Value) → 64 < length vs → at_most_64 place (items_view vs) ≡ Err (OutOfRange place)
 too_many place vs lt = rw (items_len-items_view vs, lt-ltb 64 (length vs) lt) refl
+
+pub routed : (place : List ℕ) (vs : List Value) → (length vs ≡ 0 → ⊥) → length vs ≤ 65534 → routable place (items_view vs) ≡ Ok (items_view vs)
+routed place [] some le = absurd (some refl)
+routed place (v ∷ vs) some le = rw (items_len-items_view vs, le-ltb 65534 (suc (length vs)) le) refl
+
+pub no_routes : (place : List ℕ) (vs : List Value) → length vs ≡ 0 → routable place (items_view vs) ≡ Err (OutOfRange place)
+no_routes place [] e = refl
+no_routes place (v ∷ vs) e = cc
+
+pub too_many_routes : (place : List ℕ) (vs : List Value) → 65534 < length vs → routable place (items_view vs) ≡ Err (OutOfRange place)
+too_many_routes place [] lt = refl
+too_many_routes place (v ∷ vs) lt = rw (items_len-items_view vs, lt-ltb 65534 (suc (length vs)) lt) refl

@@ -73,6 +73,14 @@ some_item_texts place (item d ds) = item_texts place (item d ds)
 abbrev pub some_texts : Kind (List (List ℕ))
 some_texts place d = or_fault (WrongKind place) (as_array d) >>= some_item_texts place
 
+-- a text, which stands for a list of one, or a list of at least one text
+abbrev pub text_or_texts : Kind (List (List ℕ))
+text_or_texts place d = elim (as_str d) [ Some text ↦ Ok (text ∷ []) | None ↦ some_texts place d ]
+
+-- what is read, as something that may be missing
+abbrev pub given : {A : Type 0} → Kind A → Kind (Option A)
+given kind place d = kind place d >>= λ x. Ok (Some x)
+
 -- each member is a text
 unfoldable pub are_texts : List ℕ → Members → Result (Unit {0}) SettingsFault
 are_texts place no_members = Ok tt

@@ -1,14 +1,19 @@
 -- What settings say, without where they lie in memory.
-use Rattle.std.specs.Prelude.{ℕ, List, Bool, map}
+use Rattle.std.specs.Prelude.{ℕ, List, Bool, map, Option, option_map}
 use Rattle.entry_model.specs.Datum.{Datum, Members, datum, members_of}
 use Rattle.entry_model.specs.declared.value.Value.{Value}
 use Rattle.std.specs.BTreeMap.{BTreeMap}
 use Rattle.settings_text.specs.declared.settings.OnError.{OnError}
 use Rattle.settings_text.specs.declared.settings.OpKind.{OpKind}
-use Rattle.settings_text.specs.declared.settings.OpKind.TheVariants.{Noop, Move, Copy, Add, Remove, Flatten, Retain}
+use Rattle.settings_text.specs.declared.settings.OpKind.TheVariants.{Noop, Move, Copy, Add, Remove, Flatten, Retain, Filter, Router}
 use Rattle.settings_text.specs.declared.settings.OpSpec.{OpSpec}
+use Rattle.settings_text.specs.declared.settings.RouteSpec.{RouteSpec}
 use Rattle.settings_text.specs.declared.settings.Settings.{Settings}
 use Rattle.settings_text.specs.declared.settings.StartAt.{StartAt}
+
+pub record RouteData : Type 0 where
+  pub expr : List ℕ
+  pub output : List (List ℕ)
 
 pub data KindData : Type 0 where
   noop : KindData
@@ -18,10 +23,14 @@ pub data KindData : Type 0 where
   remove : (field : List ℕ) → KindData
   flatten : (field : List ℕ) → KindData
   retain : (fields : List (List ℕ)) → KindData
+  filter : (expr : List ℕ) → KindData
+  router : (routes : List RouteData) → (default : Option (List (List ℕ))) → KindData
 
 pub record OperatorData : Type 0 where
   pub id : List ℕ
+  pub condition : Option (List ℕ)
   pub on_error : OnError
+  pub output : Option (List (List ℕ))
   pub kind : KindData
 
 pub record FlagsData : Type 0 where
@@ -45,6 +54,9 @@ pub record SettingsData : Type 0 where
 abbrev pub fields_data : BTreeMap (List ℕ) Value → Members
 fields_data fields = members_of (map (λ field. (field.0, datum field.1)) fields.entries)
 
+abbrev pub route_data : RouteSpec → RouteData
+route_data route = record { expr = route.expr; output = route.output.items }
+
 abbrev pub kind_data : OpKind → KindData
 kind_data Noop = noop
 kind_data (Move from to) = move from to
@@ -53,9 +65,17 @@ kind_data (Add field value) = add field (datum value)
 kind_data (Remove field) = remove field
 kind_data (Flatten field) = flatten field
 kind_data (Retain fields) = retain fields.items
+kind_data (Filter expr) = filter expr
+kind_data (Router routes default) = router (map route_data routes.items) (option_map (λ ids. ids.items) default)
 
 abbrev pub operator_data : OpSpec → OperatorData
-operator_data operator = record { id = operator.id; on_error = operator.on_error; kind = kind_data operator.kind }
+operator_data operator = record {
+  id = operator.id;
+  condition = operator.condition;
+  on_error = operator.on_error;
+  output = option_map (λ ids. ids.items) operator.output;
+  kind = kind_data operator.kind;
+}
 
 abbrev pub settings_data : Settings → SettingsData
 settings_data settings = record {

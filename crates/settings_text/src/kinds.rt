@@ -1,5 +1,5 @@
 // The kinds of a key. `at` and `key` name the place: what stands before the key, and the key.
-ghost use Rattle.std.specs.Prelude.{◌≡◌, ◌++◌, [], map, None, Ok};
+ghost use Rattle.std.specs.Prelude.{◌≡◌, ◌++◌, [], map, option_map, None, Ok};
 ghost use Rattle.std.specs.Str.{bytes_eq};
 ghost use Rattle.std.specs.List.{list_any};
 ghost use Rattle.entry_model.specs.Datum.{no_members, datum};
@@ -79,6 +79,22 @@ pub fn text(alloc: Global, object: &Value, at: &str, key: &str) -> Result<Text, 
             key: place(alloc, at, key)?,
         }),
     }
+}
+
+/// A text that may be missing.
+pub fn optional_text(
+    alloc: Global,
+    object: &Value,
+    at: &str,
+    key: &str,
+) -> Result<Option<Text>, SettingsFault>
+    ensures { Gives (λ text. text) result (kinds.may at.now key.now (kinds.given kinds.text) None (view object.now)) }
+{
+    let Some(value) = object.get(key) else {
+        return Ok(None);
+    };
+    let content = name(alloc, value, at, key)?;
+    Ok(Some(Text::from_str(alloc, content)?))
 }
 
 pub fn flag(
@@ -184,6 +200,26 @@ pub fn texts(alloc: Global, object: &Value, at: &str, key: &str) -> Result<Vec<T
     }
 }
 
+/// A list of at least one text.
+fn listed_texts(
+    alloc: Global,
+    value: &Value,
+    at: &str,
+    key: &str,
+) -> Result<Vec<Text>, SettingsFault>
+    ensures { Gives (λ texts. texts.items) result (kinds.some_texts (at.now ++ key.now) (view value.now)) }
+{
+    match value.as_array() {
+        Some(values) if values.as_slice().is_empty() => Err(SettingsFault::OutOfRange {
+            key: place(alloc, at, key)?,
+        }),
+        Some(values) => item_texts(alloc, values, at, key),
+        None => Err(SettingsFault::WrongKind {
+            key: place(alloc, at, key)?,
+        }),
+    }
+}
+
 /// A list of at least one text, which must be there.
 pub fn some_texts(
     alloc: Global,
@@ -193,19 +229,59 @@ pub fn some_texts(
 ) -> Result<Vec<Text>, SettingsFault>
     ensures { Gives (λ texts. texts.items) result (kinds.must at.now key.now kinds.some_texts (view object.now)) }
 {
-    let Some(value) = object.get(key) else {
-        return Err(SettingsFault::Missing {
-            key: place(alloc, at, key)?,
-        });
-    };
-    match value.as_array() {
-        Some(values) if values.as_slice().is_empty() => Err(SettingsFault::OutOfRange {
+    match object.get(key) {
+        Some(value) => listed_texts(alloc, value, at, key),
+        None => Err(SettingsFault::Missing {
             key: place(alloc, at, key)?,
         }),
-        Some(values) => item_texts(alloc, values, at, key),
-        None => Err(SettingsFault::WrongKind {
+    }
+}
+
+/// A text, which stands for a list of one, or a list of at least one text.
+fn one_or_listed(
+    alloc: Global,
+    value: &Value,
+    at: &str,
+    key: &str,
+) -> Result<Vec<Text>, SettingsFault>
+    ensures { Gives (λ texts. texts.items) result (kinds.text_or_texts (at.now ++ key.now) (view value.now)) }
+{
+    match value.as_str() {
+        Some(content) => Ok(vec![in alloc; Text::from_str(alloc, content)?]?),
+        None => listed_texts(alloc, value, at, key),
+    }
+}
+
+/// A text or a list of at least one text, which must be there.
+pub fn text_or_texts(
+    alloc: Global,
+    object: &Value,
+    at: &str,
+    key: &str,
+) -> Result<Vec<Text>, SettingsFault>
+    ensures { Gives (λ texts. texts.items) result (kinds.must at.now key.now kinds.text_or_texts (view object.now)) }
+{
+    match object.get(key) {
+        Some(value) => one_or_listed(alloc, value, at, key),
+        None => Err(SettingsFault::Missing {
             key: place(alloc, at, key)?,
         }),
+    }
+}
+
+/// A text or a list of at least one text, which may be missing.
+pub fn optional_texts(
+    alloc: Global,
+    object: &Value,
+    at: &str,
+    key: &str,
+) -> Result<Option<Vec<Text>>, SettingsFault>
+    ensures { Gives (option_map (λ texts. texts.items)) result
+        (kinds.may at.now key.now (kinds.given kinds.text_or_texts) None (view object.now)) }
+{
+    match object.get(key) {
+        Some(value) => Ok(Some(one_or_listed(alloc, value, at, key)?)),
+        None => Ok(None),
     }
 }
 

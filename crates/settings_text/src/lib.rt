@@ -10,8 +10,8 @@
 //! an object. In each object the least unknown key in byte order comes first, then its keys in the order of the
 //! table: a key that is missing, of the wrong kind, a fraction, out of its range. An inner object or list is read
 //! when its key is reached, and a list that is empty or too long is refused before its members. An operator's
-//! `type` comes before its other keys. Of a key that stands twice the last counts. `1.0`, `1e3` and `-0` are no
-//! whole numbers.
+//! `type` comes before its other keys; those that types share come next, as `id`, `output`, `if`, `on_error`, and
+//! then the type's own. Of a key that stands twice the last counts. `1.0`, `1e3` and `-0` are no whole numbers.
 //!
 //! **A key more** is one name in `top_keys` and one line in `settings_of`, in the definition and in the code alike;
 //! a type of operators is one line in each function over [`OpKind`]'s names.
@@ -29,8 +29,11 @@ mod fault;
 mod ids;
 mod kinds;
 pub mod laws;
+#[cfg(test)]
+mod operator_tests;
 mod operators;
 mod place;
+mod routes;
 mod settings;
 #[cfg(test)]
 mod tests;
@@ -41,7 +44,7 @@ use kinds::{check_known, fields, flag, name, some_texts, texts, whole};
 use operators::operators;
 use place::place;
 use serde_json::Value;
-pub use settings::{OnError, OpKind, OpSpec, Settings, StartAt};
+pub use settings::{OnError, OpKind, OpSpec, RouteSpec, Settings, StartAt};
 use std::alloc::Global;
 
 /// The greatest length of a text, in bytes.

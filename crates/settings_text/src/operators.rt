@@ -1,6 +1,6 @@
 // The list of operators.
 ghost use Rattle.std.specs.Prelude.{◌≡◌, ◌≤◌, ◌++◌, [], map, length, codes, None, IfOk, string_bytes};
-ghost use Rattle.serde_json.specs.View.{view, items_view, members_view};
+ghost use Rattle.serde_json.specs.View.{view, items_view};
 ghost use Rattle.settings_text.specs.Kinds as kinds;
 ghost use Rattle.settings_text.specs.Operators as operators;
 ghost use Rattle.settings_text.specs.Outcome.{Gives};
@@ -9,11 +9,12 @@ ghost use Rattle.settings_text.specs.DraftView.{draft_data};
 
 use crate::fault::SettingsFault;
 use crate::ids::default_id;
-use crate::kinds::{check_known, name, some_texts, text, value};
+use crate::kinds::{check_known, name, optional_text, optional_texts, some_texts, text, value};
 use crate::place::{item_place, place};
+use crate::routes::router;
 use crate::settings::{OnError, OpKind, OpSpec};
 use entry_model::Text;
-use serde_json::{Map, Value};
+use serde_json::Value;
 use std::alloc::{AllocError, Global};
 
 /// The most operators that a list may have.
@@ -28,6 +29,8 @@ enum OpType {
     Remove,
     Flatten,
     Retain,
+    Filter,
+    Router,
 }
 
 impl OpType {
@@ -48,6 +51,10 @@ impl OpType {
             Some(OpType::Flatten)
         } else if name == "retain" {
             Some(OpType::Retain)
+        } else if name == "filter" {
+            Some(OpType::Filter)
+        } else if name == "router" {
+            Some(OpType::Router)
         } else {
             None
         }
@@ -64,6 +71,26 @@ impl OpType {
             OpType::Remove => "remove",
             OpType::Flatten => "flatten",
             OpType::Retain => "retain",
+            OpType::Filter => "filter",
+            OpType::Router => "router",
+        }
+    }
+
+    fn keys(self) -> &'static [&'static str]
+        ensures { map (λ key. key.now) result.now ≡ operators.keys_of self }
+    {
+        match self {
+            OpType::Noop => &["type", "id", "output", "if", "on_error"],
+            OpType::Move | OpType::Copy => &[
+                "type", "id", "output", "if", "on_error", "from", "to",
+            ],
+            OpType::Add => &["type", "id", "output", "if", "on_error", "field", "value"],
+            OpType::Remove | OpType::Flatten => {
+                &["type", "id", "output", "if", "on_error", "field"]
+            }
+            OpType::Retain => &["type", "id", "output", "if", "on_error", "fields"],
+            OpType::Filter => &["type", "id", "output", "if", "on_error", "expr"],
+            OpType::Router => &["type", "id", "on_error", "routes", "default"],
         }
     }
 }
@@ -73,6 +100,8 @@ impl OpType {
 struct Draft {
     op_type: OpType,
     id: Option<Text>,
+    output: Option<Vec<Text>>,
+    condition: Option<Text>,
     on_error: OnError,
     kind: OpKind,
 }
@@ -103,17 +132,6 @@ fn op_type(alloc: Global, object: &Value, at: &str) -> Result<OpType, SettingsFa
     }
 }
 
-fn written_id(alloc: Global, object: &Value, at: &str) -> Result<Option<Text>, SettingsFault>
-    ensures { Gives (λ id. id) result
-        (kinds.may at.now (codes "id") operators.written None (view object.now)) }
-{
-    let Some(value) = object.get("id") else {
-        return Ok(None);
-    };
-    let id = name(alloc, value, at, "id")?;
-    Ok(Some(Text::from_str(alloc, id)?))
-}
-
 fn on_error(alloc: Global, object: &Value, at: &str) -> Result<OnError, SettingsFault>
     ensures { Gives (λ on_error. on_error) result
         (kinds.may at.now (codes "on_error") (kinds.name operators.on_error_named) OnError.Send (view object.now)) }
@@ -134,39 +152,6 @@ fn on_error(alloc: Global, object: &Value, at: &str) -> Result<OnError, Settings
         Err(SettingsFault::OutOfRange {
             key: place(alloc, at, "on_error")?,
         })
-    }
-}
-
-/// Refuses the least key that operators of the type do not have.
-fn check_keys(
-    alloc: Global,
-    members: &Map<String, Value>,
-    at: &str,
-    op_type: OpType,
-) -> Result<(), SettingsFault>
-    ensures { Gives (λ done. done) result
-        (kinds.known (operators.keys_of op_type) at.now (members_view members.now.entries)) }
-{
-    match op_type {
-        OpType::Noop => check_known(alloc, members, at, &["type", "id", "on_error"]),
-        OpType::Move | OpType::Copy => {
-            check_known(
-                alloc,
-                members,
-                at,
-                &["type", "id", "on_error", "from", "to"],
-            )
-        }
-        OpType::Add => check_known(
-            alloc,
-            members,
-            at,
-            &["type", "id", "on_error", "field", "value"],
-        ),
-        OpType::Remove | OpType::Flatten => {
-            check_known(alloc, members, at, &["type", "id", "on_error", "field"])
-        }
-        OpType::Retain => check_known(alloc, members, at, &["type", "id", "on_error", "fields"]),
     }
 }
 
@@ -196,6 +181,10 @@ fn kind(alloc: Global, object: &Value, at: &str, op_type: OpType) -> Result<OpKi
         OpType::Retain => Ok(OpKind::Retain {
             fields: some_texts(alloc, object, at, "fields")?,
         }),
+        OpType::Filter => Ok(OpKind::Filter {
+            expr: text(alloc, object, at, "expr")?,
+        }),
+        OpType::Router => router(alloc, object, at),
     }
 }
 
@@ -211,13 +200,17 @@ fn draft_of(alloc: Global, object: &Value, index: usize) -> Result<Draft, Settin
     let front = front(alloc, index)?;
     let at = front.as_str();
     let op_type = op_type(alloc, object, at)?;
-    check_keys(alloc, members, at, op_type)?;
-    let id = written_id(alloc, object, at)?;
+    check_known(alloc, members, at, op_type.keys())?;
+    let id = optional_text(alloc, object, at, "id")?;
+    let output = optional_texts(alloc, object, at, "output")?;
+    let condition = optional_text(alloc, object, at, "if")?;
     let on_error = on_error(alloc, object, at)?;
     let kind = kind(alloc, object, at, op_type)?;
     Ok(Draft {
         op_type,
         id,
+        output,
+        condition,
         on_error,
         kind,
     })
@@ -254,6 +247,8 @@ fn settle(alloc: Global, taken: &[Text], draft: Draft) -> Result<OpSpec, AllocEr
     let Draft {
         op_type,
         id,
+        output,
+        condition,
         on_error,
         kind,
     } = draft;
@@ -261,7 +256,13 @@ fn settle(alloc: Global, taken: &[Text], draft: Draft) -> Result<OpSpec, AllocEr
         Some(id) => id,
         None => default_id(alloc, op_type.name(), taken)?,
     };
-    Ok(OpSpec { id, on_error, kind })
+    Ok(OpSpec {
+        id,
+        condition,
+        on_error,
+        output,
+        kind,
+    })
 }
 
 fn settle_all(

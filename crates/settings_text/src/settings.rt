@@ -41,11 +41,16 @@ pub struct Settings {
     pub operators: Vec<OpSpec>,
 }
 
-/// An operator. Field paths in it are as they were written.
+/// An operator. Field paths and expressions in it are as they were written.
 #[derive(Drop)]
 pub struct OpSpec {
     pub id: Text,
+    /// The expression at the key `if`; a router has none.
+    pub condition: Option<Text>,
     pub on_error: OnError,
+    /// The ids of the operators that take what comes out, at least one. None where the key isn't written: then the
+    /// next operator takes it, or it goes out behind the last. A router has none.
+    pub output: Option<Vec<Text>>,
     pub kind: OpKind,
 }
 
@@ -53,11 +58,43 @@ pub struct OpSpec {
 #[derive(Drop)]
 pub enum OpKind {
     Noop,
-    Move { from: Text, to: Text },
-    Copy { from: Text, to: Text },
-    Add { field: Text, value: Value },
-    Remove { field: Text },
-    Flatten { field: Text },
+    Move {
+        from: Text,
+        to: Text,
+    },
+    Copy {
+        from: Text,
+        to: Text,
+    },
+    Add {
+        field: Text,
+        value: Value,
+    },
+    Remove {
+        field: Text,
+    },
+    Flatten {
+        field: Text,
+    },
     /// At least one.
-    Retain { fields: Vec<Text> },
+    Retain {
+        fields: Vec<Text>,
+    },
+    Filter {
+        expr: Text,
+    },
+    Router {
+        /// 1 to 65,534.
+        routes: Vec<RouteSpec>,
+        /// As the output of a route.
+        default: Option<Vec<Text>>,
+    },
+}
+
+/// Where a router sends the entries for which an expression is true.
+#[derive(Drop)]
+pub struct RouteSpec {
+    pub expr: Text,
+    /// The ids of operators, at least one.
+    pub output: Vec<Text>,
 }

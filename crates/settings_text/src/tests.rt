@@ -1,5 +1,5 @@
 // Texts with their answers, each worked out by hand from the tables of keys.
-use crate::{OnError, OpKind, OpSpec, Settings, SettingsFault, StartAt, read};
+use crate::{OnError, OpKind, OpSpec, RouteSpec, Settings, SettingsFault, StartAt, read};
 use entry_model::{Fields, Text, Value};
 use std::alloc::{AllocError, Global};
 use std::test::Fail;
@@ -163,16 +163,8 @@ const REFUSED: &[(&str, &str)] = &[
         "wrong-kind operators[0].type",
     ),
     (
-        "{\"include\":[\"a\"],\"operators\":[{\"type\":\"router\",\"a\":1}]}",
+        "{\"include\":[\"a\"],\"operators\":[{\"type\":\"route\",\"a\":1}]}",
         "out-of-range operators[0].type",
-    ),
-    (
-        "{\"include\":[\"a\"],\"operators\":[{\"type\":\"noop\",\"if\":\"true\"}]}",
-        "unknown operators[0].if",
-    ),
-    (
-        "{\"include\":[\"a\"],\"operators\":[{\"type\":\"noop\",\"output\":\"a\",\"id\":1}]}",
-        "unknown operators[0].output",
     ),
     (
         "{\"include\":[\"a\"],\"operators\":[{\"type\":\"noop\",\"field\":\"a\"}]}",
@@ -353,6 +345,27 @@ fn show_fields(fields: &Fields, out: &mut String) -> Result<(), AllocError> {
     Ok(())
 }
 
+fn show_routes(routes: &[RouteSpec], out: &mut String) -> Result<(), AllocError> {
+    for route in routes {
+        write!(out, "{}>", route.expr)?;
+        show_texts(&route.output, out)?;
+        out.push_str(";")?;
+    }
+    Ok(())
+}
+
+fn show_targets(
+    front: &str,
+    targets: &Option<Vec<Text>>,
+    out: &mut String,
+) -> Result<(), AllocError> {
+    if let Some(targets) = targets {
+        out.push_str(front)?;
+        show_texts(targets, out)?;
+    }
+    Ok(())
+}
+
 fn show_kind(kind: &OpKind, out: &mut String) -> Result<(), AllocError> {
     match kind {
         OpKind::Noop => out.push_str("noop"),
@@ -368,6 +381,12 @@ fn show_kind(kind: &OpKind, out: &mut String) -> Result<(), AllocError> {
             out.push_str("retain ")?;
             show_texts(fields, out)
         }
+        OpKind::Filter { expr } => write!(out, "filter {expr}"),
+        OpKind::Router { routes, default } => {
+            out.push_str("router ")?;
+            show_routes(routes, out)?;
+            show_targets(" else ", default, out)
+        }
     }
 }
 
@@ -379,7 +398,11 @@ fn show_operator(operator: &OpSpec, out: &mut String) -> Result<(), AllocError> 
         OnError::DropQuiet => "drop_quiet",
     };
     write!(out, " {}:{on_error}:", operator.id)?;
-    show_kind(&operator.kind, out)
+    show_kind(&operator.kind, out)?;
+    if let Some(condition) = &operator.condition {
+        write!(out, " if {condition}")?;
+    }
+    show_targets(" to ", &operator.output, out)
 }
 
 fn bit(flag: bool) -> &'static str {
@@ -425,7 +448,8 @@ fn show(alloc: Global, settings: &Settings) -> Result<String, AllocError> {
     Ok(out)
 }
 
-fn answer(alloc: Global, bytes: &[u8]) -> Result<String, AllocError> {
+// What the text says, or the words of its refusal.
+pub fn answer(alloc: Global, bytes: &[u8]) -> Result<String, AllocError> {
     match read(alloc, bytes) {
         Ok(settings) => show(alloc, &settings),
         Err(fault) => format!(in alloc; "{fault}"),

@@ -1,7 +1,6 @@
 -- The whole output of a file that was fed at once.
-use Rattle.std.proofs.Common.{◌≡◌, ℕ, ◌+◌, List, [], ◌∷◌, ◌++◌, length, refl, sym, ◌∙◌, ap, subst, arith}
+use Rattle.std.proofs.Common.{◌≡◌, ℕ, ◌+◌, List, [], ◌++◌, length, sym, ◌∙◌, ap}
 use Rattle.std.proofs.lemmas.List.{nil_from_length}
-use Rattle.entry_model.specs.LogRecord.{LogRecord}
 use Rattle.line_splitter.specs.LineTokens.{tokens}
 use Rattle.otlp_json.specs.OutputLines.{output_lines}
 use Rattle.pipeline.specs.Fed.{GoesOn}

@@ -1,7 +1,7 @@
 -- Settings that are too long.
-use Rattle.std.proofs.Common.{◌≡◌, ℕ, ◌<◌, List, length, Bool, true, refl, sym, ◌∙◌, ap, subst, arith}
+use Rattle.std.proofs.Common.{◌≡◌, ℕ, ◌<◌, List, length, true, sym, ◌∙◌, ap, arith}
 use Rattle.std.proofs.lemmas.Bool.{lt-ltb}
-use Rattle.std.specs.Prelude.{nat_lt, Result, Ok, Err, if◌then◌else◌}
+use Rattle.std.specs.Prelude.{nat_lt, Err, if◌then◌else◌}
 use Rattle.settings_text.specs.Grammar.{settings, settings_of, json_of}
 use Rattle.settings_text.specs.Outcome.{◌>>=◌, or_fault}
 use Rattle.settings_text.specs.declared.fault.SettingsFault.TheVariants.{TooLong, NotJson}

@@ -1,5 +1,5 @@
 -- Why settings are refused, and the words that tell it.
-use Rattle.std.specs.Prelude.{◌≡◌, ℕ, List, [], ◌++◌, codes, decimal, Ok, Err}
+use Rattle.std.specs.Prelude.{ℕ, List, ◌++◌, codes, decimal}
 use Rattle.graph_core.specs.declared.GraphFault.{GraphFault}
 use Rattle.graph_core.specs.declared.GraphFault.TheVariants as graph
 use Rattle.op_kinds.specs.declared.compiling.OpCause.{OpCause}
@@ -40,6 +40,7 @@ settings_words read.Memory = codes "settings memory"
 
 abbrev pub cause_words : OpCause → List ℕ
 cause_words cause.Path = codes "path"
+cause_words cause.Expr = codes "expr"
 cause_words cause.Memory = codes "memory"
 
 abbrev pub graph_words : GraphFault → List ℕ

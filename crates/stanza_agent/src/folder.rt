@@ -1,10 +1,11 @@
 // What the state folder asks for.
-ghost use Rattle.std.specs.Prelude.{◌≡◌, ◌⊎◌, ℕ, ◌≤◌, List, length, take, Ok, Err, IsTrue, IfOk, IfErr};
+ghost use Rattle.std.specs.Prelude.{◌≡◌, ◌⊎◌, ℕ, ◌≤◌, List, length, map, take, Ok, Err, IsTrue, IfOk, IfErr};
 ghost use Rattle.outside.specs.Count.{HasOneCause};
 ghost use Rattle.outside.specs.Crash.{Passes};
 ghost use Rattle.outside.specs.Image.{Same};
+ghost use Rattle.pipeline.specs.BuildFaults.{HaveFewRoutes};
 ghost use Rattle.settings_text.specs.Grammar as grammar;
-ghost use Rattle.settings_text.specs.SettingsData.{settings_data};
+ghost use Rattle.settings_text.specs.SettingsData.{operator_data, settings_data};
 ghost use Rattle.settings_text.specs.declared.fault.SettingsFault.{SettingsFault};
 ghost use Rattle.stanza_agent.specs.Cause.{HasDiskCause};
 ghost use Rattle.stanza_agent.specs.Held.{Holds};
@@ -57,7 +58,8 @@ impl Folder {
     pub fn settings(&self, alloc: Global) -> Result<Settings, Fault>
         ensures ok { IfOk result (λ settings. (seen : _) → Holds self.now seen
             → grammar.settings (seen DiskFile.Settings) ≡ Ok (settings_data settings)) }
-        ensures limits { IfOk result (λ settings. (64 ≤ settings.max_log_size) × (length settings.operators.items ≤ 64)) }
+        ensures limits { IfOk result (λ settings. (64 ≤ settings.max_log_size) × (length settings.operators.items ≤ 64)
+            × HaveFewRoutes (map operator_data settings.operators.items)) }
         ensures refused { IfErr result (λ fault. (fault ≡ Fault.Memory) ⊎ ((refused : SettingsFault) × (fault ≡ Fault.Settings refused)
             × ((seen : _) → Holds self.now seen → grammar.settings (seen DiskFile.Settings) ≡ Err refused))) }
     {

@@ -1,11 +1,12 @@
 // One poll of the one log file.
-ghost use Rattle.std.specs.Prelude.{◌≡◌, ◌⊎◌, ℕ, ◌≤◌, ◌↔◌, [], length, Err, Ok, IsTrue, IfOk, IfErr, OnOk};
+ghost use Rattle.std.specs.Prelude.{◌≡◌, ◌⊎◌, ℕ, ◌≤◌, ◌↔◌, [], length, map, Err, Ok, IsTrue, IfOk, IfErr, OnOk};
 ghost use Rattle.outside.specs.Count.{NeverFalls};
 ghost use Rattle.outside.specs.Crash.{Passes};
 ghost use Rattle.outside.specs.Image.{AtFile, Same, Torn};
 ghost use Rattle.outside.specs.World.{Told};
+ghost use Rattle.pipeline.specs.BuildFaults.{HaveFewRoutes};
 ghost use Rattle.pipeline.specs.Parts.{settings_of, network};
-ghost use Rattle.settings_text.specs.SettingsData.{settings_data};
+ghost use Rattle.settings_text.specs.SettingsData.{operator_data, settings_data};
 ghost use Rattle.stanza_agent.specs.Appended.{Appended};
 ghost use Rattle.stanza_agent.specs.Cause.{HasDiskCause};
 ghost use Rattle.stanza_agent.specs.LogLines.{output_of};
@@ -57,6 +58,7 @@ struct Job {
     path: Text,
     ghost max_log_size: { 64 ≤ settings.max_log_size },
     ghost few_operators: { length settings.operators.items ≤ 64 },
+    ghost few_routes: { HaveFewRoutes (map operator_data settings.operators.items) },
     ghost plain: { IsTrue (is_plain_name path) },
 }
 

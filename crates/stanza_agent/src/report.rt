@@ -91,6 +91,7 @@ fn operator_line(alloc: Global, place: u64, cause: OpCause) -> Result<String, Al
 {
     match cause {
         OpCause::Path => format!(in alloc; "fault 3 operator {place} path\n"),
+        OpCause::Expr => format!(in alloc; "fault 3 operator {place} expr\n"),
         OpCause::Memory => format!(in alloc; "fault 3 operator {place} memory\n"),
     }
 }

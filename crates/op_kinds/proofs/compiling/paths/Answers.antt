@@ -6,7 +6,7 @@ use Rattle.op_kinds.proofs.compiling.paths.Goals as goal
 pub returns-in_err-path-clause-cause : goal.returns-in_err-path-clause-cause
 returns-in_err-path-clause-cause c =
     let p = err_from_is_err_and c.from_residual.result c.from_residual.ensures.1 in
-    rw (p.1, p.2) (caused_by _ (some_no_path_at c.args.texts.now c.loop-text.text-index _ c.loop-text-test.true (sym c.text-item.is)) c.in_err-path.ensures.cause)
+    rw (p.1, p.2) (caused_by {bad_expr = ⊥} {more_expr = ⊥} _ (some_no_path_at c.args.texts.now c.loop-text.text-index _ c.loop-text-test.true (sym c.text-item.is)) (λ none. none) c.in_err-path.ensures.cause)
 
 pub loop-text-preserved : goal.loop-text-preserved
 loop-text-preserved c =

@@ -1,4 +1,4 @@
-use Rattle.std.proofs.Common.{◌≡◌, refl, ap, ◌∙◌}
+use Rattle.std.proofs.Common.{refl, ap}
 use Rattle.entry_model.specs.Datum.{members_of}
 use Rattle.entry_model.proofs.Data.{datum_text, datum_map}
 use Rattle.pipeline.proofs.Pipeline.entry.Goals as goal

@@ -1,4 +1,4 @@
-use Rattle.std.proofs.Common.{◌≡◌, ◌+◌, ◌++◌, drop, length, refl, sym, ap, subst, ◌∙◌, arith, length-drop}
+use Rattle.std.proofs.Common.{◌+◌, drop, refl, subst, ◌∙◌, arith, length-drop}
 use Rattle.std.proofs.lemmas.List.{take_rest, drop-drop}
 use Rattle.pipeline.specs.Parts.{settings_of, network}
 use Rattle.pipeline.proofs.Feeding.{GraphLaws, LineLaws, FeedsOn, feeds_from_start, feeds_token, feeds_all, goes_on}

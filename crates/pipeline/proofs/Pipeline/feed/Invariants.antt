@@ -1,4 +1,4 @@
-use Rattle.std.proofs.Common.{◌≡◌, ℕ, ◌+◌, ◌-◌, ◌≤◌, ◌^◌, length, drop}
+use Rattle.std.proofs.Common.{◌≡◌, ◌+◌, ◌-◌, ◌≤◌, length, drop}
 use Rattle.pipeline.specs.Parts.{settings_of, network}
 use Rattle.pipeline.proofs.Feeding.{FeedsOn}
 use Rattle.pipeline.proofs.Pipeline.feed.Given as goal

@@ -3,7 +3,7 @@ use Rattle.std.proofs.Common.{◌≡◌, ◌+◌, ◌<◌, [], ◌∷◌, ◌++�
 use Rattle.std.proofs.lemmas.List.{append-nil}
 use Rattle.graph_core.specs.Traces.{inputs, Served}
 use Rattle.otlp_json.specs.OutputLines.{output_lines}
-use Rattle.pipeline.specs.Entries.{records_behind, record_with, text_of}
+use Rattle.pipeline.specs.Entries.{record_with, text_of}
 use Rattle.pipeline.specs.Parts.{settings_of, network}
 use Rattle.pipeline.proofs.Feeding.{record_none, record_one, one_fed}
 use Rattle.pipeline.proofs.Pipeline.feed_token.Goals as goal

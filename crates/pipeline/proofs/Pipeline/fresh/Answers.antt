@@ -1,4 +1,4 @@
-use Rattle.std.proofs.Common.{◌≡◌, [], refl, sym, ap, ◌∙◌, map, take, length, arith}
+use Rattle.std.proofs.Common.{◌≡◌, [], refl, ap, ◌∙◌, map, length}
 use Rattle.std.proofs.lemmas.List.{take_all}
 use Rattle.graph_core.specs.Traces.{start_states}
 use Rattle.op_kinds.specs.Operator.{behavior_of}

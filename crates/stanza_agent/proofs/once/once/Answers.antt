@@ -1,4 +1,4 @@
-use Rattle.std.proofs.Common.{◌≡◌, inl, inr, refl, sym, ◌∙◌, ap, subst}
+use Rattle.std.proofs.Common.{inl, inr, refl, ◌∙◌, subst}
 use Rattle.outside.specs.World.{Told}
 use Rattle.stanza_agent.specs.Report.{Appends, GrowsByPart}
 use Rattle.stanza_agent.proofs.Polling.{sees_log_told}

@@ -1,14 +1,12 @@
-use Rattle.std.proofs.Common.{◌≡◌, ℕ, [], ◌++◌, length, refl, sym, ◌∙◌, ap, subst, arith}
-use Rattle.std.specs.Prelude.{Err}
+use Rattle.std.proofs.Common.{◌≡◌, [], ◌++◌, length, sym, ◌∙◌, ap, subst, arith}
 use Rattle.outside.specs.declared.disk.DiskFile.TheVariants.{Output}
 use Rattle.outside.specs.Crash.{Passes}
 use Rattle.outside.specs.Image.{AtFile, Torn}
 use Rattle.outside.proofs.Tearing.{holds_at_end}
 use Rattle.pipeline.specs.Parts.{settings_of, network}
-use Rattle.stanza_agent.specs.LogLines.{records, output_of}
+use Rattle.stanza_agent.specs.LogLines.{records}
 use Rattle.stanza_agent.specs.Progress.{IsCrossing}
 use Rattle.stanza_agent.specs.Task.{Task}
-use Rattle.stanza_agent.specs.declared.fault.Fault.TheVariants.{OutputFull}
 use Rattle.stanza_agent.proofs.Lines.{whole_output}
 use Rattle.stanza_agent.proofs.output.write_lines.Goals as goal
 

@@ -1,4 +1,4 @@
-use Rattle.std.proofs.Common.{◌≡◌, inl, inr, ap, sym, ◌∙◌, true, false}
+use Rattle.std.proofs.Common.{◌≡◌, inr, ap, sym, ◌∙◌, true, false}
 use Rattle.std.specs.Prelude.{Err}
 use Rattle.std.proofs.lemmas.Result.{err_from_is_err_and, IfOk-weaker}
 use Rattle.outside.specs.declared.disk.DiskFile.TheVariants.{Output}

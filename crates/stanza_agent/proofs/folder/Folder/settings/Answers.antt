@@ -11,4 +11,4 @@ returns-then-self-clause-refused c = inr (TooLong c.args.self.now.settings_lengt
 pub returns-clause-limits : goal.returns-clause-limits
 returns-clause-limits c =
     let keeps = c.settings_keep_limits.ensures _ _ c.in_ok-read.ensures in
-    (keeps.max_log_size_from, omega (arith, keeps.few_operators, length-map c.in_ok-read.field-0.operators.items operator_data))
+    (keeps.max_log_size_from, omega (arith, keeps.few_operators, length-map c.in_ok-read.field-0.operators.items operator_data), keeps.few_routes)

@@ -1,5 +1,5 @@
 use Rattle.std.proofs.lemmas.Result.{err_from_is_err_and}
-use Rattle.op_kinds.proofs.compiling.action_of.Goals as goal
+use Rattle.op_kinds.proofs.compiling.work_of.Goals as goal
 
 pub returns-in_err-from-in-Move-clause-cause : goal.returns-in_err-from-in-Move-clause-cause
 returns-in_err-from-in-Move-clause-cause c =
