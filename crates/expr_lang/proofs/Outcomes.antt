@@ -1,14 +1,16 @@
 -- What `read` answers, from what its loop found.
-use Rattle.std.proofs.Common.{◌≡◌, ℕ, ◌+◌, ◌<◌, ◌≤◌, List, [], ◌∷◌, ◌++◌, sym, refl, subst, length, drop, arith, inl, inr, Bool, true, false, cond, nat_le, nat_lt, ◌&&◌, None}
+use Rattle.std.proofs.Common.{◌∙◌, ap, length-drop, ◌≡◌, ℕ, ◌+◌, ◌<◌, ◌≤◌, List, [], ◌∷◌, ◌++◌, sym, refl, subst, length, drop, arith, inl, inr, Bool, true, false, cond, nat_le, nat_lt, ◌&&◌, None}
 use Rattle.std.proofs.lemmas.Bool.Decides.{nat_tests}
 use Rattle.std.proofs.lemmas.List.{drop_all}
+use Rattle.expr_lang.specs.Begun.{wanted_by, takes_operand, negates}
 use Rattle.expr_lang.specs.declared.read.ExprReadFault.{ExprReadFault}
 use Rattle.expr_lang.specs.declared.read.ExprReadFault.TheVariants.{Syntax, Pattern, Memory}
 use Rattle.expr_lang.specs.declared.token.Token.{Token}
 use Rattle.expr_lang.specs.declared.token.Token.TheVariants as token
 use Rattle.expr_lang.specs.declared.tree.Node.{Node}
-use Rattle.expr_lang.specs.Fault.{IsFaultAt, IsPatternFaultAt, IsFront, Opens}
+use Rattle.expr_lang.specs.Fault.{IsFaultAt, IsPatternFaultAt, IsFront, Opens, CanStand}
 use Rattle.expr_lang.specs.Grammar.{IsExpression, HavePatterns}
+use Rattle.expr_lang.specs.Longest.{common, IsLongest}
 use Rattle.expr_lang.specs.Machine as m
 use Rattle.expr_lang.specs.Outcome.{IsReadFault, IsNoExpression}
 use Rattle.expr_lang.specs.Reads.{Reads, IsParseFault, cut}
@@ -16,11 +18,14 @@ use Rattle.expr_lang.specs.Row.{Placed, IsToken}
 use Rattle.expr_lang.specs.StepFault.{IsStepFault}
 use Rattle.expr_lang.specs.Tree.{Tree}
 use Rattle.expr_lang.specs.TreeOf.{tree}
+use Rattle.expr_lang.proofs.BegunWords.{Wants}
 use Rattle.expr_lang.proofs.Complete.{finishes}
 use Rattle.expr_lang.proofs.Kept.{no_tree_with}
+use Rattle.expr_lang.proofs.Longest.{common_none, longest_none, longest_within}
 use Rattle.expr_lang.proofs.Openings.{Reached, reached_opens, reached_refused, reached_partial}
 use Rattle.expr_lang.proofs.Patterns.{patterns_of}
 use Rattle.expr_lang.proofs.Reading.{Follows, no_expression, one_word, no_word}
+use Rattle.expr_lang.proofs.Standing.{longest_stands, deep_known, deep_found}
 use Rattle.expr_lang.proofs.Sound.{spelled, BehindPhase}
 
 pub expression_is : (text : List ℕ) (root : Node) → Reads text 0 m.start (tree root) → length text ≤ 4096 → IsExpression text (tree root)
@@ -61,25 +66,35 @@ fault_is text Memory f = tt
 
 -- ---- the faults of the loop
 
+pub longest_fits : {P : List ℕ → Type 0} (text : List ℕ) (at most : ℕ) → at < length text → IsLongest P (drop at text) most → at + most ≤ length text
+longest_fits text at most inside l = let w = longest_within l in let d = length-drop at text in omega (arith, w, d, inside)
+
+pub word_fits : {P : List ℕ → Type 0} (text : List ℕ) (at most : ℕ) → at < length text → (deep : Bool) → (deep ≡ true → most ≡ 0) → (deep ≡ false → IsLongest P (drop at text) most) → at + most ≤ length text
+word_fits text at most inside true none l = let z = none refl in omega (arith, z, inside)
+word_fits text at most inside false none l = longest_fits text at most inside (l refl)
+
 -- no word stands there
-pub fault_at_none : (text : List ℕ) (at place : ℕ) (s : m.State) → at < length text → Reached text at s → ((w : Token) (n : ℕ) → IsToken (drop at text) w n → ⊥)
-    → at ≤ place → place ≤ length text → IsFaultAt text place
-fault_at_none text at place s inside r none from to = record {
+pub fault_at_none : (text : List ℕ) (at most : ℕ) (s : m.State) → at < length text → Reached text at s → ((w : Token) (n : ℕ) → IsToken (drop at text) w n → ⊥)
+    → IsLongest (Wants (wanted_by s)) (drop at text) most → IsFaultAt text (at + most)
+fault_at_none text at most s inside r none longest = record {
   words = r.words;
   at = at;
   front = r.front;
   opens = reached_opens text at s r;
   refused = λ w n t o. none w n t;
   partial = λ tree h spells. absurd (omega (arith, h, inside));
-  from = from;
-  to = to;
-  inside = λ w n t. absurd (none w n t);
+  most = most;
+  is = refl;
+  to = longest_fits text at most inside longest;
+  too_deep = λ d. absurd (none token.Not d.0.0 d.0.1);
+  longest = λ deep. longest_stands text at s r most longest;
 }
 
 -- the word there can't be taken
-pub fault_at_word : (text : List ℕ) (at place : ℕ) (s : m.State) → at < length text → Reached text at s → (w : Token) (n : ℕ) → IsToken (drop at text) w n → m.step s w at ≡ None
-    → at + n ≤ length text → at ≤ place → place ≤ at + n → IsFaultAt text place
-fault_at_word text at place s inside r w n is e fits from to = record {
+pub fault_at_word : (text : List ℕ) (at most : ℕ) (s : m.State) → at < length text → Reached text at s → (w : Token) (n : ℕ) → IsToken (drop at text) w n → m.step s w at ≡ None
+    → ((negates w && takes_operand (wanted_by s)) ≡ true → most ≡ 0) → ((negates w && takes_operand (wanted_by s)) ≡ false → IsLongest (Wants (wanted_by s)) (drop at text) most)
+    → IsFaultAt text (at + most)
+fault_at_word text at most s inside r w n is e deep longest = record {
   words = r.words;
   at = at;
   front = r.front;
@@ -87,10 +102,16 @@ fault_at_word text at place s inside r w n is e fits from to = record {
   refused = λ v k t o. (let same = (one_word (drop at text) v w k n t is).0 in
       reached_refused text at s r w e (subst (λ (u : Token). Opens (r.words ++ (u, at) ∷ [])) same o));
   partial = λ tree h spells. absurd (omega (arith, h, inside));
-  from = from;
-  to = omega (arith, to, fits);
-  inside = λ v k t. (let same = (one_word (drop at text) v w k n t is).1 in omega (arith, to, same));
+  most = most;
+  is = refl;
+  to = word_fits text at most inside (negates w && takes_operand (wanted_by s)) deep longest;
+  too_deep = λ d. deep (deep_known text at s r w n is d);
+  longest = λ d. longest_stands text at s r most (longest (not_true (negates w && takes_operand (wanted_by s)) (λ t. d (deep_found text at s r w n is t))));
 }
+  where
+    not_true : (b : Bool) → (b ≡ true → ⊥) → b ≡ false
+    not_true true h = absurd (h refl)
+    not_true false h = refl
 
 -- the text is over too early
 pub fault_at_end : (text : List ℕ) (at place : ℕ) (s : m.State) → Reached text at s → at ≤ length text → length text ≤ at → m.tree_at s ≡ None → place ≡ length text → IsFaultAt text place
@@ -101,9 +122,11 @@ fault_at_end text at place s r l g e is = record {
   opens = reached_opens text at s r;
   refused = λ w n t o. over w n t;
   partial = λ tree h spells. reached_partial text at s r e tree spells;
-  from = omega (arith, is, l);
+  most = 0;
+  is = omega (arith, is, l, g);
   to = omega (arith, is);
-  inside = λ w n t. absurd (over w n t);
+  too_deep = λ d. refl;
+  longest = λ d. longest_none (drop at text) (λ (s : List ℕ) (c : CanStand r.words at s). ap (common s) (drop_all at text g) ∙ common_none s);
 }
   where
     over : (w : Token) (n : ℕ) → IsToken (drop at text) w n → ⊥

@@ -3,6 +3,7 @@ use Rattle.std.specs.Prelude.{◌≡◌, ℕ, ◌+◌, ◌≤◌, false, List, [
 use Rattle.expr_lang.specs.declared.token.Token.{Token}
 use Rattle.expr_lang.specs.declared.token.Token.TheVariants as token
 use Rattle.expr_lang.specs.Grammar.{Spells, Disjoined}
+use Rattle.expr_lang.specs.Longest.{IsSpelling, IsLongest}
 use Rattle.expr_lang.specs.Patterns.{is_pattern}
 use Rattle.expr_lang.specs.Row.{Placed, IsToken, past_blanks}
 use Rattle.expr_lang.specs.Tree.{Tree}
@@ -17,6 +18,14 @@ IsFront text at (placed ∷ row) next =
 abbrev pub Opens : List Placed → Type 0
 Opens words = (more : List Placed) × (tree : Tree) × Spells 32 Disjoined (words ++ more) tree
 
+-- the bytes spell a word that can stand at this place, behind the words
+abbrev pub CanStand : List Placed → ℕ → List ℕ → Type 0
+CanStand words at = IsSpelling (λ word. Opens (words ++ (word, at) ∷ []))
+
+-- a negation stands where an operand can stand. It is refused only where it would open one level too many
+abbrev pub IsTooDeep : List ℕ → List Placed → ℕ → Type 0
+IsTooDeep text words at = ((n : ℕ) × IsToken (drop at text) token.Not n) × Opens (words ++ (token.SeverityText, at) ∷ [])
+
 -- the words before the place can go on, but not with the word that stands there, if one does; or the text is over, and
 -- they spell nothing yet
 pub record IsFaultAt (text : List ℕ) (place : ℕ) : Type 0 where
@@ -26,10 +35,13 @@ pub record IsFaultAt (text : List ℕ) (place : ℕ) : Type 0 where
   pub opens : Opens words
   pub refused : (word : Token) (n : ℕ) → IsToken (drop at text) word n → Opens (words ++ (word, at) ∷ []) → ⊥
   pub partial : (tree : Tree) → length text ≤ at → Spells 32 Disjoined words tree → ⊥
-  -- the place is in that word, or behind it
-  pub from : at ≤ place
+  -- the place is behind the most bytes with which the rest of the text begins a word that can stand there, or at a
+  -- negation that opens a level too many
+  pub most : ℕ
+  pub is : place ≡ at + most
   pub to : place ≤ length text
-  pub inside : (word : Token) (n : ℕ) → IsToken (drop at text) word n → place ≤ at + n
+  pub too_deep : IsTooDeep text words at → most ≡ 0
+  pub longest : (IsTooDeep text words at → ⊥) → IsLongest (CanStand words at) (drop at text) most
 
 -- a text behind `matches` that is no pattern
 pub record IsPatternFaultAt (text : List ℕ) (place : ℕ) : Type 0 where
