@@ -12,6 +12,7 @@ pub mod Openings
 pub mod Outcomes
 pub mod Parts
 pub mod PathFronts
+pub mod PatternWords
 pub mod Patterns
 pub mod Quotes
 pub mod Reading

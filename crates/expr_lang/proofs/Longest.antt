@@ -99,7 +99,7 @@ longest_within {P} {text} {most} l = by l.begins
     by (inl z) = omega (arith, z)
     by (inr (s, p, e)) = let k = common_within s text in omega (arith, k, e)
 
--- as far as two texts go together, so does a third along with both
+-- the most is one number
 pub longest_is : {P : List ℕ → Type 0} {text : List ℕ} {one other : ℕ} → IsLongest P text one → IsLongest P text other → one ≤ other
 longest_is {P} {text} {one} {other} a b = by a.begins
   where

@@ -1,18 +1,20 @@
 -- A text has one place of a fault.
-use Rattle.std.proofs.Common.{◌≡◌, ℕ, ◌+◌, ◌≤◌, List, [], ◌∷◌, ◌++◌, ◌∙◌, ap, sym, refl, subst, length, drop, Bool, true, false, nat_eq, ◌⊎◌, inl, inr, append_assoc, arith}
+use Rattle.std.proofs.Common.{◌<◌, ◌≡◌, ◌≢◌, true≢false, ℕ, ◌+◌, ◌≤◌, List, [], ◌∷◌, ◌++◌, ◌∙◌, ap, sym, refl, subst, length, drop, Bool, true, false, nat_eq, ◌⊎◌, inl, inr, append_assoc, arith}
 use Rattle.std.proofs.lemmas.Bool.{eqb-true}
 use Rattle.std.proofs.lemmas.Bool.Decides.{nat_tests}
 use Rattle.std.proofs.lemmas.List.{append-nil, drop_all}
-use Rattle.expr_lang.specs.declared.read.ExprReadFault.TheVariants.{Syntax}
+use Rattle.expr_lang.specs.declared.read.ExprReadFault.{ExprReadFault}
+use Rattle.expr_lang.specs.declared.read.ExprReadFault.TheVariants.{Syntax, Pattern, Memory}
 use Rattle.expr_lang.specs.declared.token.Token.{Token}
 use Rattle.expr_lang.specs.declared.token.Token.TheVariants as token
-use Rattle.expr_lang.specs.Fault.{IsFront, Opens, CanStand, IsTooDeep, IsFaultAt, IsPatternFaultAt}
+use Rattle.expr_lang.specs.Fault.{IsFront, Opens, ArePatterns, CanStand, IsTooDeep, IsFaultAt, IsPatternFaultAt}
 use Rattle.expr_lang.specs.Grammar.{Spells, Disjoined}
 use Rattle.expr_lang.specs.Longest.{IsLongest}
 use Rattle.expr_lang.specs.Outcome.{IsReadFault, IsTooLong}
 use Rattle.expr_lang.specs.Row.{Placed, IsToken, IsRow}
 use Rattle.expr_lang.specs.Tree.{Tree}
 use Rattle.expr_lang.proofs.Longest.{longest_is}
+use Rattle.expr_lang.proofs.PatternWords.{row_patterns}
 use Rattle.expr_lang.proofs.Reading.{one_word, no_word}
 
 -- the words go on with a word that stands at `at`
@@ -114,25 +116,43 @@ one_place text a b p q = by (fronts text p.words q.words 0 p.at q.at p.front q.f
     by (inr (inl g)) = absurd (refuses text a p q.words q.opens g)
     by (inr (inr g)) = absurd (refuses text b q p.words p.opens g)
 
-front_past : (text : List ℕ) (words more : List Placed) (one : Placed) (from at : ℕ) → IsFront text from (words ++ one ∷ more) at → one.1 ≤ at
-front_past text [] [] one from at f = let k = f.1.2 in omega (arith, k)
-front_past text [] (next ∷ more) one from at f = let rec = front_past text [] more next (one.1 + f.1.0) at f.1.2 in let k = f.1.2.0 in omega (arith, rec, k)
-front_past text (placed ∷ words) more one from at f = front_past text words more one (placed.1 + f.1.0) at f.1.2
+-- the words that were read up to the text that is no pattern
+abbrev words_of : {text : List ℕ} {place : ℕ} → IsPatternFaultAt text place → List Placed
+words_of q = q.before ++ (token.Matches, q.matches) ∷ []
 
--- where a pattern's text is the first fault, no other one comes earlier
-not_before_pattern : (text : List ℕ) (a place : ℕ) → IsFaultAt text a → IsPatternFaultAt text place → place ≤ a
-not_before_pattern text a place p q = by (fronts text p.words words 0 p.at place p.front q.front)
+-- no words with patterns alone go on with it
+no_pattern_in : (text : List ℕ) (place : ℕ) (q : IsPatternFaultAt text place) (others : List Placed) → ArePatterns others → GoesOn text (words_of q) place others → ⊥
+no_pattern_in text place q others patterns g =
+    let same : g.0 ≡ token.Text q.source = (one_word (drop place text) g.0 (token.Text q.source) g.1 q.n g.4 q.literal).0 in
+    let is : others ≡ q.before ++ (token.Matches, q.matches) ∷ (token.Text q.source, place) ∷ g.2 =
+    g.3 ∙ append_assoc q.before ((token.Matches, q.matches) ∷ []) ((g.0, place) ∷ g.2)
+    ∙ ap (λ (u : Token). q.before ++ (token.Matches, q.matches) ∷ (u, place) ∷ g.2) same in
+    true≢false (sym (patterns q.before g.2 q.matches place q.source is) ∙ q.no_pattern)
+
+one_pattern : (text : List ℕ) (a b : ℕ) → IsPatternFaultAt text a → IsPatternFaultAt text b → a ≡ b
+one_pattern text a b p q = by (fronts text (words_of p) (words_of q) 0 a b p.front q.front)
   where
-    words : List Placed
-    words = q.before ++ (token.Matches, q.matches) ∷ []
+    by : Same (words_of p) a (words_of q) b ⊎ (GoesOn text (words_of p) a (words_of q) ⊎ GoesOn text (words_of q) b (words_of p)) → a ≡ b
+    by (inl s) = s.1
+    by (inr (inl g)) = absurd (no_pattern_in text a p (words_of q) q.patterns g)
+    by (inr (inr g)) = absurd (no_pattern_in text b q (words_of p) p.patterns g)
 
-    by : Same p.words p.at words place ⊎ (GoesOn text p.words p.at words ⊎ GoesOn text words place p.words) → place ≤ a
-    by (inl s) = let i = p.is in let e = s.1 in omega (arith, i, e)
-    by (inr (inl g)) = absurd (refuses text a p words q.opens g)
-    by (inr (inr g)) =
-        let past = front_past text words g.2 (g.0, place) 0 p.at (subst (λ (l : List Placed). IsFront text 0 l p.at) g.3 p.front) in
-        let i = p.is in
-        omega (arith, past, i)
+-- a word that can't stand where it stands, and a text that is no pattern, are never both the first fault
+not_both : (text : List ℕ) (a b : ℕ) → IsFaultAt text a → IsPatternFaultAt text b → ⊥
+not_both text a b p q = by (fronts text p.words (words_of q) 0 p.at b p.front q.front)
+  where
+    same : p.words ≡ words_of q → p.at ≡ b → ⊥
+    same e f =
+        let literal : IsToken (drop p.at text) (token.Text q.source) q.n = subst (λ (k : ℕ). IsToken (drop k text) (token.Text q.source) q.n) (sym f) q.literal in
+        let words : p.words ++ (token.Text q.source, p.at) ∷ [] ≡ q.before ++ (token.Matches, q.matches) ∷ (token.Text q.source, b) ∷ [] =
+        ap (λ (l : List Placed). l ++ (token.Text q.source, p.at) ∷ []) e ∙ append_assoc q.before ((token.Matches, q.matches) ∷ []) ((token.Text q.source, p.at) ∷ [])
+        ∙ ap (λ (k : ℕ). q.before ++ (token.Matches, q.matches) ∷ (token.Text q.source, k) ∷ []) f in
+        p.refused (token.Text q.source) q.n literal (subst Opens (sym words) q.stands)
+
+    by : Same p.words p.at (words_of q) b ⊎ (GoesOn text p.words p.at (words_of q) ⊎ GoesOn text (words_of q) b p.words) → ⊥
+    by (inl s) = same s.0 s.1
+    by (inr (inl g)) = refuses text a p (words_of q) q.opens g
+    by (inr (inr g)) = no_pattern_in text b q p.words p.patterns g
 
 no_whole : (text : List ℕ) (a : ℕ) → IsFaultAt text a → (row : List Placed) (tree : Tree) → IsRow text 0 row → Spells 32 Disjoined row tree → ⊥
 no_whole text a p row tree r s = by (row_front text row p.words 0 p.at r p.front)
@@ -143,11 +163,34 @@ no_whole text a p row tree r s = by (row_front text row p.words 0 p.at r p.front
 
 at_limit : (text : List ℕ) (a : ℕ) → a ≤ 4096 → IsFaultAt text a → IsTooLong text → a ≡ 4096
 at_limit text a few p (long, inl (place, far, inl q)) = let e = one_place text a place p q in omega (arith, few, far, e)
-at_limit text a few p (long, inl (place, far, inr q)) = let e = not_before_pattern text a place p q in omega (arith, few, far, e)
-at_limit text a few p (long, inr (row, tree, r, s)) = absurd (no_whole text a p row tree r s)
+at_limit text a few p (long, inl (place, far, inr q)) = absurd (not_both text a place p q)
+at_limit text a few p (long, inr (row, tree, r, s, have)) = absurd (no_whole text a p row tree r s)
 
-pub one_fault : (text : List ℕ) (a b : ℕ) → IsReadFault text (Syntax a) → IsReadFault text (Syntax b) → a ≡ b
-one_fault text a b (none, few, inl p) (also, little, inl q) = one_place text a b p q
-one_fault text a b (none, few, inl p) (also, little, inr q) = at_limit text a few p q.1 ∙ sym q.0
-one_fault text a b (none, few, inr p) (also, little, inl q) = p.0 ∙ sym (at_limit text b little q p.1)
-one_fault text a b (none, few, inr p) (also, little, inr q) = p.0 ∙ sym q.0
+-- a text that is no pattern comes before the limit
+not_at_limit : (text : List ℕ) (a : ℕ) → a < 4096 → IsPatternFaultAt text a → IsTooLong text → ⊥
+not_at_limit text a few q (long, inl (place, far, inl p)) = not_both text place a p q
+not_at_limit text a few q (long, inl (place, far, inr p)) = let e = one_pattern text a place q p in absurd (omega (arith, few, far, e))
+not_at_limit text a few q (long, inr (row, tree, r, s, have)) = by (row_front text row (words_of q) 0 a r q.front)
+  where
+    by : ((row ≡ words_of q) × (length text ≤ a)) ⊎ GoesOn text (words_of q) a row → ⊥
+    by (inl e) = over text (token.Text q.source) q.n a e.1 q.literal
+    by (inr g) = no_pattern_in text a q row (row_patterns row tree s have) g
+
+one_syntax : (text : List ℕ) (a b : ℕ) → IsReadFault text (Syntax a) → IsReadFault text (Syntax b) → a ≡ b
+one_syntax text a b (none, few, inl p) (also, little, inl q) = one_place text a b p q
+one_syntax text a b (none, few, inl p) (also, little, inr q) = at_limit text a few p q.1 ∙ sym q.0
+one_syntax text a b (none, few, inr p) (also, little, inl q) = p.0 ∙ sym (at_limit text b little q p.1)
+one_syntax text a b (none, few, inr p) (also, little, inr q) = p.0 ∙ sym q.0
+
+apart : (text : List ℕ) (a b : ℕ) → IsReadFault text (Syntax a) → IsReadFault text (Pattern b) → ⊥
+apart text a b (none, few, inl p) (also, near, q) = not_both text a b p q
+apart text a b (none, few, inr p) (also, near, q) = not_at_limit text b near q p.1
+
+pub one_fault : (text : List ℕ) (fault other : ExprReadFault) → IsReadFault text fault → IsReadFault text other → fault ≢ Memory → other ≢ Memory → fault ≡ other
+one_fault text (Syntax a) (Syntax b) p q n m = ap Syntax (one_syntax text a b p q)
+one_fault text (Syntax a) (Pattern b) p q n m = absurd (apart text a b p q)
+one_fault text (Pattern a) (Syntax b) p q n m = absurd (apart text b a q p)
+one_fault text (Pattern a) (Pattern b) p q n m = ap Pattern (one_pattern text a b p.2 q.2)
+one_fault text Memory other p q n m = absurd (n refl)
+one_fault text (Syntax a) Memory p q n m = absurd (m refl)
+one_fault text (Pattern a) Memory p q n m = absurd (m refl)

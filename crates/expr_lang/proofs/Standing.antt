@@ -92,7 +92,7 @@ step_some (m.after_item values) frames word at f = after_some frames values word
 -- ---- the words that can stand there
 
 module _ (text : List ℕ) (at : ℕ) (s : m.State) (r : Reached text at s) where
-  can_stand : (w : Token) → takes (wanted_by s) w ≡ true → Opens (r.words ++ (w, at) ∷ [])
+  pub can_stand : (w : Token) → takes (wanted_by s) w ≡ true → Opens (r.words ++ (w, at) ∷ [])
   can_stand w t = by (m.step s w at) refl (step_some s.phase s.frames w at r.fine ∙ t)
     where
       by : (o : Option m.State) → m.step s w at ≡ o → is_some o ≡ true → Opens (r.words ++ (w, at) ∷ [])

@@ -1,4 +1,4 @@
--- How far a text begins a word.
+-- Which words may come next, and how many bytes at the front of a text begin one that has a fixed spelling.
 use Rattle.std.specs.Prelude.{ℕ, Bool, true, false, not, List, [], ◌∷◌, codes, max, is_some, cond}
 use Rattle.std.specs.List.{list_any}
 use Rattle.expr_lang.specs.declared.parser.Wanted.{Wanted}

@@ -1,9 +1,10 @@
 // What the definitions imply.
-ghost use Rattle.std.specs.Prelude.{◌≡◌, ◌↔◌, ℕ, List, Some, true};
+ghost use Rattle.std.specs.Prelude.{◌≡◌, ◌≢◌, ◌↔◌, ℕ, List, Some, true};
 ghost use Rattle.entry_model.specs.Datum.{Datum};
 ghost use Rattle.expr_lang.specs.Equality.{same};
 ghost use Rattle.expr_lang.specs.Grammar.{IsExpression, Spells, Level, Disjoined};
-ghost use Rattle.expr_lang.specs.declared.read.ExprReadFault.TheVariants.{Syntax};
+ghost use Rattle.expr_lang.specs.declared.read.ExprReadFault.{ExprReadFault};
+ghost use Rattle.expr_lang.specs.declared.read.ExprReadFault.TheVariants.{Memory};
 ghost use Rattle.expr_lang.specs.Machine.{finished, start};
 ghost use Rattle.expr_lang.specs.Outcome.{IsReadFault};
 ghost use Rattle.expr_lang.specs.Row.{Placed};
@@ -24,9 +25,9 @@ pub fn text_has_one_tree()
     ensures { (text : List ℕ) (tree other : Tree) → IsExpression text tree → IsExpression text other → tree ≡ other }
 {}
 
-/// A text that is no expression has one place at which `Syntax` can be told.
+/// A text that is no expression has one fault, but for want of memory.
 pub fn text_has_one_fault()
-    ensures { (text : List ℕ) (at other : ℕ) → IsReadFault text (Syntax at) → IsReadFault text (Syntax other) → at ≡ other }
+    ensures { (text : List ℕ) (fault other : ExprReadFault) → IsReadFault text fault → IsReadFault text other → fault ≢ Memory → other ≢ Memory → fault ≡ other }
 {}
 
 /// Values are the same exactly where they are equal, with the same kind.
