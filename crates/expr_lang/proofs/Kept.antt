@@ -11,7 +11,7 @@ use Rattle.expr_lang.specs.Row.{Placed, IsToken}
 use Rattle.expr_lang.specs.Tree.{Tree, constant, negation, matching}
 use Rattle.expr_lang.proofs.Reading.{Follows, reads_word}
 
-abbrev FramesHave : List m.Frame → Type 0
+abbrev pub FramesHave : List m.Frame → Type 0
 FramesHave [] = Unit {0}
 FramesHave (m.grouped ∷ frames) = FramesHave frames
 FramesHave (m.negated at ∷ frames) = FramesHave frames
@@ -19,7 +19,7 @@ FramesHave (m.compared_to operator at left ∷ frames) = HavePatterns left × Fr
 FramesHave (m.conjoined_to at left ∷ frames) = HavePatterns left × FramesHave frames
 FramesHave (m.disjoined_to at left ∷ frames) = HavePatterns left × FramesHave frames
 
-abbrev PhaseHas : m.Phase → List m.Frame → Type 0
+abbrev pub PhaseHas : m.Phase → List m.Frame → Type 0
 PhaseHas (m.has_operand tree c) frames = HavePatterns tree × FramesHave frames
 PhaseHas (m.wants_pattern at left) frames = HavePatterns left × FramesHave frames
 PhaseHas m.wants_operand frames = FramesHave frames
@@ -27,7 +27,7 @@ PhaseHas m.first_item frames = FramesHave frames
 PhaseHas (m.next_item values) frames = FramesHave frames
 PhaseHas (m.after_item values) frames = FramesHave frames
 
-abbrev Has : m.State → Type 0
+abbrev pub Has : m.State → Type 0
 Has s = PhaseHas s.phase s.frames
 
 has_same : (s t : m.State) → Some s ≡ Some t → Has t → Has s
@@ -199,7 +199,7 @@ of_after frames values token.OpenList t e h = absurd (cc e)
 of_after frames values token.CloseList t e h = (of_settled frames (constant (list (items_of values))) (has_same (m.listed frames values) t e h)).1
 of_after frames values token.Comma t e h = has_same (record { phase = m.next_item values; frames = frames }) t e h
 
-of_step : (phase : m.Phase) (frames : List m.Frame) (word : Token) (at : ℕ) (t : m.State) → m.step_from phase frames word at ≡ Some t → Has t → PhaseHas phase frames
+pub of_step : (phase : m.Phase) (frames : List m.Frame) (word : Token) (at : ℕ) (t : m.State) → m.step_from phase frames word at ≡ Some t → Has t → PhaseHas phase frames
 of_step m.wants_operand frames word at t e h = of_operand frames word at t e h
 of_step (m.has_operand tree c) frames word at t e h = of_operator c frames tree word at t e h
 of_step (m.wants_pattern place left) frames word at t e h = of_pattern frames place left word t e h
@@ -211,7 +211,7 @@ of_ended : (joined : List m.Frame × Tree) (tree : Tree) → m.ended joined ≡ 
 of_ended ([], made) tree e h = let is : made ≡ tree = cc e in (subst HavePatterns (sym is) h, tt)
 of_ended (frame ∷ frames, made) tree e h = absurd (cc e)
 
-of_tree : (phase : m.Phase) (frames : List m.Frame) (tree : Tree) → m.tree_from phase frames ≡ Some tree → HavePatterns tree → PhaseHas phase frames
+pub of_tree : (phase : m.Phase) (frames : List m.Frame) (tree : Tree) → m.tree_from phase frames ≡ Some tree → HavePatterns tree → PhaseHas phase frames
 of_tree m.wants_operand frames tree e h = absurd (cc e)
 of_tree (m.has_operand made c) frames tree e h = of_joined frames made (of_ended (m.joined frames made) tree e h)
 of_tree (m.wants_pattern place left) frames tree e h = absurd (cc e)

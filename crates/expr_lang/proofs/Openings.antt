@@ -356,16 +356,33 @@ opens (m.next_item values) frames words b f =
 
 -- ---- what the loop over the words keeps
 
+-- the state behind the words
+abbrev pub run : m.State → List Placed → Option m.State
+run s [] = Some s
+run s (placed ∷ row) = option_and_then (λ next. run next row) (m.step s placed.0 placed.1)
+
+run_more : (row : List Placed) (s t u : m.State) (w : Token) (at : ℕ) → run s row ≡ Some t → m.step t w at ≡ Some u → run s (row ++ (w, at) ∷ []) ≡ Some u
+run_more [] s t u w at e f =
+    let is : t ≡ s = cc e in
+    ap (option_and_then (λ (next : m.State). Some next)) (subst (λ (v : m.State). m.step v w at ≡ Some u) is f)
+run_more (placed ∷ row) s t u w at e f = by (m.step s placed.0 placed.1) e (λ (next : m.State) (k : run next row ≡ Some t). run_more row next t u w at k f)
+  where
+    by : (o : Option m.State) → option_and_then (λ (next : m.State). run next row) o ≡ Some t → ((next : m.State) → run next row ≡ Some t → run next (row ++ (w, at) ∷ []) ≡ Some u)
+        → option_and_then (λ (next : m.State). run next (row ++ (w, at) ∷ [])) o ≡ Some u
+    by None e rec = absurd (cc e)
+    by (Some next) e rec = rec next e
+
 -- the words that were read, and where they led
 pub record Reached (text : List ℕ) (at : ℕ) (s : m.State) : Type 0 where
   pub words : List Placed
   pub front : IsFront text 0 words at
+  pub ran : run m.start words ≡ Some s
   pub runs : (rest : List Placed) → m.finished m.start (words ++ rest) ≡ m.finished s rest
   pub behind : Behind s words
   pub fine : Fine s
 
 pub reached_first : (text : List ℕ) → Reached text (past_blanks text 0) m.start
-reached_first text = record { words = []; front = refl; runs = λ rest. refl; behind = (32, (refl, refl)); fine = tt }
+reached_first text = record { words = []; front = refl; ran = refl; runs = λ rest. refl; behind = (32, (refl, refl)); fine = tt }
 
 front_more : (words : List Placed) (text : List ℕ) (from at : ℕ) (w : Token) (n : ℕ) → IsFront text from words at → IsToken (drop at text) w n
     → IsFront text from (words ++ (w, at) ∷ []) (past_blanks text (at + n))
@@ -376,6 +393,7 @@ pub reached_next : (text : List ℕ) (at : ℕ) (s t : m.State) → Reached text
 reached_next text at s t r w n is e = record {
   words = r.words ++ (w, at) ∷ [];
   front = front_more r.words text 0 at w n r.front is;
+  ran = run_more r.words m.start s t w at r.ran e;
   runs = λ rest. ap (m.finished m.start) (append_assoc r.words ((w, at) ∷ []) rest) ∙ r.runs ((w, at) ∷ rest) ∙ ap (option_and_then (λ next. m.finished next rest)) e;
   behind = step_behind s.phase s.frames r.words w at r.behind t e;
   fine = step_fine s.phase s.frames w at t r.fine e;

@@ -1,3 +1,5 @@
+pub mod Begun
+pub mod BrokenWords
 pub mod Equality
 pub mod EvalOutcome
 pub mod Fault
@@ -5,6 +7,7 @@ pub mod Grammar
 pub mod IsReadByDefault
 pub mod Kinds
 pub mod Meaning
+pub mod Longest
 pub mod Machine
 pub mod OperandOf
 pub mod Outcome

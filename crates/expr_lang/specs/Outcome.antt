@@ -3,7 +3,7 @@ use Rattle.std.specs.Prelude.{◌≡◌, ℕ, List, ◌≤◌, ◌<◌, ◌⊎�
 use Rattle.expr_lang.specs.declared.read.ExprReadFault.{ExprReadFault}
 use Rattle.expr_lang.specs.declared.read.ExprReadFault.TheVariants.{Syntax, Pattern, Memory}
 use Rattle.expr_lang.specs.Fault.{IsFaultAt, IsPatternFaultAt}
-use Rattle.expr_lang.specs.Grammar.{IsExpression, Spells, Disjoined}
+use Rattle.expr_lang.specs.Grammar.{IsExpression, HavePatterns, Spells, Disjoined}
 use Rattle.expr_lang.specs.Row.{Placed, IsRow}
 use Rattle.expr_lang.specs.Tree.{Tree}
 
@@ -15,9 +15,9 @@ IsNoExpression text = (tree : Tree) → IsExpression text tree → ⊥
 abbrev pub IsTooLong : List ℕ → Type 0
 IsTooLong text = (4096 < length text)
     × (((place : ℕ) × (4096 ≤ place) × (IsFaultAt text place ⊎ IsPatternFaultAt text place))
-    ⊎ ((words : List Placed) × (tree : Tree) × IsRow text 0 words × Spells 32 Disjoined words tree))
+    ⊎ ((words : List Placed) × (tree : Tree) × IsRow text 0 words × Spells 32 Disjoined words tree × HavePatterns tree))
 
 abbrev pub IsReadFault : List ℕ → ExprReadFault → Type 0
 IsReadFault text (Syntax at) = IsNoExpression text × (at ≤ 4096) × (IsFaultAt text at ⊎ ((at ≡ 4096) × IsTooLong text))
-IsReadFault text (Pattern at) = IsNoExpression text × IsPatternFaultAt text at
+IsReadFault text (Pattern at) = IsNoExpression text × (at < 4096) × IsPatternFaultAt text at
 IsReadFault text Memory = ⊤

@@ -1,6 +1,7 @@
 // The parts of a tree that are open, and what ends them.
 ghost use Rattle.std.specs.Prelude.{◌≡◌, IfOk};
-ghost use Rattle.std.specs.List.{count_by};
+ghost use Rattle.std.specs.List.{count_by, list_any};
+ghost use Rattle.expr_lang.specs.Begun.{is_group};
 ghost use Rattle.expr_lang.specs.Machine.{joined_and, joined_or, joined, nests, has_room as have_room, frame, frames_of};
 ghost use Rattle.expr_lang.specs.TreeOf.{tree};
 
@@ -39,6 +40,25 @@ impl Frame {
     {
         matches!(self, Frame::Group | Frame::Not { .. })
     }
+
+    fn is_group(&self) -> bool
+        ensures { result ≡ is_group (frame self.now) }
+    {
+        matches!(self, Frame::Group)
+    }
+}
+
+/// Whether a group is open.
+#[tactic(auto, using(crate::proofs::Stacks::groups_found, crate::proofs::Stacks::group_step, crate::proofs::Stacks::group_end))]
+pub fn has_group(frames: &Vec<Frame>) -> bool
+    ensures { result ≡ list_any is_group (frames_of frames.now.items) }
+{
+    for frame in frames {
+        if frame.is_group() {
+            return true;
+        }
+    }
+    false
 }
 
 /// How many groups and negations are open.

@@ -1,9 +1,12 @@
 // What the definitions imply.
-ghost use Rattle.std.specs.Prelude.{◌≡◌, ◌↔◌, ℕ, List, Some, true};
+ghost use Rattle.std.specs.Prelude.{◌≡◌, ◌≢◌, ◌↔◌, ℕ, List, Some, true};
 ghost use Rattle.entry_model.specs.Datum.{Datum};
 ghost use Rattle.expr_lang.specs.Equality.{same};
 ghost use Rattle.expr_lang.specs.Grammar.{IsExpression, Spells, Level, Disjoined};
+ghost use Rattle.expr_lang.specs.declared.read.ExprReadFault.{ExprReadFault};
+ghost use Rattle.expr_lang.specs.declared.read.ExprReadFault.TheVariants.{Memory};
 ghost use Rattle.expr_lang.specs.Machine.{finished, start};
+ghost use Rattle.expr_lang.specs.Outcome.{IsReadFault};
 ghost use Rattle.expr_lang.specs.Row.{Placed};
 ghost use Rattle.expr_lang.specs.Tree.{Tree};
 
@@ -20,6 +23,11 @@ pub fn words_lead_to_their_tree()
 /// A text has one tree at most.
 pub fn text_has_one_tree()
     ensures { (text : List ℕ) (tree other : Tree) → IsExpression text tree → IsExpression text other → tree ≡ other }
+{}
+
+/// A text that is no expression has one fault, but for want of memory.
+pub fn text_has_one_fault()
+    ensures { (text : List ℕ) (fault other : ExprReadFault) → IsReadFault text fault → IsReadFault text other → fault ≢ Memory → other ≢ Memory → fault ≡ other }
 {}
 
 /// Values are the same exactly where they are equal, with the same kind.

@@ -2,9 +2,10 @@
 //! `body contains "err" and attributes.n > 3`.
 //!
 //! The contract for the layer above: an [`Expr`] is seen as its tree (`tree_of`), and an entry as its `log_record`.
-//! [`Expr::read`] answers the one tree that a text spells, by a grammar of words (`IsExpression`); each other text is a
-//! fault, at a word that can't stand behind the words before it. [`Expr::eval`] answers what the tree's meaning is for
-//! an entry (`answers`): a table by the kinds of the values. The language is a part of
+//! [`Expr::read`] answers the one tree that a text spells, by a grammar of words (`IsExpression`); each other text has one
+//! fault (`IsReadFault`, `laws::text_has_one_fault`), behind the bytes that begin a word which can stand behind the words
+//! before it. [`Expr::eval`] answers what the tree's meaning is for an entry (`answers`): a table by the kinds of the
+//! values. The language is a part of
 //! [expr-lang](https://expr-lang.org/docs/language-definition), in which the OpenTelemetry Collector's log operators
 //! have their conditions; patterns are those of the crate `regex`.
 #![tactic(auto)]

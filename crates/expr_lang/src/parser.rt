@@ -1,6 +1,7 @@
 // Trees out of tokens.
 ghost use Rattle.std.specs.Prelude.{◌≡◌, IfOk, IfErr, map, option_map, Some, ◌∷◌};
 ghost use Rattle.entry_model.specs.Datum.{datum};
+ghost use Rattle.expr_lang.specs.Begun.{takes_operand, wanted_by};
 ghost use Rattle.expr_lang.specs.Grammar.{constant_of as constant, leaf_of as leaf};
 ghost use Rattle.expr_lang.specs.Machine.{start, waiting, standing, settled, joined, closed, ended, opened, operand_step, operator_step, pattern_step, item_step, listed, frame, frames_of, phase as phase_of, wants_pattern, state_of, step, tree_at};
 ghost use Rattle.expr_lang.specs.StepFault.{IsStepFault};
@@ -9,7 +10,7 @@ ghost use Rattle.expr_lang.specs.Tree.{matching};
 ghost use Rattle.regex.specs.Strings.{regex_source};
 
 use crate::ExprReadFault;
-use crate::frames::{Frame, has_room, join_all, join_and};
+use crate::frames::{Frame, has_group, has_room, join_all, join_and};
 use crate::pattern::Pattern;
 use crate::token::{Comparison, Token};
 use crate::tree::Node;
@@ -46,6 +47,14 @@ pub enum Wanted {
     AfterItem,
 }
 
+impl Wanted {
+    pub fn takes_operand(&self) -> bool
+        ensures { result ≡ takes_operand self.now }
+    {
+        matches!(self, Wanted::Operand { .. })
+    }
+}
+
 impl Parser {
     pub fn new(alloc: Global) -> Parser
         ensures { state_of result ≡ start }
@@ -56,17 +65,16 @@ impl Parser {
         }
     }
 
-    pub fn wanted(&self) -> Wanted {
+    pub fn wanted(&self) -> Wanted
+        ensures { result ≡ wanted_by (state_of self.now) }
+    {
         match &self.phase {
             Phase::Operand => Wanted::Operand {
                 nests: has_room(&self.frames),
             },
             Phase::Operator { compared, .. } => Wanted::Operator {
                 compared: *compared,
-                grouped: self
-                    .frames
-                    .iter()
-                    .any(|frame| matches!(frame, Frame::Group)),
+                grouped: has_group(&self.frames),
             },
             Phase::Pattern { .. } => Wanted::Pattern,
             Phase::FirstItem => Wanted::FirstItem,

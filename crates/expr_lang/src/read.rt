@@ -7,7 +7,7 @@ ghost use Rattle.expr_lang.specs.TreeOf.{tree};
 use crate::Expr;
 use crate::lexer::{skip_blanks, token_at};
 use crate::parser::Parser;
-use crate::place::fault_place;
+use crate::place::{begun_length, refused_length};
 use crate::tree::Node;
 use std::alloc::{AllocError, Global};
 use thiserror::Error;
@@ -104,12 +104,13 @@ fn parse(alloc: Global, text: &str) -> Result<Node, ExprReadFault>
     while at < bytes.len() {
         let wanted = parser.wanted();
         let Some((token, length)) = token_at(alloc, text, at)? else {
-            let place = fault_place(alloc, wanted, text, at, bytes.len() - at)?;
-            return Err(ExprReadFault::Syntax { at: place });
+            let begun = begun_length(alloc, wanted, text, at)?;
+            return Err(ExprReadFault::Syntax { at: at + begun });
         };
+        let negates = token.negates();
         let Some(next) = parser.step(alloc, token, at)? else {
-            let place = fault_place(alloc, wanted, text, at, length)?;
-            return Err(ExprReadFault::Syntax { at: place });
+            let begun = refused_length(alloc, wanted, negates, text, at)?;
+            return Err(ExprReadFault::Syntax { at: at + begun });
         };
         parser = next;
         at = skip_blanks(bytes, at + length);

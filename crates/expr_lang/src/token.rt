@@ -1,4 +1,7 @@
 // The words of an expression.
+ghost use Rattle.std.specs.Prelude.{◌≡◌};
+ghost use Rattle.expr_lang.specs.Begun.{negates};
+
 use entry_model::Text;
 use field_paths::FieldPath;
 
@@ -36,4 +39,12 @@ pub enum Token {
     OpenList,
     CloseList,
     Comma,
+}
+
+impl Token {
+    pub fn negates(&self) -> bool
+        ensures { result ≡ negates self.now }
+    {
+        matches!(self, Token::Not)
+    }
 }
