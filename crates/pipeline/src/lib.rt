@@ -1,10 +1,11 @@
 //! From the bytes of a log file to the lines of the output: tokens, entries, operators, lines.
 //!
-//! **The contract for the layer above.** [`Pipeline::build`] makes the operators that the settings ask for, wired one behind
-//! the other, or tells the first reason for which it can't. `graph_output` of `specs/GraphOutput` is what comes out for the
-//! tokens of a file: their records, through the graph's traces. [`Pipeline::feed`] takes the tokens of some bytes: from
-//! a state that stands for the tokens before, it appends the lines of what comes out past what those gave, and leaves
-//! the state that stands for all of them. So a file can be fed in pieces, each from the first byte that wasn't used.
+//! **The contract for the layer above.** [`Pipeline::build`] makes the operators that the settings ask for, each of which
+//! sends to those that its outputs name, or tells the first reason for which it can't. `graph_output` of
+//! `specs/GraphOutput` is what comes out for the tokens of a file: their records, through the graph's traces.
+//! [`Pipeline::feed`] takes the tokens of some bytes: from a state that stands for the tokens before, it appends the lines
+//! of what comes out past what those gave, and leaves the state that stands for all of them. So a file can be fed in
+//! pieces, each from the first byte that wasn't used.
 #![tactic(auto)]
 
 ghost use Rattle.std.specs.Prelude.{◌≤◌};
