@@ -1,9 +1,10 @@
 -- Writes to one file, one after another.
-use Rattle.std.proofs.Common.{◌≡◌, ℕ, ◌+◌, ◌-◌, ◌<◌, ◌≤◌, List, ◌++◌, length, get_or, refl, sym, subst, ◌∙◌, arith, length-append, inl, inr}
+use Rattle.std.proofs.Common.{◌≡◌, ℕ, ◌+◌, ◌-◌, ◌<◌, ◌≤◌, List, ◌++◌, length, take, get_or, refl, sym, subst, ◌∙◌, arith, length-append, inl, inr}
 use Rattle.std.proofs.lemmas.Bool.{cases_lt}
 use Rattle.std.proofs.lemmas.Grind.{same_number_lists}
-use Rattle.std.proofs.lemmas.List.{get_or_append_left, get_or-append-add}
-use Rattle.outside.specs.Image.{Image, AtFile, Torn, Holds, Same}
+use Rattle.std.proofs.lemmas.List.{get_or_append_left, get_or-append-add, get_or-take, length-take-le}
+use Rattle.outside.specs.Image.{Image, AtFile, Torn, Holds, KeepsFront, Same}
+use Rattle.outside.specs.Images.{Images}
 use Rattle.outside.specs.Crash.{Passes}
 use Rattle.outside.proofs.Passing.{passes_none, passes_weaker, passes_then, passes_after_same}
 
@@ -15,22 +16,30 @@ torn_idle offset size content = record {
   no_longer = omega arith;
 }
 
--- any write that ends by `end`, seen from the front of the file
-pub torn_from_front : (offset size end : ℕ) (old new : List ℕ) → offset + size ≤ end → Torn offset size old new → Torn 0 end old new
-torn_from_front offset size end old new ends torn = record {
-  before = λ k early _. absurd (omega arith);
-  after = λ k late within. torn.after k (omega arith) within;
+pub keeps_front_idle : (kept : ℕ) (content : List ℕ) → KeepsFront kept content content
+keeps_front_idle kept content = record { front = λ k _ _. refl; no_shorter = omega arith }
+
+-- a write from there on, whatever was left of it
+pub keeps_front_torn : (kept offset size : ℕ) (old new : List ℕ) → kept ≤ offset → Torn offset size old new → KeepsFront kept old new
+keeps_front_torn kept offset size old new behind torn = record {
+  front = λ k early within. torn.before k (omega arith) within;
   no_shorter = torn.no_shorter;
-  no_longer = omega (arith, torn.no_longer);
 }
 
-pub torn_then : (first second end : ℕ) (old mid new : List ℕ) → first ≤ end → second ≤ end → Torn 0 first old mid → Torn 0 second mid new → Torn 0 end old new
-torn_then first second end old mid new one two a b = record {
-  before = λ k early _. absurd (omega arith);
-  after = λ k late within. b.after k (omega arith) (omega (arith, a.no_shorter)) ∙ a.after k (omega arith) within;
+pub keeps_front_then : (kept : ℕ) (old mid new : List ℕ) → KeepsFront kept old mid → KeepsFront kept mid new → KeepsFront kept old new
+keeps_front_then kept old mid new a b = record {
+  front = λ k early within. b.front k early (omega (arith, a.no_shorter)) ∙ a.front k early within;
   no_shorter = omega (arith, a.no_shorter, b.no_shorter);
-  no_longer = omega (arith, a.no_longer, b.no_longer);
 }
+
+-- what stood before the place is there
+pub keeps_front_take : (kept : ℕ) (old new : List ℕ) → kept ≤ length old → KeepsFront kept old new → take kept new ≡ take kept old
+keeps_front_take kept old new within keeps =
+    let long : kept ≤ length new = omega (arith, keeps.no_shorter) in
+    same_number_lists (take kept new) (take kept old) (length-take-le kept new long ∙ sym (length-take-le kept old within))
+    (λ k early.
+    let near : k < kept = omega (arith, length-take-le kept new long) in
+    get_or-take kept new k 0 near ∙ keeps.front k near (omega arith) ∙ sym (get_or-take kept old k 0 near))
 
 pub at_file_idle : {F : Type 0} (file : F) (change : List ℕ → List ℕ → Type 0) (image : Image F) → change (image file) (image file) → AtFile file change image image
 at_file_idle file change image idle = record { here = idle; others = λ _ _. refl }
@@ -56,18 +65,16 @@ holds_at_end offset bytes old new at_end holds =
       | inr late ↦ (let j = k - length old in let at : k ≡ length old + j = omega arith in rw at (holds_inside j (omega (arith, length-append old bytes)) ∙ sym (get_or-append-add old bytes j 0)))
     ])
 
--- A crash after writes to one file that end by some place: they may be there in part.
-module _ {F D : Type 0} {may_leave : D → Image F → Type 0} {moment : D → ℕ} {left_since : D → ℕ → Image F → Type 0} (file : F) where
-  pub tearing_none : (end : ℕ) (disk : D) → Passes may_leave moment left_since (AtFile file (Torn 0 end)) disk disk
-  tearing_none end disk = passes_weaker (passes_none disk) (λ x y same. subst (λ z. AtFile file (Torn 0 end) x z) (sym same) (at_file_idle file (Torn 0 end) x (torn_idle 0 end (x file))))
+-- A crash after writes to one file behind some place: what stands before it stays.
+module _ {F D : Type 0} {images : Images F D} (file : F) (kept : ℕ) where
+  pub keeping_none : (disk : D) → Passes images (AtFile file (KeepsFront kept)) disk disk
+  keeping_none disk = passes_weaker (passes_none disk) (λ x y same. subst (λ z. AtFile file (KeepsFront kept) x z) (sym same) (at_file_idle file (KeepsFront kept) x (keeps_front_idle kept (x file))))
 
-  pub tearing_weaker : {old new : D} (first end : ℕ) → first ≤ end → Passes may_leave moment left_since (AtFile file (Torn 0 first)) old new → Passes may_leave moment left_since (AtFile file (Torn 0 end)) old new
-  tearing_weaker first end within passes = passes_weaker passes (λ x y at. at_file_weaker at (torn_from_front 0 first end (x file) (y file) (omega arith)))
+  pub keeping_torn : {old new : D} (offset size : ℕ) → kept ≤ offset → Passes images (AtFile file (Torn offset size)) old new → Passes images (AtFile file (KeepsFront kept)) old new
+  keeping_torn offset size behind passes = passes_weaker passes (λ x y at. at_file_weaker at (keeps_front_torn kept offset size (x file) (y file) behind))
 
-  pub tearing_then : {old mid new : D} (first second end : ℕ) → first ≤ end → second ≤ end → Passes may_leave moment left_since (AtFile file (Torn 0 first)) old mid → Passes may_leave moment left_since (AtFile file (Torn 0 second)) mid new → Passes may_leave moment left_since (AtFile file (Torn 0 end)) old new
-  tearing_then first second end one two a b = passes_then a b
-      (λ x y at. at_file_weaker at (torn_from_front 0 first end (x file) (y file) (omega arith)))
-      (λ x y z at then. at_file_then at then (torn_then first second end (x file) (y file) (z file) one two))
+  pub keeping_then : {old mid new : D} → Passes images (AtFile file (KeepsFront kept)) old mid → Passes images (AtFile file (KeepsFront kept)) mid new → Passes images (AtFile file (KeepsFront kept)) old new
+  keeping_then a b = passes_then a b (λ x y at. at) (λ x y z at then. at_file_then at then (keeps_front_then kept (x file) (y file) (z file)))
 
-  pub tearing_after_same : {old mid new : D} (end : ℕ) → Passes may_leave moment left_since Same old mid → Passes may_leave moment left_since (AtFile file (Torn 0 end)) mid new → Passes may_leave moment left_since (AtFile file (Torn 0 end)) old new
-  tearing_after_same end a b = passes_after_same a b (λ image. at_file_idle file (Torn 0 end) image (torn_idle 0 end (image file)))
+  pub keeping_after_same : {old mid new : D} → Passes images Same old mid → Passes images (AtFile file (KeepsFront kept)) mid new → Passes images (AtFile file (KeepsFront kept)) old new
+  keeping_after_same a b = passes_after_same a b (λ image. at_file_idle file (KeepsFront kept) image (keeps_front_idle kept (image file)))

@@ -23,6 +23,11 @@ pub record Holds (offset : ℕ) (bytes old new : List ℕ) : Type 0 where
   pub inside : (k : ℕ) → k < length bytes → slice_index new (offset + k) ≡ slice_index bytes k
   pub reaches : offset + length bytes ≤ length new
 
+-- The file is no shorter, and stands as it was before this place, as far as it went.
+pub record KeepsFront (kept : ℕ) (old new : List ℕ) : Type 0 where
+  pub front : (k : ℕ) → k < kept → k < length old → slice_index new k ≡ slice_index old k
+  pub no_shorter : length old ≤ length new
+
 abbrev pub IsCut : ℕ → List ℕ → List ℕ → Type 0
 IsCut size old new = new ≡ take size old
 

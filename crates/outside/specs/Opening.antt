@@ -3,6 +3,7 @@ use Rattle.std.specs.Prelude.{◌≡◌, ℕ, ◌≤◌, List, [], ◌∷◌, le
 use Rattle.outside.specs.World.{Event, look, miss, History, names, bytes, file_at, World}
 use Rattle.outside.specs.Moment.{AtOneMoment}
 use Rattle.outside.specs.Listing.{kind_at}
+use Rattle.outside.specs.Reading.{file_of}
 use Rattle.outside.specs.declared.fault.CallFault.{CallFault}
 use Rattle.outside.specs.declared.fault.CallFault.TheVariants.{Failed, Memory}
 use Rattle.outside.specs.declared.tree.Kind.TheVariants.{Folder}
@@ -14,9 +15,10 @@ pub record IsLook (path : List ℕ) (file size : ℕ) (history : History) : Type
   pub named : file_at (names history) path ≡ Some file
   pub length_then : size ≡ length (bytes history file)
 
--- a file was opened, and the handle stands for it
+-- a file was opened, and the handle, which was none of an open file, stands for it
 pub record OpensFile (path : List ℕ) (handle size : ℕ) (old new : World) : Type 0 where
   pub file : ℕ
+  pub is_new : file_of old.handles handle ≡ None
   pub handles : new.handles ≡ (handle, file) ∷ old.handles
   pub history : AtOneMoment (look file ∷ []) (IsLook path file size) old.history new.history
 

@@ -1,5 +1,5 @@
 -- A plan of steps of others, each with a number of calls, and what it means that a history follows it.
-use Rattle.std.specs.Prelude.{◌≡◌, ◌≤◌, ℕ, ◌+◌, ◌-◌, ◌⊎◌, List, [], ◌∷◌, length, take, drop, reverse, slice_get, All, Bool, true, false, nat_le, if◌then◌else◌, Option, Some, IfSome, IsTrue}
+use Rattle.std.specs.Prelude.{◌≡◌, ◌≤◌, ℕ, ◌+◌, ◌-◌, ◌⊎◌, ⊤, List, [], ◌∷◌, length, take, drop, reverse, slice_get, All, Bool, true, false, nat_le, if◌then◌else◌, Option, None, Some, IsTrue}
 use Rattle.outside.specs.World.{Event, create, append, rename, remove, look, miss, unlisted, History, World}
 use Rattle.outside.specs.Lawful.{is_lawful}
 
@@ -46,7 +46,8 @@ Follows plan history =
     let added = length history - plan.since in
     FollowsPairs (drop added history) 0 (by_number plan.steps) (reverse (take added history))
 
--- A call leaves the plan as it is, and what the history has past it follows it.
-pub record KeepsPlan (before after : Option Plan) (world : Option World) : Type 0 where
-  pub same : after ≡ before
-  pub follows : IfSome after (λ plan. IfSome world (λ told. Follows plan told.history))
+-- A plan is told only with a world, whose history has followed it from the moment at which it was set.
+abbrev pub HasFollowed : Option Plan → Option World → Type 0
+HasFollowed None world = ⊤
+HasFollowed (Some plan) None = ⊥
+HasFollowed (Some plan) (Some world) = (plan.since ≤ length world.history) × Follows plan world.history

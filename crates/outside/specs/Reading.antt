@@ -1,5 +1,5 @@
 -- What `read_at` answers.
-use Rattle.std.specs.Prelude.{◌≡◌, ℕ, List, [], Option, None, Some, option_map, find, Result, Ok, Err, ◌==◌}
+use Rattle.std.specs.Prelude.{◌≡◌, ℕ, List, [], Option, None, Some, option_map, find, max, Result, Ok, Err, ◌==◌}
 use Rattle.outside.specs.Count.{raised}
 use Rattle.outside.specs.World.{History, bytes, World}
 use Rattle.outside.specs.Moment.{Moves, AtOneMoment}
@@ -25,3 +25,7 @@ pub record Reads (handle offset : ℕ) (buffer : List ℕ) (result : Result ℕ 
 abbrev pub taken_after : Result ℕ Failed → ℕ → ℕ
 taken_after (Ok count) taken = raised taken count
 taken_after (Err _) taken = taken
+
+-- a read was given a buffer of this length
+abbrev pub widest_after : ℕ → Option ℕ → Option ℕ
+widest_after size widest = option_map (λ most. max most size) widest

@@ -13,6 +13,7 @@
 
 mod disk;
 mod fault;
+pub mod laws;
 mod sink;
 mod source;
 mod tree;

@@ -1,6 +1,6 @@
 // Where reports go.
-ghost use Rattle.std.specs.Prelude.{◌≡◌, ℕ, List, Option};
-ghost use Rattle.outside.specs.Count.{HasCause};
+ghost use Rattle.std.specs.Prelude.{◌≤◌};
+ghost use Rattle.outside.specs.Count.{HasCause, last_count};
 ghost use Rattle.outside.specs.World.{Told};
 
 use crate::CallFault;
@@ -8,16 +8,16 @@ use std::alloc::Global;
 
 /// An output that only grows.
 pub trait Sink {
-    /// The bytes that were written, where the sink tells them.
-    ghost written: { Self → Option (List ℕ) };
+    ghost use Rattle.outside.specs.StreamMeaning.{SinkMeaning};
 
-    /// How often the sink has failed.
-    ghost faults: { Self → ℕ };
+    ghost meaning: { SinkMeaning Self };
 
     ghost use Rattle.outside.specs.Stream.{Grows};
 
     /// Writes all the bytes, or answers a fault after a part of them.
     fn write(&mut self, alloc: Global, bytes: &[u8]) -> Result<(), CallFault>
-        ensures written { Told (Grows bytes.now result) (written self.old) (written self.new) }
-        ensures cause { HasCause result (faults self.old) (faults self.new) };
+        ensures written { Told (Grows bytes.now result) ((meaning).written self.old) ((meaning).written self.new) }
+        ensures cause { HasCause result ((meaning).faults self.old) ((meaning).faults self.new) };
+
+    ghost in_range: { (sink : Self) → (meaning).faults sink ≤ last_count };
 }

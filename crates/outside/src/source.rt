@@ -1,17 +1,15 @@
 // Where control lines come from.
-ghost use Rattle.std.specs.Prelude.{◌≡◌, ◌≤◌, ℕ, List, length, Option, IfOk};
-ghost use Rattle.outside.specs.Count.{HasOneCause};
+ghost use Rattle.std.specs.Prelude.{◌≤◌, length, IfOk};
+ghost use Rattle.outside.specs.Count.{HasOneCause, last_count};
 ghost use Rattle.outside.specs.World.{Told};
 
 use crate::Failed;
 
 /// An input that is read from its front to its end.
 pub trait Source {
-    /// The bytes that are still to come, where the source tells them.
-    ghost rest: { Self → Option (List ℕ) };
+    ghost use Rattle.outside.specs.StreamMeaning.{SourceMeaning};
 
-    /// How often the source has failed.
-    ghost faults: { Self → ℕ };
+    ghost meaning: { SourceMeaning Self };
 
     ghost use Rattle.outside.specs.Stream.{TakesFront};
 
@@ -19,6 +17,8 @@ pub trait Source {
     /// input, or for an empty `buf`.
     fn read(&mut self, buf: &mut [u8]) -> Result<usize, Failed>
         ensures within { IfOk result (λ count. count ≤ length buf.new) }
-        ensures rest { Told (TakesFront buf.new result) (rest self.old) (rest self.new) }
-        ensures cause { HasOneCause result (faults self.old) (faults self.new) };
+        ensures rest { Told (TakesFront buf.new result) ((meaning).rest self.old) ((meaning).rest self.new) }
+        ensures cause { HasOneCause result ((meaning).faults self.old) ((meaning).faults self.new) };
+
+    ghost in_range: { (source : Self) → (meaning).faults source ≤ last_count };
 }
