@@ -1,4 +1,6 @@
 -- The steps that other processes may do. A path in use can't be taken, nor can one that would make a file a folder.
+use mathlib.Core.Bool.{Bool-set}
+use Rattle.std.specs.Coded.{×_prop, Unit-prop}
 use Rattle.std.specs.Prelude.{ℕ, List, [], ◌∷◌, Bool, true, false, not, ◌||◌, ◌&&◌, Option, None, Some, ⊤, IsTrue}
 use Rattle.std.specs.List.{list_any}
 use Rattle.std.specs.Str.{bytes_eq}
@@ -35,6 +37,10 @@ may_come history (unlisted _) = true
 abbrev pub IsLawful : History → Type 0
 IsLawful [] = ⊤
 IsLawful (event ∷ before) = IsTrue (may_come before event) × IsLawful before
+
+pub IsLawful-prop : (history : History) → IsProp (IsLawful history)
+IsLawful-prop [] = Unit-prop
+IsLawful-prop (event ∷ before) = ×_prop (Bool-set _ _) (IsLawful-prop before)
 
 abbrev pub TellsLawful : Option World → Type 0
 TellsLawful None = ⊤

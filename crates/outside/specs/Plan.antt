@@ -41,10 +41,11 @@ FollowsPairs history read left (event ∷ rest) =
     × ((IsTrue (is_own event) × FollowsPairs (event ∷ history) (read + 1) (drop passed left) rest)
     ⊎ ((due : ℕ) × (slice_get left passed ≡ Some (due, event)) × (read ≤ due) × FollowsPairs (event ∷ history) read (drop (passed + 1) left) rest))
 
+-- what the history has past the plan's beginning follows it, in some way
 abbrev pub Follows : Plan → History → Type 0
 Follows plan history =
     let added = length history - plan.since in
-    FollowsPairs (drop added history) 0 (by_number plan.steps) (reverse (take added history))
+    ∥ FollowsPairs (drop added history) 0 (by_number plan.steps) (reverse (take added history)) ∥₁
 
 -- A plan is told only with a world, whose history has followed it from the moment at which it was set.
 abbrev pub HasFollowed : Option Plan → Option World → Type 0
