@@ -11,7 +11,7 @@ use Rattle.mem_world.specs.declared.disk.log.Entry.{Entry}
 use Rattle.mem_world.specs.declared.disk.fuse.Fate.{Fate}
 use Rattle.mem_world.specs.declared.disk.fuse.Fate.TheVariants.{Passes as passes, Begins, Fails}
 use Rattle.mem_world.specs.DiskLog.{Log, is_same, calls_of, changed, content, LeavesBy, Leaves}
-use Rattle.mem_world.specs.DiskImages.{shown, LeavesImage, LeftSince}
+use Rattle.mem_world.specs.DiskImages.{shown, LeavesImage, log_images}
 use Rattle.mem_world.specs.DiskCount.{log_after}
 use Rattle.mem_world.specs.DiskLaws.{leaves_content}
 use Rattle.mem_world.proofs.DiskFiles.{is_same-refl, cases_file, calls_of-here, calls_of-other}
@@ -19,7 +19,7 @@ use Rattle.mem_world.proofs.CrashLeaves.{torn_over, holds_over}
 
 -- From log to log the images change so.
 abbrev pub Changes : (Image DiskFile → Image DiskFile → Type 0) → Log → Log → Type 0
-Changes change old new = Passes {F = DiskFile} {D = Log} (λ log image. LeavesImage log image) (λ log. length log) (λ log from image. LeftSince log from image) change old new
+Changes change old new = Passes {F = DiskFile} {D = Log} log_images change old new
 
 -- what the newest entry leaves of its file
 abbrev pub LeavesHere : Entry → Log → List ℕ → Type 0

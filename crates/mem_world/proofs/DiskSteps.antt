@@ -14,12 +14,12 @@ use Rattle.mem_world.specs.declared.disk.log.Change.TheVariants.{Put, Write, Cut
 use Rattle.mem_world.specs.DiskLog.{Log}
 use Rattle.mem_world.specs.DiskImages.{shown}
 use Rattle.mem_world.specs.DiskCount.{log_after}
-use Rattle.mem_world.specs.MemDisk.{history_of, seen_of, MayLeave, moment_of, MayHaveLeft, next_fate, Calls, Writes}
+use Rattle.mem_world.specs.MemDisk.{history_of, seen_of, disk_images, next_fate, Calls, Writes}
 use Rattle.mem_world.proofs.CrashCalls.{Changes, changes_none, changes_idle, write_changes, cut_changes, sync_changes, put_changes, write_shown, write_holds}
 
 -- From disk to disk the images change so.
 abbrev pub Moves : (Image DiskFile → Image DiskFile → Type 0) → MemDisk → MemDisk → Type 0
-Moves change old new = Passes {F = DiskFile} {D = MemDisk} (λ disk image. MayLeave disk image) (λ disk. moment_of disk) (λ disk from image. MayHaveLeft disk from image) change old new
+Moves change old new = Passes {F = DiskFile} {D = MemDisk} disk_images change old new
 
 pub moves_by : (change : Image DiskFile → Image DiskFile → Type 0) (old new : MemDisk) (log : Log) → history_of new ≡ log → Changes change (history_of old) log → Moves change old new
 moves_by change old new log same changes =
@@ -51,8 +51,8 @@ sync_moves file result old new calls = elim (calls_log file Sync result old new 
   | inr none ↦ moves_by Same old new (history_of old) none (changes_none (history_of old))
 ]
 
-pub idle_moves : (file : DiskFile) (offset size : ℕ) (disk : MemDisk) → Moves (AtFile file (Torn offset size)) disk disk
-idle_moves file offset size disk = moves_by (AtFile file (Torn offset size)) disk disk (history_of disk) refl (changes_idle (history_of disk) file (Torn offset size) (λ content. torn_idle offset size content))
+pub idle_moves : (file : DiskFile) (offset size : ℕ) (disk new : MemDisk) → history_of new ≡ history_of disk → Moves (AtFile file (Torn offset size)) disk new
+idle_moves file offset size disk new same = moves_by (AtFile file (Torn offset size)) disk new (history_of disk) same (changes_idle (history_of disk) file (Torn offset size) (λ content. torn_idle offset size content))
 
 pub write_begun : (file : DiskFile) (offset : ℕ) (bytes : Vec ℕ Global) (given : List ℕ) (result : Result Unit CallFault) (old new : MemDisk) → bytes.items ≡ given → Calls file (Write offset bytes) result old new → AtFile file (Torn offset (length given)) (seen_of old) (seen_of new)
 write_begun file offset bytes given result old new same calls =
@@ -74,7 +74,7 @@ put_moves file bytes given (Ok _) old new same did = rw (← same) (moves_by (At
 put_moves file bytes given (Err _) old new same did = tt
 
 -- a file stays durable while another is set
-pub durable_kept : (old new : MemDisk) (file other : DiskFile) (bytes : List ℕ) → AtFile file (λ _ now. now ≡ bytes) (seen_of old) (seen_of new) → Moves (AtFile file (λ _ now. now ≡ bytes)) old new → other ≢ file → IsDurable (λ disk image. MayLeave disk image) seen_of other old → IsDurable (λ disk image. MayLeave disk image) seen_of other new
+pub durable_kept : (old new : MemDisk) (file other : DiskFile) (bytes : List ℕ) → AtFile file (λ _ now. now ≡ bytes) (seen_of old) (seen_of new) → Moves (AtFile file (λ _ now. now ≡ bytes)) old new → other ≢ file → IsDurable disk_images other old → IsDurable disk_images other new
 durable_kept old new file other bytes seen moves differs durable image left =
     let past = moves.now_left image left in
     past.2.others other differs ∙ durable past.0 past.1 ∙ sym (seen.others other differs)

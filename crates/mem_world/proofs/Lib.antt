@@ -7,6 +7,7 @@ mod TreeScheduling
 mod TreePacing
 mod TreeFails
 mod TreeMoves
+mod TreeHanding
 mod TreeFolders
 mod TreeListings
 mod StreamTaking

@@ -1,19 +1,27 @@
 -- What a call of the tree adds to the history.
-use Rattle.std.proofs.Common.{◌≡◌, ℕ, List, [], ◌∷◌, ◌++◌, length, Bool, true, false, Result, Err, refl, sym, ap, subst, ◌∙◌}
+use Rattle.std.proofs.Common.{◌≡◌, ℕ, List, [], ◌∷◌, ◌++◌, Bool, true, false, length, max, Result, Ok, Err, refl, sym, ap, subst, ◌∙◌}
 use Rattle.std.specs.Prelude.{if◌then◌else◌, None, Some}
-use Rattle.outside.specs.World.{Event, look, History, Names, names, file_at, bytes}
+use Rattle.outside.specs.Closing.{Closes}
+use Rattle.outside.specs.Content.{Gives}
+use Rattle.outside.specs.Count.{raised, HasCause, HasOneCause}
+use Rattle.outside.specs.World.{Event, look, miss, unlisted, History, Names, names, file_at}
 use Rattle.outside.specs.Lawful.{is_lawful}
 use Rattle.outside.specs.Moment.{Moves, AtOneMoment}
-use Rattle.outside.specs.Listing.{Lists, is_folder, kind_at}
-use Rattle.outside.specs.Opening.{Opens, OpensNothing, OpensFile, IsLook}
+use Rattle.outside.specs.Listing.{Lists, is_folder, kind_at, IsListing, nameless_after}
+use Rattle.outside.specs.Opening.{Opens, IsLook}
+use Rattle.outside.specs.Reading.{Reads, bytes_if, file_of, taken_after}
 use Rattle.outside.specs.declared.fault.CallFault.{CallFault}
-use Rattle.outside.specs.declared.fault.CallFault.TheVariants.{Memory}
+use Rattle.outside.specs.declared.fault.CallFault.TheVariants.{Failed, Memory}
+use Rattle.outside.specs.declared.fault.Failed as one
 use Rattle.outside.specs.declared.tree.Listed.{Listed}
+use Rattle.outside.specs.declared.tree.Listed.TheVariants.{Items, Gone as gone}
 use Rattle.outside.specs.declared.tree.Opened.{Opened}
+use Rattle.outside.specs.declared.tree.Opened.TheVariants.{File, Gone, NotAFile}
 use Rattle.outside.specs.declared.tree.Kind.TheVariants.{Folder}
 use Rattle.outside.proofs.Moving.{moves_none, moves_then}
 use Rattle.mem_world.specs.TreePlan.{played, due_at}
-use Rattle.mem_world.specs.TreePlanned.{PlannedWorld, begun}
+use Rattle.mem_world.specs.TreeTold.{TreeState, bound_of}
+use Rattle.mem_world.specs.TreeCalls.{ListCalls, OpenFileCalls, ReadAtCalls, CloseCalls, Called, Stays, history_then}
 
 pub moves_played : (history : History) (steps : List Event) → Moves history (played history steps)
 moves_played history [] = moves_none history
@@ -24,45 +32,105 @@ moves_played history (step ∷ steps) =
     let all : P (is_lawful history step) = elim (is_lawful history step) as P [ true ↦ yes | false ↦ no ] in
     all refl
 
-pub moves_begun : (old new : PlannedWorld) → new ≡ begun old → Moves old.history new.history
-moves_begun old new begins =
-    let P : History → Type 0 = λ h. Moves old.history h in
-    subst P (sym (ap (λ (w : PlannedWorld). w.history) begins)) (moves_played old.history (due_at 0 old.waiting))
-
-pub at_begun : (own : List Event) (fact : History → Type 0) (old new : PlannedWorld) (last : History) → new ≡ begun old → fact new.history → last ≡ own ++ new.history → AtOneMoment own fact old.history last
-at_begun own fact old new last begins holds ends = record {
-  moment = new.history;
-  before = moves_begun old new begins;
+pub at_called : (own : List Event) (fact : History → Type 0) (fails : Bool) (old new : TreeState) → Called own fails old new → fact (history_then old) → AtOneMoment own fact old.world.history new.world.history
+at_called own fact fails old new called holds = record {
+  moment = history_then old;
+  before = moves_played old.world.history (due_at 0 old.waiting);
   holds = holds;
-  after = record { steps = []; goes_on = ends; lawful = tt };
+  after = record { steps = []; goes_on = called.history; lawful = tt };
 }
 
-module _ (handles : List (ℕ × ℕ)) (old new : PlannedWorld) (begins : new ≡ begun old) where
-  pub opens_nothing : (own : List Event) (fact : History → Type 0) (last : History) → fact new.history → last ≡ own ++ new.history → OpensNothing own fact (record { history = old.history; handles = handles }) (record { history = last; handles = handles })
-  opens_nothing own fact last holds ends = record { handles = refl; history = at_begun own fact old new last begins holds ends }
-
-  pub opens_memory : (path : List ℕ) (result : Result Opened CallFault) (fault : CallFault) (last : History) (new_handles : List (ℕ × ℕ)) → result ≡ Err fault → fault ≡ Memory → last ≡ new.history → new_handles ≡ handles → Opens path result (record { history = old.history; handles = handles }) (record { history = last; handles = new_handles })
-  opens_memory path result fault last new_handles is memory ends same =
-      let P : Result Opened CallFault → Type 0 = λ r. Opens path r (record { history = old.history; handles = handles }) (record { history = last; handles = new_handles }) in
-      let failed : CallFault → Result Opened CallFault = λ f. Err f in
-      subst P (sym (is ∙ ap failed memory)) (record { handles = same; history = at_begun [] (λ _. Unit {0}) old new last begins tt ends })
-
-  pub opens_file : (path : List ℕ) (handle file size : ℕ) (last : History) (new_handles : List (ℕ × ℕ)) → file_at (names new.history) path ≡ Some file → size ≡ length (bytes new.history file) → last ≡ look file ∷ new.history → new_handles ≡ (handle, file) ∷ handles → OpensFile path handle size (record { history = old.history; handles = handles }) (record { history = last; handles = new_handles })
-  opens_file path handle file size last new_handles named long ends opened = record {
-    file = file;
-    handles = opened;
-    history = at_begun (look file ∷ []) (IsLook path file size) old new last begins (record { named = named; length_then = long }) ends;
-  }
-
-  pub lists_memory : (folder : List ℕ) (result : Result Listed CallFault) (fault : CallFault) (last : History) → result ≡ Err fault → fault ≡ Memory → last ≡ new.history → Lists folder result (record { history = old.history; handles = handles }) (record { history = last; handles = handles })
-  lists_memory folder result fault last is memory ends =
-      let P : Result Listed CallFault → Type 0 = λ r. Lists folder r (record { history = old.history; handles = handles }) (record { history = last; handles = handles }) in
-      let M : History → Type 0 = λ h. Moves old.history h in
-      let failed : CallFault → Result Listed CallFault = λ f. Err f in
-      subst P (sym (is ∙ ap failed memory)) (record { handles = refl; history = subst M (sym ends) (moves_begun old new begins) })
+pub moves_called : (fails : Bool) (old new : TreeState) → Called [] fails old new → Moves old.world.history new.world.history
+moves_called fails old new called =
+    let P : History → Type 0 = λ h. Moves old.world.history h in
+    subst P (sym called.history) (moves_played old.world.history (due_at 0 old.waiting))
 
 pub kind_folder : (named : Names) (path : List ℕ) → file_at named path ≡ None → is_folder named path ≡ true → kind_at named path ≡ Some Folder
 kind_folder named path none folder = rw (none, folder)
 
 pub kind_none : (named : Names) (path : List ℕ) → file_at named path ≡ None → is_folder named path ≡ false → kind_at named path ≡ None
 kind_none named path none folder = rw (none, folder)
+
+-- what no call but a read changes, and no call at all
+pub record Keeps (old new : TreeState) : Type 0 where
+  pub taken : new.taken ≡ old.taken
+  pub widest : new.widest ≡ old.widest
+  pub plan : new.plan ≡ old.plan
+  pub bound : bound_of new ≡ bound_of old
+
+stays_keeps : (own : List Event) (fails : Bool) (old new : TreeState) → Stays own fails old new → Keeps old new
+stays_keeps own fails old new stays = record { taken = stays.taken; widest = stays.widest; plan = stays.called.plan; bound = stays.called.bound }
+
+pub lists_world : (folder : List ℕ) (result : Result Listed CallFault) (old new : TreeState) → ListCalls folder result old new → Lists folder result old.world new.world
+lists_world folder (Ok (Items items unnamed)) old new calls = record { handles = calls.3.handles; history = (calls.1, at_called [] (IsListing folder items.items) false old new calls.3.called calls.2) }
+lists_world folder (Ok gone) old new calls = record { handles = calls.2.handles; history = at_called [] (λ h. is_folder (names h) folder ≡ false) false old new calls.2.called calls.1 }
+lists_world folder (Err Failed) old new calls = record { handles = calls.1.handles; history = at_called (unlisted folder ∷ []) (λ _. Unit {0}) true old new calls.1.called tt }
+lists_world folder (Err Memory) old new calls = record { handles = calls.handles; history = moves_called false old new calls.called }
+
+pub lists_cause : (folder : List ℕ) (result : Result Listed CallFault) (old new : TreeState) → ListCalls folder result old new → HasCause result old.faults new.faults
+lists_cause folder (Ok (Items items unnamed)) old new calls = calls.3.called.faults
+lists_cause folder (Ok gone) old new calls = calls.2.called.faults
+lists_cause folder (Err Failed) old new calls = calls.1.called.faults.1
+lists_cause folder (Err Memory) old new calls = calls.called.faults
+
+pub lists_nameless : (folder : List ℕ) (result : Result Listed CallFault) (old new : TreeState) → ListCalls folder result old new → 0 ≡ nameless_after result 0
+lists_nameless folder (Ok (Items items unnamed)) old new calls = sym (ap (raised 0) calls.1)
+lists_nameless folder (Ok gone) old new calls = refl
+lists_nameless folder (Err Failed) old new calls = refl
+lists_nameless folder (Err Memory) old new calls = refl
+
+pub lists_keeps : (folder : List ℕ) (result : Result Listed CallFault) (old new : TreeState) → ListCalls folder result old new → Keeps old new
+lists_keeps folder (Ok (Items items unnamed)) old new calls = stays_keeps [] false old new calls.3
+lists_keeps folder (Ok gone) old new calls = stays_keeps [] false old new calls.2
+lists_keeps folder (Err Failed) old new calls = stays_keeps (unlisted folder ∷ []) true old new calls.1
+lists_keeps folder (Err Memory) old new calls = stays_keeps [] false old new calls
+
+pub opens_world : (path : List ℕ) (result : Result Opened CallFault) (old new : TreeState) → OpenFileCalls path result old new → Opens path result old.world new.world
+opens_world path (Ok (File handle size)) old new calls = record {
+  file = calls.1.file;
+  is_new = calls.1.is_new;
+  handles = calls.1.handles;
+  history = at_called (look calls.1.file ∷ []) (IsLook path calls.1.file size) false old new calls.1.called calls.1.found;
+}
+opens_world path (Ok Gone) old new calls = record { handles = calls.2.handles; history = at_called [] (λ h. kind_at (names h) path ≡ None) false old new calls.2.called calls.1 }
+opens_world path (Ok NotAFile) old new calls = record { handles = calls.2.handles; history = at_called [] (λ h. kind_at (names h) path ≡ Some Folder) false old new calls.2.called calls.1 }
+opens_world path (Err Failed) old new calls = record { handles = calls.1.handles; history = at_called (miss path ∷ []) (λ _. Unit {0}) true old new calls.1.called tt }
+opens_world path (Err Memory) old new calls = record { handles = calls.handles; history = at_called [] (λ _. Unit {0}) false old new calls.called tt }
+
+pub opens_cause : (path : List ℕ) (result : Result Opened CallFault) (old new : TreeState) → OpenFileCalls path result old new → HasCause result old.faults new.faults
+opens_cause path (Ok (File handle size)) old new calls = calls.1.called.faults
+opens_cause path (Ok Gone) old new calls = calls.2.called.faults
+opens_cause path (Ok NotAFile) old new calls = calls.2.called.faults
+opens_cause path (Err Failed) old new calls = calls.1.called.faults.1
+opens_cause path (Err Memory) old new calls = calls.called.faults
+
+pub opens_keeps : (path : List ℕ) (result : Result Opened CallFault) (old new : TreeState) → OpenFileCalls path result old new → Keeps old new
+opens_keeps path (Ok (File handle size)) old new calls = record { taken = calls.1.taken; widest = calls.1.widest; plan = calls.1.called.plan; bound = calls.1.called.bound }
+opens_keeps path (Ok Gone) old new calls = stays_keeps [] false old new calls.2
+opens_keeps path (Ok NotAFile) old new calls = stays_keeps [] false old new calls.2
+opens_keeps path (Err Failed) old new calls = stays_keeps (miss path ∷ []) true old new calls.1
+opens_keeps path (Err Memory) old new calls = stays_keeps [] false old new calls
+
+module _ (handle offset : ℕ) (buffer : List ℕ) where
+  pub reads_world : (result : Result ℕ one.Failed) (old new : TreeState) → ReadAtCalls handle offset buffer result old new → Reads handle offset buffer result old.world new.world
+  reads_world (Ok count) old new calls = record {
+    handles = calls.2.handles;
+    history = at_called [] (λ h. Gives (bytes_if h (file_of old.world.handles handle)) offset buffer count) false old new calls.2.called calls.1;
+  }
+  reads_world (Err _) old new calls = record { handles = calls.1.handles; history = moves_called true old new calls.1.called }
+
+  pub reads_cause : (result : Result ℕ one.Failed) (old new : TreeState) → ReadAtCalls handle offset buffer result old new → HasOneCause result old.faults new.faults
+  reads_cause (Ok count) old new calls = calls.2.called.faults
+  reads_cause (Err _) old new calls = calls.1.called.faults.1
+
+  pub reads_taken : (result : Result ℕ one.Failed) (old new : TreeState) → ReadAtCalls handle offset buffer result old new → new.taken ≡ taken_after result old.taken
+  reads_taken (Ok count) old new calls = calls.2.taken
+  reads_taken (Err _) old new calls = calls.1.taken
+
+  -- what a read keeps, and how wide it was
+  pub reads_widest : (result : Result ℕ one.Failed) (old new : TreeState) → ReadAtCalls handle offset buffer result old new → (new.widest ≡ max old.widest (length buffer)) × (new.plan ≡ old.plan) × (bound_of new ≡ bound_of old)
+  reads_widest (Ok count) old new calls = (calls.2.widest, calls.2.called.plan, calls.2.called.bound)
+  reads_widest (Err _) old new calls = (calls.1.widest, calls.1.called.plan, calls.1.called.bound)
+
+pub closes_world : (handle : ℕ) (old new : TreeState) → CloseCalls handle old new → Closes handle old.world new.world
+closes_world handle old new calls = record { handles = calls.handles; history = moves_called false old new calls.called }

@@ -1,5 +1,5 @@
 -- A world with its plan, call by call.
-use Rattle.std.proofs.Common.{◌≡◌, ℕ, ◌+◌, ◌-◌, ◌<◌, ◌≤◌, min, List, [], ◌∷◌, ◌++◌, length, map, Bool, true, false, cond, not, ◌==◌, refl, sym, ap, subst, ◌∙◌, arith, eq-eqb}
+use Rattle.std.proofs.Common.{◌≡◌, ℕ, ◌+◌, ◌-◌, ◌<◌, ◌≤◌, min, List, [], ◌∷◌, ◌++◌, length, map, Bool, true, false, cond, not, ◌==◌, refl, sym, ap, subst, ◌∙◌, arith, eq-eqb, length-append}
 use Rattle.std.specs.Prelude.{All, filter, is_some}
 use Rattle.std.proofs.lemmas.Bool.Decides.{nat_tests}
 use Rattle.std.proofs.lemmas.List.{append-nil, length-map, length_push, map-append}
@@ -38,6 +38,9 @@ paced_new world steps empty none =
 module _ {world : StoredWorld} {steps : List Scheduled} {calls since : ℕ} where
   pub paced_follows : IsPaced world steps calls since → Follows (record { steps = all_pairs steps; since = since }) world.history
   paced_follows paced = behind_follows paced.behind
+
+  pub paced_within : IsPaced world steps calls since → since ≤ length world.history
+  paced_within paced = omega (arith, paced.behind.since_is, ap length paced.behind.history_is, length-append paced.behind.added paced.behind.base)
 
   pub paced_same : (new : StoredWorld) → IsPaced world steps calls since → new.history ≡ world.history → new.room ≡ world.room → new.rooms ≡ world.rooms → IsPaced new steps calls since
   paced_same new paced history room rooms =

@@ -107,7 +107,7 @@ module _ {plan : Plan} {history : History} {calls : ℕ} {waiting : Pairs} where
       let Q : History → List Event → Type 0 = λ base events. FollowsPairs base 0 (by_number plan.steps) events in
       let from_base = subst (λ h. Q h (reverse (take (length history - plan.since) history))) (sym parts.1)
       (subst (λ es. Q behind.base (reverse es)) (sym parts.0) (subst (λ es. Q behind.base es) (append-nil (reverse behind.added)) whole)) in
-      from_base
+      ∣ from_base ∣₁
 
 -- an event of the agent's own comes
 pub behind_own : {plan : Plan} {history : History} {calls : ℕ} {waiting : Pairs} → (event : Event) → is_own event ≡ true → (behind : Behind plan history calls waiting) → (calls < last_call → own_count behind.added + 1 ≤ calls) → Behind plan (event ∷ history) calls waiting

@@ -1,9 +1,12 @@
--- What the first two outcomes of a crash leave of one file. The newest entry comes first.
-use Rattle.std.specs.Prelude.{◌≡◌, ℕ, List, [], ◌∷◌, length, take, nat_le, Bool, if◌then◌else◌, ⊤}
+-- What each outcome of a crash leaves of a file. The newest entry comes first.
+use Rattle.std.specs.Prelude.{ℕ, ◌+◌, ◌-◌, ◌*◌, ◌/◌, ◌%◌, ◌==◌, suc, min, List, [], ◌∷◌, ◌++◌, length, take, drop, nat_le, nat_lt, Bool, true, false, ◌&&◌, if◌then◌else◌}
+use Rattle.outside.specs.declared.disk.DiskFile.{DiskFile}
+use Rattle.outside.specs.declared.disk.DiskFile.TheVariants.{Settings, Output, SlotA, SlotB}
 use Rattle.mem_world.specs.declared.disk.log.Change.{Change}
 use Rattle.mem_world.specs.declared.disk.log.Change.TheVariants.{Put, Write, Cut, Sync}
 use Rattle.mem_world.specs.declared.disk.tear.Kind.{Kind}
 use Rattle.mem_world.specs.declared.disk.tear.Kind.TheVariants.{Nothing, All, Front, Garbage, Mixture}
+use Rattle.mem_world.specs.declared.disk.tear.Tear.{Tear}
 use Rattle.mem_world.specs.DiskLog.{Log, written_over, content}
 
 -- one call further, with nothing of a write or a cut
@@ -13,12 +16,70 @@ without_call (Write offset bytes) taken kept shown = kept
 without_call (Cut size) taken kept shown = kept
 without_call Sync taken kept shown = if taken then shown else kept
 
--- one call further, with all of a write or a cut, also where it was only begun
-abbrev pub with_call : Change → Bool → List ℕ → List ℕ → List ℕ
-with_call (Put bytes) taken kept shown = if taken then bytes.items else kept
-with_call (Write offset bytes) taken kept shown = if nat_le offset (length kept) then written_over offset bytes.items kept else kept
-with_call (Cut size) taken kept shown = take size kept
-with_call Sync taken kept shown = if taken then shown else kept
+-- one call further, with these bytes in the place of a write's, and with a cut where cuts are kept. A write that begins
+-- behind what is left is lost.
+abbrev pub with_call : Bool → (List ℕ → List ℕ) → Change → Bool → List ℕ → List ℕ → List ℕ
+with_call cuts put (Put bytes) taken kept shown = if taken then bytes.items else kept
+with_call cuts put (Write offset bytes) taken kept shown = if nat_le offset (length kept) then written_over offset (put bytes.items) kept else kept
+with_call cuts put (Cut size) taken kept shown = if cuts then take size kept else kept
+with_call cuts put Sync taken kept shown = if taken then shown else kept
+
+-- The byte a5 looks like an open gate. Garbage begins with it, or with 5a where the write has it there.
+abbrev pub gate_beside : ℕ → ℕ
+gate_beside byte = if byte == 165 then 90 else 165
+
+-- Any other byte of garbage is the write's, grown by 1 and the variation modulo 254, and by one more where that gives
+-- the byte with which garbage would begin.
+abbrev pub grown_byte : ℕ → ℕ → ℕ
+grown_byte variation byte = (byte + (1 + variation % 254)) % 256
+
+abbrev pub garbage_byte : Bool → ℕ → ℕ → ℕ → ℕ
+garbage_byte begins variation place byte =
+    if begins && place == 0 then gate_beside byte else if grown_byte variation byte == gate_beside byte then (grown_byte variation byte + 1) % 256 else grown_byte variation byte
+
+-- garbage in the place of the bytes of a write from this place on
+abbrev pub garbage_from : Bool → ℕ → ℕ → List ℕ → List ℕ
+garbage_from begins variation place [] = []
+garbage_from begins variation place (byte ∷ rest) = garbage_byte begins variation place byte ∷ garbage_from begins variation (suc place) rest
+
+-- the first half of a write, or so many bytes as the variation says where it isn't 0
+abbrev pub front_size : ℕ → ℕ → ℕ
+front_size variation size = if variation == 0 then size / 2 else min variation size
+
+-- so many fifths of a write as the file's place among the four
+abbrev pub mixture_size : DiskFile → ℕ → ℕ
+mixture_size Settings size = size / 5
+mixture_size Output size = size / 5 * 2
+mixture_size SlotA size = size / 5 * 3
+mixture_size SlotB size = size / 5 * 4
+
+-- the first bytes of a write, and garbage behind them
+abbrev pub mixed_bytes : ℕ → ℕ → List ℕ → List ℕ
+mixed_bytes variation front bytes = take front bytes ++ garbage_from false variation front (drop front bytes)
+
+-- what is left in the range of a write
+abbrev pub torn_bytes : Kind → ℕ → DiskFile → List ℕ → List ℕ
+torn_bytes Nothing variation file bytes = []
+torn_bytes All variation file bytes = bytes
+torn_bytes Front variation file bytes = take (front_size variation (length bytes)) bytes
+torn_bytes Garbage variation file bytes = garbage_from true variation 0 bytes
+torn_bytes Mixture variation file bytes = mixed_bytes variation (mixture_size file (length bytes)) bytes
+
+abbrev pub keeps_cuts : Kind → Bool
+keeps_cuts Nothing = false
+keeps_cuts All = true
+keeps_cuts Front = false
+keeps_cuts Garbage = true
+keeps_cuts Mixture = false
+
+-- one call further, by a tear
+abbrev pub with_torn : Tear → Change → Bool → List ℕ → List ℕ → List ℕ
+with_torn tear = with_call (keeps_cuts tear.kind) (torn_bytes tear.kind tear.variation tear.file)
+
+-- what is left of a file, from the calls on it
+abbrev pub left_by : Tear → Log → List ℕ
+left_by tear [] = []
+left_by tear (entry ∷ before) = with_torn tear entry.change entry.taken (left_by tear before) (content before)
 
 -- nothing of the writes and cuts that no sync followed
 abbrev pub without_unsynced : Log → List ℕ
@@ -28,18 +89,22 @@ without_unsynced (entry ∷ before) = without_call entry.change entry.taken (wit
 -- all of them
 abbrev pub with_unsynced : Log → List ℕ
 with_unsynced [] = []
-with_unsynced (entry ∷ before) = with_call entry.change entry.taken (with_unsynced before) (content before)
+with_unsynced (entry ∷ before) = with_call true (λ bytes. bytes) entry.change entry.taken (with_unsynced before) (content before)
 
-abbrev pub KeepsCall : Kind → Change → Bool → List ℕ → List ℕ → List ℕ → Type 0
-KeepsCall Nothing change taken kept shown left = left ≡ without_call change taken kept shown
-KeepsCall All change taken kept shown left = left ≡ with_call change taken kept shown
-KeepsCall Front change taken kept shown left = ⊤
-KeepsCall Garbage change taken kept shown left = ⊤
-KeepsCall Mixture change taken kept shown left = ⊤
+abbrev pub kind_of : ℕ → Kind
+kind_of choice = if choice == 0 then Nothing else if choice == 1 then All else if choice == 2 then Front else if choice == 3 then Garbage else Mixture
 
-abbrev pub Keeps : Kind → Log → List ℕ → Type 0
-Keeps Nothing log left = left ≡ without_unsynced log
-Keeps All log left = left ≡ with_unsynced log
-Keeps Front log left = ⊤
-Keeps Garbage log left = ⊤
-Keeps Mixture log left = ⊤
+-- the value of a file's two bits
+abbrev pub weight_of : DiskFile → ℕ
+weight_of Settings = 1
+weight_of Output = 4
+weight_of SlotA = 16
+weight_of SlotB = 64
+
+-- The outcome modulo 5 picks a kind. Where that is 4 and the variation isn't 0, two bits of the variation less 1 pick one
+-- for each file.
+abbrev pub choice_of : ℕ → DiskFile → ℕ
+choice_of outcome file = if outcome % 5 == 4 && nat_lt 0 (outcome / 5) then (outcome / 5 - 1) / weight_of file % 4 else outcome % 5
+
+abbrev pub tear_of : ℕ → DiskFile → Tear
+tear_of outcome file = record { kind = kind_of (choice_of outcome file); variation = outcome / 5; file = file }

@@ -12,7 +12,8 @@ pub mod TreeFailures
 pub mod TreeFailing
 pub mod TreeHandles
 pub mod TreeTold
-pub mod TreeInside
+pub mod TreeCalls
+pub mod MemTree
 pub mod TreeListing
 pub mod DiskFailures
 pub mod MemSource

@@ -6,12 +6,15 @@ use Rattle.outside.specs.declared.disk.DiskFile.{DiskFile}
 use Rattle.outside.specs.declared.fault.CallFault.{CallFault}
 use Rattle.outside.specs.declared.fault.CallFault.TheVariants.{Failed, Memory}
 use Rattle.outside.specs.Image.{Image}
+use Rattle.outside.specs.Images.{Images}
+use Rattle.outside.specs.DiskCalls.{written_after}
+use Rattle.outside.specs.DiskMeaning.{DiskMeaning}
 use Rattle.mem_world.specs.declared.disk.MemDisk.{MemDisk}
 use Rattle.mem_world.specs.declared.disk.fuse.Fuse.{Fuse}
 use Rattle.mem_world.specs.declared.disk.fuse.Fate.{Fate}
 use Rattle.mem_world.specs.declared.disk.fuse.Fate.TheVariants.{Passes}
 use Rattle.mem_world.specs.declared.disk.log.Change.{Change}
-use Rattle.mem_world.specs.declared.disk.log.Change.TheVariants.{Write}
+use Rattle.mem_world.specs.declared.disk.log.Change.TheVariants.{Put, Write, Cut, Sync}
 use Rattle.mem_world.specs.DiskLog.{Log}
 use Rattle.mem_world.specs.DiskImages.{shown, LeavesImage, LeftSince}
 use Rattle.mem_world.specs.DiskStore.{log_of}
@@ -58,6 +61,37 @@ done_of disk = Some (done_count (history_of disk))
 abbrev pub most_done : MemDisk → Option ℕ
 most_done disk = limit_of (fuse_of disk)
 
+-- the number of bytes that writes to the two slots were given
+abbrev pub written_of : MemDisk → ℕ
+written_of disk = disk.written
+
+-- a call was made
+abbrev pub written_then : Change → DiskFile → Option ℕ → Option ℕ
+written_then (Put _) file count = count
+written_then (Write _ bytes) file count = written_after file (length bytes.items) count
+written_then (Cut _) file count = count
+written_then Sync file count = count
+
+abbrev pub disk_images : Images DiskFile MemDisk
+disk_images = record {
+  tells = λ _. true;
+  seen = seen_of;
+  may_leave = MayLeave;
+  moment = moment_of;
+  left_since = MayHaveLeft;
+}
+
+-- all that a disk in memory tells
+abbrev pub disk_meaning : DiskMeaning MemDisk
+disk_meaning = record {
+  images = disk_images;
+  faults = faults_of;
+  bound = most_faults;
+  done = done_of;
+  limit = most_done;
+  written = λ disk. Some (written_of disk);
+}
+
 -- what becomes of the next call
 abbrev pub next_fate : MemDisk → Fate
 next_fate disk = fate (fuse_of disk) (failures_of disk)
@@ -70,6 +104,7 @@ pub record IsFresh (disk : MemDisk) : Type 0 where
   pub limit : most_done disk ≡ None
   pub failures : failures_of disk ≡ []
   pub fuse : fuse_of disk ≡ None
+  pub written : written_of disk ≡ 0
 
 -- the counts, and all that is planned
 pub record KeepsPlans (old new : MemDisk) : Type 0 where

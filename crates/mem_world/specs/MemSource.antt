@@ -1,5 +1,6 @@
 -- What a source in memory still has to give, and the failures that were set.
-use Rattle.std.specs.Prelude.{ℕ, List, drop}
+use Rattle.std.specs.Prelude.{ℕ, List, drop, Some}
+use Rattle.outside.specs.StreamMeaning.{SourceMeaning}
 use Rattle.mem_world.specs.declared.source.MemSource.{MemSource}
 
 abbrev pub rest_of : MemSource → List ℕ
@@ -13,3 +14,6 @@ failures_of source = source.failures.ahead.items
 
 abbrev pub faults_of : MemSource → ℕ
 faults_of source = source.failures.faults
+
+abbrev pub source_meaning : SourceMeaning MemSource
+source_meaning = record { rest = λ source. Some (rest_of source); faults = faults_of }

@@ -1,7 +1,7 @@
 -- A world with its plan, as it is told.
-use Rattle.std.specs.Prelude.{ℕ, ◌+◌, [], length, min}
+use Rattle.std.specs.Prelude.{ℕ, ◌+◌, ◌≤◌, [], length, min}
 use Rattle.outside.specs.World.{History}
-use Rattle.outside.specs.Plan.{Plan}
+use Rattle.outside.specs.Plan.{Plan, Follows}
 use Rattle.mem_world.specs.TreePlan.{Pairs, due_at, not_due_at, left_after, played, last_call}
 
 pub record PlannedWorld : Type 0 where
@@ -28,3 +28,7 @@ begun world = record {
   plan = world.plan;
   calls = min (world.calls + 1) last_call;
 }
+
+-- the history has followed the plan from the moment at which it was set
+abbrev pub IsFollowed : PlannedWorld → Type 0
+IsFollowed world = (world.plan.since ≤ length world.history) × Follows world.plan world.history

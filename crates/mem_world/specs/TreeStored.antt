@@ -3,6 +3,7 @@ use Rattle.std.specs.Prelude.{◌≡◌, ℕ, ◌+◌, ◌≤◌, map, ◌==◌,
 use Rattle.std.specs.List.{list_any}
 use Rattle.std.specs.VecDeque.{deque_len, deque_capacity}
 use Rattle.outside.specs.World.{History, names, bytes, was_created}
+use Rattle.outside.specs.Lawful.{IsLawful}
 use Rattle.mem_world.specs.declared.tree.contents.Content.{Content}
 use Rattle.mem_world.specs.declared.tree.stored.Stored.TheInside.{Inside}
 use Rattle.mem_world.specs.TreeRoom.{StoredWorld}
@@ -23,8 +24,9 @@ stored_world inside = record {
   rooms = map room_of inside.contents.items;
 }
 
--- the present is what the history makes it, and there is room for so many more steps
+-- The history is lawful, the present is what it makes it, and there is room for so many more steps
 pub record IsStored (inside : Inside) : Type 0 where
+  pub lawful : IsLawful (history_of inside)
   pub names_kept : names_of inside.names.items ≡ names (history_of inside)
   pub created_kept : (file : ℕ) → list_any (λ n. n == file) inside.created.items ≡ was_created (history_of inside) file
   pub bytes_kept : (file : ℕ) → bytes_in inside.contents.items file ≡ bytes (history_of inside) file

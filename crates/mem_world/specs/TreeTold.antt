@@ -1,5 +1,5 @@
 -- What a tree in memory tells.
-use Rattle.std.specs.Prelude.{ℕ, ◌+◌, List, [], length}
+use Rattle.std.specs.Prelude.{ℕ, ◌+◌, List, [], ◌∷◌, ◌++◌, length}
 use Rattle.outside.specs.World.{Event, World}
 use Rattle.outside.specs.Plan.{Plan}
 use Rattle.mem_world.specs.TreePlan.{Pairs}
@@ -16,6 +16,8 @@ pub record TreeState : Type 0 where
   pub failing : List ℕ
   -- the number of bytes that were read
   pub taken : ℕ
+  -- the length of the longest buffer that a read was given
+  pub widest : ℕ
 
 -- what the count of faults never passes
 abbrev pub bound_of : TreeState → ℕ
@@ -31,6 +33,7 @@ empty_tree = record {
   spare = 0;
   failing = [];
   taken = 0;
+  widest = 0;
 }
 
 -- the history is this one, and the plan is the steps that wait now
@@ -40,3 +43,11 @@ planned_anew tree history waiting = record tree {
   waiting = waiting;
   plan = record { steps = waiting; since = length history };
 }
+
+-- the call with this number was set to fail
+abbrev pub with_failure : TreeState → ℕ → TreeState
+with_failure tree call = record tree { spare = tree.spare + 1; failing = tree.failing ++ call ∷ [] }
+
+-- nothing is planned
+abbrev pub unplanned : TreeState → TreeState
+unplanned tree = record (planned_anew tree tree.world.history []) { spare = 0; failing = [] }

@@ -3,9 +3,10 @@ ghost use Rattle.std.specs.Prelude.{◌≡◌, ℕ, ◌+◌, ◌≤◌, ◌∷�
 ghost use Rattle.outside.specs.Count.{Rose};
 ghost use Rattle.std.proofs.Props.{props};
 ghost use Rattle.outside.specs.declared.disk.DiskFile.{DiskFile};
+ghost use Rattle.outside.specs.DiskCalls.{written_after};
 ghost use Rattle.outside.specs.Image.{AtFile};
 ghost use Rattle.outside.specs.Crash.{Passes, IsDurable};
-ghost use Rattle.mem_world.specs.DiskLog.{Leaves, calls_of};
+ghost use Rattle.mem_world.specs.DiskLog.{Log, Leaves, calls_of};
 ghost use Rattle.mem_world.specs.DiskStore.{log_of};
 ghost use Rattle.mem_world.specs.DiskCount.{done_count};
 ghost use Rattle.mem_world.specs.DiskPlans.{limit_of, left_of, failed, new_fuse, is_reached};
@@ -33,33 +34,38 @@ use tear::Tear;
 pub struct MemDisk {
     store: Store,
     plans: Plans,
+    // The bytes that writes to the slots were given.
+    written: u64,
+    ghost in_range: { written ≤ 18446744073709551615 },
     ghost limited: { IfSome (limit_of plans.fuse) (λ most. done_count (log_of store) + left_of plans.fuse ≤ most) } by { Prim.hlevel props },
 }
 
 impl MemDisk {
-    ghost use Rattle.mem_world.specs.MemDisk.{history_of, fuse_of, failures_of, faults_of, seen_of, MayLeave, moment_of, MayHaveLeft, most_faults, done_of, most_done, next_fate, IsFresh, KeepsPlans, Counts, Calls};
-    ghost use Rattle.mem_world.specs.CrashOutcome.{without_unsynced, with_unsynced};
+    ghost use Rattle.mem_world.specs.MemDisk.{history_of, fuse_of, failures_of, faults_of, seen_of, MayLeave, most_faults, done_of, most_done, written_of, written_then, disk_images, next_fate, IsFresh, KeepsPlans, Counts, Calls};
+    ghost use Rattle.mem_world.specs.CrashOutcome.{left_by, tear_of, without_unsynced, with_unsynced};
 
     /// Four empty files.
     pub fn new(alloc: Global) -> Result<Self, AllocError>
         ensures ok { IsOk result }
         ensures empty { IfOk result (λ disk. (file : DiskFile) → seen_of disk file ≡ []) }
-        ensures durable { IfOk result (λ disk. (file : DiskFile) → IsDurable MayLeave seen_of file disk) }
+        ensures durable { IfOk result (λ disk. (file : DiskFile) → IsDurable disk_images file disk) }
         ensures fresh { IfOk result IsFresh }
     {
         Ok(MemDisk {
             store: Store::new(alloc),
             plans: Plans::new(alloc),
+            written: 0,
         })
     }
 
     /// Sets a file, synced.
     pub fn put(&mut self, alloc: Global, file: DiskFile, bytes: &[u8]) -> Result<(), AllocError>
         ensures seen { OnOk result (AtFile file (λ _ new. new ≡ bytes.now) (seen_of self.old) (seen_of self.new)) }
-        ensures durable { OnOk result (IsDurable MayLeave seen_of file self.new) }
-        ensures crash { OnOk result (Passes MayLeave moment_of MayHaveLeft (AtFile file (λ _ new. new ≡ bytes.now)) self.old self.new) }
+        ensures durable { OnOk result (IsDurable disk_images file self.new) }
+        ensures crash { OnOk result (Passes disk_images (AtFile file (λ _ new. new ≡ bytes.now)) self.old self.new) }
         ensures done { done_of self.new ≡ done_of self.old }
         ensures plans { KeepsPlans self.old self.new }
+        ensures written { written_of self.new ≡ written_of self.old }
         ensures err { OnErr result (history_of self.new ≡ history_of self.old) }
     {
         let bytes = bytes.to_vec(alloc)?;
@@ -83,6 +89,7 @@ impl MemDisk {
         ensures history { history_of self.new ≡ history_of self.old }
         ensures faults { faults_of self.new ≡ faults_of self.old }
         ensures failures { failures_of self.new ≡ failures_of self.old }
+        ensures written { written_of self.new ≡ written_of self.old }
     {
         self.plans.set_fuse(self.store.done(), calls);
     }
@@ -96,6 +103,7 @@ impl MemDisk {
         ensures history { history_of self.new ≡ history_of self.old }
         ensures faults { faults_of self.new ≡ faults_of self.old }
         ensures fuse { fuse_of self.new ≡ fuse_of self.old }
+        ensures written { written_of self.new ≡ written_of self.old }
     {
         self.plans.fail(call)
     }
@@ -108,6 +116,7 @@ impl MemDisk {
         ensures fuse { fuse_of self.new ≡ (if is_reached (fuse_of self.old) then fuse_of self.old else None) }
         ensures history { history_of self.new ≡ history_of self.old }
         ensures faults { faults_of self.new ≡ faults_of self.old }
+        ensures written { written_of self.new ≡ written_of self.old }
     {
         self.plans.clear();
     }
@@ -129,10 +138,9 @@ impl MemDisk {
     /// begins behind what is left of its file is lost.
     pub fn crash(self, alloc: Global, outcome: u32) -> Result<MemDisk, AllocError>
         ensures image { IfOk result (λ disk. MayLeave self (seen_of disk)) }
-        ensures durable { IfOk result (λ disk. (file : DiskFile) → IsDurable MayLeave seen_of file disk) }
+        ensures durable { IfOk result (λ disk. (file : DiskFile) → IsDurable disk_images file disk) }
         ensures fresh { IfOk result IsFresh }
-        ensures nothing { outcome ≡ 0 → IfOk result (λ disk. (file : DiskFile) → seen_of disk file ≡ without_unsynced (calls_of file (history_of self))) }
-        ensures all { outcome ≡ 1 → IfOk result (λ disk. (file : DiskFile) → seen_of disk file ≡ with_unsynced (calls_of file (history_of self))) }
+        ensures torn { IfOk result (λ disk. (file : DiskFile) → seen_of disk file ≡ left_by (tear_of outcome file) (calls_of file (history_of self))) }
     {
         let settings = self.left(alloc, DiskFile::Settings, outcome)?;
         let output = self.left(alloc, DiskFile::Output, outcome)?;
@@ -146,19 +154,46 @@ impl MemDisk {
         Ok(disk)
     }
 
+    /// Outcome 0 leaves nothing of the writes and cuts that no sync followed, and outcome 1 all of them.
+    pub fn outcomes_leave_nothing_or_all()
+        ensures nothing { (file : DiskFile) (log : Log) → left_by (tear_of 0 file) log ≡ without_unsynced log }
+        ensures all { (file : DiskFile) (log : Log) → left_by (tear_of 1 file) log ≡ with_unsynced log }
+    {}
+
     // What the outcome leaves of a file.
     fn left(&self, alloc: Global, file: DiskFile, outcome: u32) -> Result<Vec<u8>, AllocError>
         ensures left { IfOk result (λ left. Leaves (calls_of file (history_of self.now)) left.items) }
-        ensures nothing { outcome ≡ 0 → IfOk result (λ left. left.items ≡ without_unsynced (calls_of file (history_of self.now))) }
-        ensures all { outcome ≡ 1 → IfOk result (λ left. left.items ≡ with_unsynced (calls_of file (history_of self.now))) }
+        ensures torn { IfOk result (λ left. left.items ≡ left_by (tear_of outcome file) (calls_of file (history_of self.now))) }
     {
         self.store.left(alloc, file, Tear::of(outcome, file))
     }
 
+    // The bytes that writes to the slots were given, with those of this write.
+    fn written_given(&self, file: DiskFile, size: usize) -> u64
+        ensures { Some result ≡ written_after file size (Some (written_of self.now)) }
+    {
+        match file {
+            DiskFile::Settings | DiskFile::Output => self.written,
+            DiskFile::SlotA | DiskFile::SlotB => self.written.saturating_add(size as u64),
+        }
+    }
+
+    // The same with those of this call.
+    fn written_with(&self, file: DiskFile, change: &Change) -> u64
+        ensures { Some result ≡ written_then change.now file (Some (written_of self.now)) }
+    {
+        match change {
+            Change::Write { offset: _, bytes } => self.written_given(file, bytes.len()),
+            Change::Put { .. } | Change::Cut { .. } | Change::Sync => self.written,
+        }
+    }
+
     // A write, a cut or a sync. Where memory runs out nothing is done, and the call isn't counted.
     fn call(&mut self, alloc: Global, file: DiskFile, change: Change) -> Result<(), CallFault>
-        ensures { Calls file change result self.old self.new }
+        ensures calls { Calls file change result self.old self.new }
+        ensures written { Some (written_of self.new) ≡ written_then change file (Some (written_of self.old)) }
     {
+        self.written = self.written_with(file, &change);
         let fate = self.plans.fate();
         self.store.record_by(alloc, fate, file, change)?;
         self.plans.count();
@@ -174,6 +209,7 @@ impl MemDisk {
         ensures err { OnErr result ((failed (next_fate self.old) ≡ true) × Rose (faults_of self.old) (faults_of self.new)) }
         ensures counts { Counts self.old self.new }
         ensures history { history_of self.new ≡ history_of self.old }
+        ensures written { written_of self.new ≡ written_of self.old }
     {
         let fate = self.plans.fate();
         self.plans.count();

@@ -54,11 +54,9 @@ impl MemSink {
 }
 
 impl Sink for MemSink {
-    ghost use Rattle.mem_world.specs.MemSink.{written_of, failures_of, faults_of};
+    ghost use Rattle.mem_world.specs.MemSink.{written_of, failures_of, faults_of, sink_meaning};
 
-    ghost written = { λ sink. Some (written_of sink) };
-
-    ghost faults = { faults_of };
+    ghost meaning = { sink_meaning };
 
     /// A write that was set to fail writes nothing, nor does one for which memory runs out.
     fn write(&mut self, _alloc: Global, bytes: &[u8]) -> Result<(), CallFault>
@@ -76,4 +74,6 @@ impl Sink for MemSink {
         self.bytes.extend_from_slice(bytes)?;
         Ok(())
     }
+
+    ghost in_range = { λ sink. sink.failures.in_range };
 }

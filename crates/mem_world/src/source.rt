@@ -56,11 +56,9 @@ impl MemSource {
 }
 
 impl Source for MemSource {
-    ghost use Rattle.mem_world.specs.MemSource.{rest_of, piece_of, failures_of, faults_of};
+    ghost use Rattle.mem_world.specs.MemSource.{rest_of, piece_of, failures_of, faults_of, source_meaning};
 
-    ghost rest = { λ source. Some (rest_of source) };
-
-    ghost faults = { faults_of };
+    ghost meaning = { source_meaning };
 
     /// Gives as many bytes as there are, as fit into `buf` and as a piece has. A read that was set to fail takes
     /// nothing.
@@ -84,4 +82,6 @@ impl Source for MemSource {
         self.position += count;
         Ok(count)
     }
+
+    ghost in_range = { λ source. source.failures.in_range };
 }

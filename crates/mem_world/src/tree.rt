@@ -1,13 +1,15 @@
 // The world of log files in memory.
-ghost use Rattle.std.specs.Prelude.{◌≡◌, ◌↔◌, ◌+◌, ◌∷◌, ◌++◌, [], false, Err, length, Some, IfOk, OnOk, OnErr};
-ghost use Rattle.outside.specs.Lawful.{is_lawful};
+ghost use Rattle.std.specs.Prelude.{◌≡◌, ◌≤◌, ◌<◌, ◌↔◌, ◌+◌, ◌∷◌, ◌++◌, [], All, false, Err, length, IfOk, OnOk, OnErr, IsTrue};
+ghost use Rattle.std.proofs.Props.{props};
+ghost use Rattle.outside.specs.Lawful.{is_lawful, IsLawful, IsLawful-prop};
+ghost use Rattle.mem_world.specs.TreeHandles.{handles_of};
+ghost use Rattle.mem_world.specs.TreePlanned.{IsFollowed};
 
 use crate::world::{StepFault, WorldStep};
 use failures::Failures;
 use handles::Handles;
 use planned::Planned;
 use std::alloc::{AllocError, Global};
-use std::marker::Model;
 
 mod calls;
 mod contents;
@@ -24,89 +26,93 @@ mod stored;
 
 /// A world of log files in memory. It tells its history, its plan and the bound of its count of faults.
 ///
-/// Each call of [`Tree`] begins with the steps that are due: those after which as many calls were to come as have
-/// come. They are played in the order in which they were handed in, and one that isn't lawful then is skipped.
+/// Each call of [`Tree`](outside::Tree) begins with the steps that are due: those after which as many calls were to
+/// come as have come. They are played in the order in which they were handed in, and one that isn't lawful then is
+/// skipped.
 #[derive(Drop)]
 pub struct MemTree {
     planned: Planned,
     failures: Failures,
     handles: Handles,
-    // The number of the next handle.
+    // The number of the next handle, above those of all open files.
     next: u64,
     taken: u64,
-}
-
-impl Model for MemTree {
-    ghost use Rattle.mem_world.specs.TreeTold.{TreeState};
-
-    ghost Value = { TreeState };
-
-    ghost use Rattle.mem_world.specs.TreeInside.{tree_state};
-
-    ghost view = { tree_state };
+    widest: u64,
+    ghost lawful: { IsLawful planned.history } by { IsLawful-prop planned.history },
+    ghost followed: { IsFollowed planned } by { Prim.hlevel props },
+    ghost counted: { failures.count ≤ 18446744073709551615 },
+    ghost below: { All (λ pair. pair.0 < next) (handles_of handles.items) },
 }
 
 impl MemTree {
-    ghost use Rattle.mem_world.specs.TreeTold.{empty_tree, planned_anew, bound_of};
+    ghost use Rattle.mem_world.specs.MemTree.{state_of};
+    ghost use Rattle.mem_world.specs.TreeTold.{empty_tree, planned_anew, with_failure, unplanned, bound_of};
     ghost use Rattle.mem_world.specs.WorldSteps.{event_of};
 
     /// An empty world with no faults.
     pub fn new(alloc: Global) -> Result<MemTree, AllocError>
-        ensures { IfOk result (λ tree. tree ≡ empty_tree) }
+        ensures { IfOk result (λ tree. state_of tree ≡ empty_tree) }
     {
+        let planned = Planned::new(alloc);
+        planned.keeps_plan();
         Ok(MemTree {
-            planned: Planned::new(alloc),
+            planned,
             failures: Failures::new(alloc),
             handles: Handles::new(alloc),
             next: 0,
             taken: 0,
+            widest: 0,
         })
     }
 
     /// Does one step now, and sets the plan anew. A step is lawful unless the file of a `Create` was created before,
     /// the wanted path is in use, is no path, or would make a file a folder, or the named file has no name now.
     pub fn play(&mut self, alloc: Global, step: WorldStep) -> Result<(), StepFault>
-        ensures ok { OnOk result (self.new
-            ≡ planned_anew self.old (event_of step ∷ self.old.world.history) self.old.waiting) }
+        ensures ok { OnOk result (state_of self.new
+            ≡ planned_anew (state_of self.old) (event_of step ∷ (state_of self.old).world.history) (state_of self.old).waiting) }
         ensures not_lawful { (result ≡ Err StepFault.NotLawful)
-            ↔ (is_lawful self.old.world.history (event_of step) ≡ false) }
-        ensures err { OnErr result (self.new ≡ self.old) }
+            ↔ (is_lawful (state_of self.old).world.history (event_of step) ≡ false) }
+        ensures err { OnErr result (state_of self.new ≡ state_of self.old) }
     {
-        self.planned.play(alloc, step)
+        let played = self.planned.play(alloc, step);
+        self.planned.keeps_plan();
+        played
     }
 
     /// Plays the step when so many further calls have been made and the next one begins, and sets the plan anew.
     /// This makes the room that the step takes.
     pub fn later(&mut self, alloc: Global, calls: u32, step: WorldStep) -> Result<(), AllocError>
-        ensures ok { OnOk result (self.new ≡ planned_anew self.old self.old.world.history
-            (self.old.waiting ++ (calls, event_of step) ∷ [])) }
-        ensures err { OnErr result (self.new ≡ self.old) }
+        ensures ok { OnOk result (state_of self.new ≡ planned_anew (state_of self.old) (state_of self.old).world.history
+            ((state_of self.old).waiting ++ (calls, event_of step) ∷ [])) }
+        ensures err { OnErr result (state_of self.new ≡ state_of self.old) }
     {
-        self.planned.later(alloc, calls, step)
+        let set = self.planned.later(alloc, calls, step);
+        self.planned.keeps_plan();
+        set
     }
 
     /// Has the call with this number fail, where 1 is the next. A call of `close` passes all the same.
     pub fn fail(&mut self, _alloc: Global, call: u32) -> Result<(), AllocError>
-        ensures ok { OnOk result (self.new
-            ≡ record self.old { spare = self.old.spare + 1; failing = self.old.failing ++ call ∷ [] }) }
-        ensures bound { OnOk result (bound_of self.new ≡ bound_of self.old + 1) }
-        ensures err { OnErr result (self.new ≡ self.old) }
+        ensures ok { OnOk result (state_of self.new ≡ with_failure (state_of self.old) call) }
+        ensures bound { OnOk result (bound_of (state_of self.new) ≡ bound_of (state_of self.old) + 1) }
+        ensures err { OnErr result (state_of self.new ≡ state_of self.old) }
     {
         self.failures.set(call)
     }
 
     /// Drops the steps that wait and the failures that weren't reached.
     pub fn clear_plans(&mut self)
-        ensures cleared { self.new ≡ record (planned_anew self.old self.old.world.history []) { spare = 0; failing = [] } }
-        ensures bound { bound_of self.new ≡ self.old.faults }
+        ensures cleared { state_of self.new ≡ unplanned (state_of self.old) }
+        ensures bound { bound_of (state_of self.new) ≡ (state_of self.old).faults }
     {
         self.planned.clear();
+        self.planned.keeps_plan();
         self.failures.clear();
     }
 
     /// The length of the history.
     pub fn events(&self) -> u64
-        ensures { result ≡ length self.now.world.history }
+        ensures { result ≡ length (state_of self.now).world.history }
     {
         self.planned.world().len() as u64
     }

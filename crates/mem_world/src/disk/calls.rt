@@ -4,7 +4,7 @@ ghost use Rattle.outside.specs.Count.{HasCause, HasOneCause};
 ghost use Rattle.outside.specs.Content.{Gives};
 ghost use Rattle.outside.specs.Image.{AtFile, Torn, Holds, MayCut, IsCut, IsWithin, Same};
 ghost use Rattle.outside.specs.Crash.{Passes, IsDurable};
-ghost use Rattle.outside.specs.DiskCalls.{last_end, done_after};
+ghost use Rattle.outside.specs.DiskCalls.{last_end, done_after, written_after};
 
 use super::MemDisk;
 use super::log::Change;
@@ -12,29 +12,13 @@ use outside::{CallFault, Disk, DiskFile, Failed};
 use std::alloc::Global;
 
 impl Disk for MemDisk {
-    ghost use Rattle.mem_world.specs.MemDisk.{history_of, fuse_of, failures_of, faults_of, seen_of, MayLeave, moment_of, MayHaveLeft, most_faults, done_of, most_done, next_fate, Counts, Calls, Writes};
+    ghost use Rattle.mem_world.specs.MemDisk.{history_of, fuse_of, failures_of, faults_of, seen_of, most_faults, done_of, most_done, written_of, disk_images, disk_meaning, next_fate, Counts, Calls, Writes};
     ghost use Rattle.mem_world.specs.DiskLaws.{leaves_shown, left_now, left_only_now, within_part};
     ghost use Rattle.mem_world.specs.DiskPlans.{failed, pending, left_of};
     ghost use Rattle.mem_world.specs.DiskCount.{done_count};
     ghost use Rattle.mem_world.specs.declared.disk.log.Change.TheVariants.{Cut, Sync};
 
-    ghost tells = { λ _. true };
-
-    ghost seen = { seen_of };
-
-    ghost may_leave = { MayLeave };
-
-    ghost moment = { moment_of };
-
-    ghost left_since = { MayHaveLeft };
-
-    ghost faults = { faults_of };
-
-    ghost bound = { most_faults };
-
-    ghost done = { done_of };
-
-    ghost limit = { most_done };
+    ghost meaning = { disk_meaning };
 
     ghost told = { λ _ _ _. refl };
 
@@ -44,6 +28,8 @@ impl Disk for MemDisk {
 
     ghost only_now = { λ disk image left. left_only_now (history_of disk) image left };
 
+    ghost in_range = { λ disk. disk.plans.failures.in_range };
+
     ghost within_bound = { λ disk. within_part (most_faults disk) (faults_of disk) (pending (failures_of disk)) disk.plans.within };
 
     ghost within_limit = { λ disk. within_part (most_done disk) (done_count (history_of disk)) (left_of (fuse_of disk)) disk.limited };
@@ -51,11 +37,12 @@ impl Disk for MemDisk {
     fn length(&mut self, file: DiskFile) -> Result<u64, Failed>
         ensures length { IfOk result (λ size. size ≡ length (seen_of self.old file)) }
         ensures seen { seen_of self.new ≡ seen_of self.old }
-        ensures crash { Passes MayLeave moment_of MayHaveLeft Same self.old self.new }
+        ensures crash { Passes disk_images Same self.old self.new }
         ensures cause { HasOneCause result (faults_of self.old) (faults_of self.new) }
         ensures bound { most_faults self.new ≡ most_faults self.old }
         ensures done { done_of self.new ≡ done_of self.old }
         ensures limit { most_done self.new ≡ most_done self.old }
+        ensures counted { written_of self.new ≡ written_of self.old }
 
         // It fails where its fate wants.
         ensures fails { IsErr result ↔ (failed (next_fate self.old) ≡ true) }
@@ -70,11 +57,12 @@ impl Disk for MemDisk {
         ensures within { IfOk result (λ count. count ≤ length buf.new) }
         ensures bytes { IfOk result (λ count. Gives (seen_of self.old file) offset buf.new count) }
         ensures seen { seen_of self.new ≡ seen_of self.old }
-        ensures crash { Passes MayLeave moment_of MayHaveLeft Same self.old self.new }
+        ensures crash { Passes disk_images Same self.old self.new }
         ensures cause { HasOneCause result (faults_of self.old) (faults_of self.new) }
         ensures bound { most_faults self.new ≡ most_faults self.old }
         ensures done { done_of self.new ≡ done_of self.old }
         ensures limit { most_done self.new ≡ most_done self.old }
+        ensures counted { written_of self.new ≡ written_of self.old }
 
         // It fails where its fate wants.
         ensures fails { IsErr result ↔ (failed (next_fate self.old) ≡ true) }
@@ -103,16 +91,20 @@ impl Disk for MemDisk {
         requires ends { offset + length bytes.now ≤ last_end file }
         ensures written { OnOk result (AtFile file (Holds offset bytes.now) (seen_of self.old) (seen_of self.new)) }
         ensures begun { AtFile file (Torn offset (length bytes.now)) (seen_of self.old) (seen_of self.new) }
-        ensures crash { Passes MayLeave moment_of MayHaveLeft (AtFile file (Torn offset (length bytes.now))) self.old self.new }
+        ensures crash { Passes disk_images (AtFile file (Torn offset (length bytes.now))) self.old self.new }
         ensures cause { HasCause result (faults_of self.old) (faults_of self.new) }
         ensures bound { most_faults self.new ≡ most_faults self.old }
         ensures done { done_of self.new ≡ done_after result (done_of self.old) }
         ensures limit { most_done self.new ≡ most_done self.old }
+        ensures counted { Some (written_of self.new) ≡ written_after file (length bytes.now) (Some (written_of self.old)) }
 
         // It does what its fate wants, or nothing where memory runs out.
         ensures calls { Writes file offset bytes.now result self.old self.new }
     {
-        let bytes = bytes.to_vec(alloc)?;
+        let Ok(bytes) = bytes.to_vec(alloc) else {
+            self.written = self.written_given(file, bytes.len());
+            return Err(CallFault::Memory);
+        };
         let offset = offset as usize;
         self.call(alloc, file, Change::Write { offset, bytes })
     }
@@ -121,11 +113,12 @@ impl Disk for MemDisk {
         requires { IsWithin length (seen_of self.old file) }
         ensures cut { OnOk result (AtFile file (IsCut length) (seen_of self.old) (seen_of self.new)) }
         ensures begun { AtFile file (MayCut length) (seen_of self.old) (seen_of self.new) }
-        ensures crash { Passes MayLeave moment_of MayHaveLeft (AtFile file (MayCut length)) self.old self.new }
+        ensures crash { Passes disk_images (AtFile file (MayCut length)) self.old self.new }
         ensures cause { HasCause result (faults_of self.old) (faults_of self.new) }
         ensures bound { most_faults self.new ≡ most_faults self.old }
         ensures done { done_of self.new ≡ done_after result (done_of self.old) }
         ensures limit { most_done self.new ≡ most_done self.old }
+        ensures counted { written_of self.new ≡ written_of self.old }
 
         // It does what its fate wants, or nothing where memory runs out.
         ensures calls { Calls file (Cut length) result self.old self.new }
@@ -135,13 +128,14 @@ impl Disk for MemDisk {
     }
 
     fn sync(&mut self, alloc: Global, file: DiskFile) -> Result<(), CallFault>
-        ensures durable { OnOk result (IsDurable MayLeave seen_of file self.new) }
+        ensures durable { OnOk result (IsDurable disk_images file self.new) }
         ensures seen { seen_of self.new ≡ seen_of self.old }
-        ensures crash { Passes MayLeave moment_of MayHaveLeft Same self.old self.new }
+        ensures crash { Passes disk_images Same self.old self.new }
         ensures cause { HasCause result (faults_of self.old) (faults_of self.new) }
         ensures bound { most_faults self.new ≡ most_faults self.old }
         ensures done { done_of self.new ≡ done_after result (done_of self.old) }
         ensures limit { most_done self.new ≡ most_done self.old }
+        ensures counted { written_of self.new ≡ written_of self.old }
 
         // It does what its fate wants, or nothing where memory runs out.
         ensures calls { Calls file Sync result self.old self.new }

@@ -1,5 +1,5 @@
 // Calls that are to fail, and the count of faults.
-ghost use Rattle.std.specs.Prelude.{◌≡◌, [], ◌∷◌, ◌++◌, if◌then◌else◌, OnOk, OnErr, List};
+ghost use Rattle.std.specs.Prelude.{◌≡◌, ◌≤◌, [], ◌∷◌, ◌++◌, if◌then◌else◌, OnOk, OnErr, List};
 ghost use Rattle.outside.specs.Count.{raised, Rose};
 ghost use Rattle.std.specs.Bool.{OnTrue};
 ghost use Rattle.mem_world.specs.DiskFailures.{is_due, after_call};
@@ -12,6 +12,7 @@ pub(crate) struct Failures {
     /// For each failure the number of calls up to it: 1 is the next call, and 0 one that was made.
     pub(crate) ahead: Vec<u32>,
     pub(crate) faults: u64,
+    ghost in_range: { faults ≤ 18446744073709551615 },
 }
 
 // A call was made.

@@ -23,7 +23,7 @@ pub(crate) struct Store {
 
 impl Store {
     ghost use Rattle.mem_world.specs.DiskStore.{log_of};
-    ghost use Rattle.mem_world.specs.CrashOutcome.{Keeps};
+    ghost use Rattle.mem_world.specs.CrashOutcome.{left_by};
 
     /// Four empty files.
     pub(crate) fn new(alloc: Global) -> Self
@@ -106,7 +106,7 @@ impl Store {
         tear: Tear,
     ) -> Result<Vec<u8>, AllocError>
         ensures left { IfOk result (λ left. Leaves (calls_of file (log_of self.now)) left.items) }
-        ensures keeps { IfOk result (λ left. Keeps tear.kind (calls_of file (log_of self.now)) left.items) }
+        ensures torn { IfOk result (λ left. left.items ≡ left_by tear (calls_of file (log_of self.now))) }
     {
         let mut shown = Vec::new(alloc);
         let mut left = Vec::new(alloc);

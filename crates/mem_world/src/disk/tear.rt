@@ -1,6 +1,7 @@
 // What a crash leaves of the calls on one file, picked by a number.
-ghost use Rattle.std.specs.Prelude.{◌≡◌, ◌≤◌, length, nat_le, IfOk, OnOk, if◌then◌else◌};
+ghost use Rattle.std.specs.Prelude.{◌≡◌, ◌≤◌, ◌++◌, length, take, drop, nat_le, IfOk, OnOk, if◌then◌else◌};
 ghost use Rattle.outside.specs.Image.{Torn};
+ghost use Rattle.mem_world.specs.CrashOutcome.{choice_of, kind_of};
 ghost use Rattle.mem_world.specs.DiskLog.{LeavesBy, changed, written_over};
 
 use super::contents::{apply, write_over};
@@ -26,96 +27,131 @@ pub(crate) enum Kind {
 pub(crate) struct Tear {
     pub(crate) kind: Kind,
     variation: u32,
-    /// How many fifths of a write a mixture leaves.
-    fifths: usize,
+    file: DiskFile,
 }
 
 // The first byte of garbage. It looks like an open gate.
 const GATE: u8 = 0xa5;
 
-fn number_of(file: DiskFile) -> u32
-    ensures { result ≤ 3 }
+// The first byte of garbage in the place of an open gate.
+const OTHER_GATE: u8 = 0x5a;
+
+fn choice_of(outcome: u32, file: DiskFile) -> u32
+    ensures { result ≡ choice_of outcome file }
 {
-    match file {
-        DiskFile::Settings => 0,
-        DiskFile::Output => 1,
-        DiskFile::SlotA => 2,
-        DiskFile::SlotB => 3,
+    let variation = outcome / 5;
+    if outcome % 5 != 4 {
+        return outcome % 5;
+    }
+    if variation == 0 {
+        return 4;
+    }
+    let weight = match file {
+        DiskFile::Settings => 1,
+        DiskFile::Output => 4,
+        DiskFile::SlotA => 16,
+        DiskFile::SlotB => 64,
+    };
+    (variation - 1) / weight % 4
+}
+
+fn kind_of(choice: u32) -> Kind
+    ensures { result ≡ kind_of choice }
+{
+    match choice {
+        0 => Kind::Nothing,
+        1 => Kind::All,
+        2 => Kind::Front,
+        3 => Kind::Garbage,
+        _ => Kind::Mixture,
     }
 }
 
 impl Tear {
-    ghost use Rattle.mem_world.specs.CrashOutcome.{KeepsCall};
+    ghost use Rattle.mem_world.specs.CrashOutcome.{tear_of, keeps_cuts, with_torn, torn_bytes, front_size, mixture_size, garbage_from, garbage_byte};
 
     /// What the outcome leaves of a file.
     pub(crate) fn of(outcome: u32, file: DiskFile) -> Tear
-        ensures nothing { outcome ≡ 0 → result.kind ≡ Kind.Nothing }
-        ensures all { outcome ≡ 1 → result.kind ≡ Kind.All }
+        ensures { result ≡ tear_of outcome file }
     {
-        let variation = outcome / 5;
-        let number = number_of(file);
-        let choice = if outcome % 5 == 4 && variation > 0 {
-            (variation - 1) >> (2 * number) & 3
-        } else {
-            outcome % 5
-        };
-        let kind = match choice {
-            0 => Kind::Nothing,
-            1 => Kind::All,
-            2 => Kind::Front,
-            3 => Kind::Garbage,
-            _ => Kind::Mixture,
-        };
         Tear {
-            kind,
-            variation,
-            fifths: number as usize + 1,
+            kind: kind_of(choice_of(outcome, file)),
+            variation: outcome / 5,
+            file,
         }
     }
 
-    // How many bytes of a write are there, and up to where there is garbage behind them.
-    fn extent(self, size: usize) -> (usize, usize) {
-        match self.kind {
-            Kind::Nothing => (0, 0),
-            Kind::All => (size, size),
-            Kind::Front if self.variation == 0 => (size / 2, size / 2),
-            Kind::Front => {
-                let front = (self.variation as usize).min(size);
-                (front, front)
-            }
-            Kind::Garbage => (0, size),
-            Kind::Mixture => (size / 5 * self.fifths.min(4), size),
+    // How many bytes of a write a front has.
+    fn front(self, size: usize) -> usize
+        ensures size { result ≡ front_size self.variation size }
+        ensures within { result ≤ size }
+    {
+        if self.variation == 0 {
+            size / 2
+        } else {
+            (self.variation as usize).min(size)
+        }
+    }
+
+    // How many bytes of a write a mixture has.
+    fn mixture(self, size: usize) -> usize
+        ensures size { result ≡ mixture_size self.file size }
+        ensures within { result ≤ size }
+    {
+        match self.file {
+            DiskFile::Settings => size / 5,
+            DiskFile::Output => size / 5 * 2,
+            DiskFile::SlotA => size / 5 * 3,
+            DiskFile::SlotB => size / 5 * 4,
         }
     }
 
     // Another byte in the place of this one.
-    fn garbage(self, index: usize, byte: u8) -> u8 {
-        let gate = if byte == GATE { !GATE } else { GATE };
-        if index == 0 && self.kind == Kind::Garbage {
+    fn garbage(self, begins: bool, place: usize, byte: u8) -> u8
+        ensures { result ≡ garbage_byte begins self.variation place byte }
+    {
+        let gate = if byte == GATE { OTHER_GATE } else { GATE };
+        if begins && place == 0 {
             return gate;
         }
-        let other = byte.wrapping_add(1 + (self.variation % 254) as u8);
-        if other == gate {
-            other.wrapping_add(1)
+        let grown = byte.wrapping_add(1 + (self.variation % 254) as u8);
+        if grown == gate {
+            grown.wrapping_add(1)
         } else {
-            other
+            grown
         }
+    }
+
+    // So many bytes of a write, and garbage behind them.
+    fn garbled(
+        self,
+        alloc: Global,
+        begins: bool,
+        front: usize,
+        bytes: &[u8],
+    ) -> Result<Vec<u8>, AllocError>
+        requires { front ≤ length bytes.now }
+        ensures { IfOk result (λ piece. piece.items ≡ take front bytes.now ++ garbage_from begins self.variation front (drop front bytes.now)) }
+    {
+        let mut piece = Vec::from_slice(alloc, &bytes[..front])?;
+        for byte in &bytes[front..] {
+            let place = piece.len();
+            piece.push(self.garbage(begins, place, *byte))?;
+        }
+        Ok(piece)
     }
 
     // What is there in the range of a write, from its front on.
     fn piece(self, alloc: Global, bytes: &[u8]) -> Result<Vec<u8>, AllocError>
-        ensures { IfOk result (λ piece. length piece.items ≤ length bytes.now) }
+        ensures { IfOk result (λ piece. piece.items ≡ torn_bytes self.kind self.variation self.file bytes.now) }
     {
-        let (front, end) = self.extent(bytes.len());
-        let mut piece = Vec::new(alloc);
-        for (index, byte) in bytes.iter().enumerate() {
-            if index < front {
-                piece.push(*byte)?;
-            } else if index < end {
-                piece.push(self.garbage(index, *byte))?;
-            }
+        match self.kind {
+            Kind::Nothing => Ok(Vec::new(alloc)),
+            Kind::All => Vec::from_slice(alloc, bytes),
+            Kind::Front => Vec::from_slice(alloc, &bytes[..self.front(bytes.len())]),
+            Kind::Garbage => self.garbled(alloc, true, 0, bytes),
+            Kind::Mixture => self.garbled(alloc, false, self.mixture(bytes.len()), bytes),
         }
-        Ok(piece)
     }
 
     // Leaves of a write what this tear wants. One that begins behind what is left is lost.
@@ -127,18 +163,22 @@ impl Tear {
         bytes: &[u8],
     ) -> Result<(), AllocError>
         ensures torn { OnOk result (Torn offset (length bytes.now) left.old.items left.new.items) }
-        ensures nothing { self.kind ≡ Kind.Nothing → left.new.items ≡ left.old.items }
-        ensures all { self.kind ≡ Kind.All → OnOk result (left.new.items ≡ (if nat_le offset (length left.old.items) then written_over offset bytes.now left.old.items else left.old.items)) }
+        ensures left { OnOk result (left.new.items ≡ (if nat_le offset (length left.old.items) then written_over offset (torn_bytes self.kind self.variation self.file bytes.now) left.old.items else left.old.items)) }
     {
         if offset > left.len() {
             return Ok(());
         }
+        let piece = self.piece(alloc, bytes)?;
+        write_over(alloc, left, offset, &piece)
+    }
+
+    // Whether cuts are there.
+    fn keeps_cuts(self) -> bool
+        ensures { result ≡ keeps_cuts self.kind }
+    {
         match self.kind {
-            Kind::Nothing => Ok(()),
-            Kind::All => write_over(alloc, left, offset, bytes),
-            Kind::Front | Kind::Garbage | Kind::Mixture => {
-                write_over(alloc, left, offset, &self.piece(alloc, bytes)?)
-            }
+            Kind::All | Kind::Garbage => true,
+            Kind::Nothing | Kind::Front | Kind::Mixture => false,
         }
     }
 
@@ -152,7 +192,7 @@ impl Tear {
     ) -> Result<(), AllocError>
         ensures shown { OnOk result (shown.new.items ≡ (if entry.now.taken then changed entry.now.change shown.old.items else shown.old.items)) }
         ensures left { OnOk result (LeavesBy entry.now.change entry.now.taken (λ old. old ≡ left.old.items) shown.old.items left.new.items) }
-        ensures keeps { OnOk result (KeepsCall self.kind entry.now.change entry.now.taken left.old.items shown.old.items left.new.items) }
+        ensures torn { OnOk result (left.new.items ≡ with_torn self entry.now.change entry.now.taken left.old.items shown.old.items) }
     {
         self.leave(alloc, &entry.change, entry.taken, shown, left)?;
         if entry.taken {
@@ -170,23 +210,23 @@ impl Tear {
         left: &mut Vec<u8>,
     ) -> Result<(), AllocError>
         ensures left { OnOk result (LeavesBy change.now taken (λ old. old ≡ left.old.items) shown.now left.new.items) }
-        ensures keeps { OnOk result (KeepsCall self.kind change.now taken left.old.items shown.now left.new.items) }
+        ensures torn { OnOk result (left.new.items ≡ with_torn self change.now taken left.old.items shown.now) }
     {
         match change {
             Change::Write { offset, bytes } => self.write(alloc, left, *offset, bytes)?,
             Change::Cut { length } => {
-                if self.kind == Kind::All || self.kind == Kind::Garbage {
+                if self.keeps_cuts() {
                     left.truncate(*length);
                 }
             }
             Change::Put { bytes } => {
                 if taken {
-                    *left = bytes.to_vec(alloc)?;
+                    *left = Vec::from_slice(alloc, bytes)?;
                 }
             }
             Change::Sync => {
                 if taken {
-                    *left = shown.to_vec(alloc)?;
+                    *left = Vec::from_slice(alloc, shown)?;
                 }
             }
         }

@@ -1,5 +1,14 @@
 // The calls of a tree in memory.
-ghost use Rattle.std.specs.Prelude.{Some};
+ghost use Rattle.std.specs.Prelude.{◌≡◌, ◌≤◌, ◌<◌, ◌+◌, [], ◌∷◌, false, length, None, Some, IfOk, IsTrue, OnErr, OnOk};
+ghost use Rattle.outside.specs.Closing.{Closes};
+ghost use Rattle.outside.specs.Count.{HasCause, HasOneCause};
+ghost use Rattle.outside.specs.Lawful.{may_come};
+ghost use Rattle.outside.specs.Listing.{Lists, nameless_after};
+ghost use Rattle.outside.specs.Opening.{Opens, IsSize};
+ghost use Rattle.outside.specs.Reading.{Reads, file_of, taken_after, widest_after};
+ghost use Rattle.outside.specs.World.{Told, look, has_name, names};
+ghost use Rattle.mem_world.specs.TreeCalls.{ListCalls, OpenFileCalls, ReadAtCalls, CloseCalls, Called, Stays, is_to_fail};
+ghost use Rattle.mem_world.specs.TreeEvents.{event_seen};
 
 use super::MemTree;
 use super::events::Seen;
@@ -7,28 +16,53 @@ use super::handles::{self, Open, file_of};
 use super::read::read_at;
 use entry_model::Text;
 use outside::{CallFault, Failed, Handle, Listed, Opened, Tree};
-use std::alloc::Global;
+use std::alloc::{AllocError, Global};
 
-impl Tree for MemTree {
-    ghost use Rattle.mem_world.specs.TreeTold.{bound_of};
+impl MemTree {
+    ghost use Rattle.mem_world.specs.MemTree.{state_of};
+    ghost use Rattle.mem_world.specs.TreeFailures.{still};
+    ghost use Rattle.mem_world.specs.TreePlan.{own_since, last_call};
 
-    ghost world = { λ tree. Some tree.world };
-
-    ghost faults = { λ tree. tree.faults };
-
-    ghost taken = { λ tree. tree.taken };
-
-    ghost nameless = { λ _. 0 };
-
-    ghost plan = { λ tree. Some tree.plan };
-
-    ghost bound = { λ tree. Some (bound_of tree) };
-
-    fn list(&mut self, alloc: Global, folder: &str) -> Result<Listed, CallFault> {
+    // Begins a call, and answers whether it is to fail.
+    fn begin(&mut self) -> bool
+        ensures stays { Stays [] false (state_of self.old) (state_of self.new) }
+        ensures fails { result ≡ is_to_fail (state_of self.old) }
+        ensures next { self.new.next ≡ self.old.next }
+        ensures handles { self.new.handles ≡ self.old.handles }
+        ensures counted { self.new.planned.calls < last_call
+            → own_since self.new.planned.plan self.new.planned.history < self.new.planned.calls }
+        ensures may_rise { IsTrue result → still self.new.failures.calls + 1 ≤ self.new.failures.spare }
+    {
         self.planned.begin();
-        if self.failures.begin() {
-            let folder = Text::from_str(alloc, folder)?;
-            self.planned.observe(Seen::Unlisted(folder))?;
+        self.planned.keeps_plan();
+        self.failures.begin()
+    }
+
+    // Takes down the event of the call that has begun.
+    fn observe(&mut self, seen: Seen) -> Result<(), AllocError>
+        requires counted { self.old.planned.calls < last_call
+            → own_since self.old.planned.plan self.old.planned.history < self.old.planned.calls }
+        requires may_come { IsTrue (may_come self.old.planned.history (event_seen seen)) }
+        ensures ok { OnOk result (state_of self.new
+            ≡ record (state_of self.old) { world = record { history = event_seen seen ∷ (state_of self.old).world.history; handles = (state_of self.old).world.handles } }) }
+        ensures err { OnErr result (state_of self.new ≡ state_of self.old) }
+        ensures next { self.new.next ≡ self.old.next }
+        ensures handles { self.new.handles ≡ self.old.handles }
+        ensures failures { self.new.failures ≡ self.old.failures }
+    {
+        self.planned.observe(seen)
+    }
+
+    fn list_now(&mut self, alloc: Global, folder: &str) -> Result<Listed, CallFault>
+        ensures { ListCalls folder.now result (state_of self.old) (state_of self.new) }
+    {
+        if self.begin() {
+            let Ok(folder) = Text::from_str(alloc, folder) else {
+                return Err(CallFault::Memory);
+            };
+            if self.observe(Seen::Unlisted(folder)).is_err() {
+                return Err(CallFault::Memory);
+            }
             self.failures.raise();
             return Err(CallFault::Failed);
         }
@@ -36,15 +70,23 @@ impl Tree for MemTree {
         if !world.is_folder(folder) {
             return Ok(Listed::Gone);
         }
-        let items = world.list(alloc, folder)?;
-        Ok(Listed::Items { items, unnamed: 0 })
+        match world.list(alloc, folder) {
+            Ok(items) => Ok(Listed::Items { items, unnamed: 0 }),
+            Err(_) => Err(CallFault::Memory),
+        }
     }
 
-    fn open_file(&mut self, alloc: Global, path: &str) -> Result<Opened, CallFault> {
-        self.planned.begin();
-        if self.failures.begin() {
-            let path = Text::from_str(alloc, path)?;
-            self.planned.observe(Seen::Miss(path))?;
+    fn open_now(&mut self, alloc: Global, path: &str) -> Result<Opened, CallFault>
+        ensures calls { OpenFileCalls path.now result (state_of self.old) (state_of self.new) }
+        ensures size { IfOk result IsSize }
+    {
+        if self.begin() {
+            let Ok(path) = Text::from_str(alloc, path) else {
+                return Err(CallFault::Memory);
+            };
+            if self.observe(Seen::Miss(path)).is_err() {
+                return Err(CallFault::Memory);
+            }
             self.failures.raise();
             return Err(CallFault::Failed);
         }
@@ -56,20 +98,40 @@ impl Tree for MemTree {
             return Ok(Opened::Gone);
         };
         let size = world.bytes(file).len() as u64;
-        self.handles.reserve(1)?;
-        self.planned.observe(Seen::Look(file))?;
-        let handle = self.next;
-        self.next = handle.wrapping_add(1);
-        self.handles.push_front_reserved(Open { handle, file });
-        Ok(Opened::File {
-            handle: Handle(handle),
-            size,
-        })
+        match self.hand_out(file) {
+            Ok(handle) => Ok(Opened::File { handle, size }),
+            Err(_) => Err(CallFault::Memory),
+        }
     }
 
-    fn read_at(&mut self, handle: Handle, offset: u64, buf: &mut [u8]) -> Result<usize, Failed> {
-        self.planned.begin();
-        if self.failures.begin() {
+    // Looks at the file, and gives it a handle. When all numbers were given there is no memory for a further one.
+    fn hand_out(&mut self, file: u32) -> Result<Handle, AllocError>
+        requires counted { self.old.planned.calls < last_call
+            → own_since self.old.planned.plan self.old.planned.history < self.old.planned.calls }
+        requires named { IsTrue (has_name (names self.old.planned.history) file) }
+        ensures ok { IfOk result (λ handle. state_of self.new
+            ≡ record (state_of self.old) { world = record { history = look file ∷ (state_of self.old).world.history; handles = (handle.0, file) ∷ (state_of self.old).world.handles } }) }
+        ensures is_new { IfOk result (λ handle. file_of (state_of self.old).world.handles handle.0 ≡ None) }
+        ensures err { OnErr result (state_of self.new ≡ state_of self.old) }
+    {
+        let Some(next) = self.next.checked_add(1) else {
+            return Err(AllocError);
+        };
+        let handle = self.next;
+        self.handles.reserve(1)?;
+        self.observe(Seen::Look(file))?;
+        self.next = next;
+        self.handles.push_front_reserved(Open { handle, file });
+        Ok(Handle(handle))
+    }
+
+    fn read_now(&mut self, handle: Handle, offset: u64, buf: &mut [u8]) -> Result<usize, Failed>
+        ensures within { IfOk result (λ count. count ≤ length buf.new) }
+        ensures calls { ReadAtCalls handle.0 offset buf.new result (state_of self.old) (state_of self.new) }
+    {
+        let fails = self.begin();
+        self.widest = self.widest.max(buf.len() as u64);
+        if fails {
             self.failures.raise();
             return Err(Failed);
         }
@@ -79,13 +141,81 @@ impl Tree for MemTree {
         Ok(count)
     }
 
-    fn close(&mut self, handle: Handle) {
-        self.planned.begin();
-        let _fails = self.failures.begin();
+    fn close_now(&mut self, handle: Handle)
+        ensures { CloseCalls handle.0 (state_of self.old) (state_of self.new) }
+    {
+        let _fails = self.begin();
         handles::close(&mut self.handles, handle.0);
+    }
+}
+
+impl Tree for MemTree {
+    ghost use Rattle.mem_world.specs.MemTree.{state_of, tree_meaning};
+    ghost use Rattle.mem_world.specs.TreeTold.{bound_of};
+
+    ghost meaning = { tree_meaning };
+
+    fn list(&mut self, alloc: Global, folder: &str) -> Result<Listed, CallFault>
+        ensures history { Told (Lists folder.now result) (Some (state_of self.old).world) (Some (state_of self.new).world) }
+        ensures cause { HasCause result (state_of self.old).faults (state_of self.new).faults }
+        ensures nameless { (tree_meaning).nameless self.new ≡ nameless_after result ((tree_meaning).nameless self.old) }
+        ensures taken { (state_of self.new).taken ≡ (state_of self.old).taken }
+        ensures widest { Some (state_of self.new).widest ≡ Some (state_of self.old).widest }
+        ensures plan { Some (state_of self.new).plan ≡ Some (state_of self.old).plan }
+        ensures bound { Some (bound_of (state_of self.new)) ≡ Some (bound_of (state_of self.old)) }
+        ensures calls { ListCalls folder.now result (state_of self.old) (state_of self.new) }
+    {
+        self.list_now(alloc, folder)
+    }
+
+    fn open_file(&mut self, alloc: Global, path: &str) -> Result<Opened, CallFault>
+        ensures history { Told (Opens path.now result) (Some (state_of self.old).world) (Some (state_of self.new).world) }
+        ensures size { IfOk result IsSize }
+        ensures cause { HasCause result (state_of self.old).faults (state_of self.new).faults }
+        ensures nameless { (tree_meaning).nameless self.new ≡ (tree_meaning).nameless self.old }
+        ensures taken { (state_of self.new).taken ≡ (state_of self.old).taken }
+        ensures widest { Some (state_of self.new).widest ≡ Some (state_of self.old).widest }
+        ensures plan { Some (state_of self.new).plan ≡ Some (state_of self.old).plan }
+        ensures bound { Some (bound_of (state_of self.new)) ≡ Some (bound_of (state_of self.old)) }
+        ensures calls { OpenFileCalls path.now result (state_of self.old) (state_of self.new) }
+    {
+        self.open_now(alloc, path)
+    }
+
+    fn read_at(&mut self, handle: Handle, offset: u64, buf: &mut [u8]) -> Result<usize, Failed>
+        ensures within { IfOk result (λ count. count ≤ length buf.new) }
+        ensures history { Told (Reads handle.0 offset buf.new result) (Some (state_of self.old).world) (Some (state_of self.new).world) }
+        ensures cause { HasOneCause result (state_of self.old).faults (state_of self.new).faults }
+        ensures nameless { (tree_meaning).nameless self.new ≡ (tree_meaning).nameless self.old }
+        ensures taken { (state_of self.new).taken ≡ taken_after result (state_of self.old).taken }
+        ensures widest { Some (state_of self.new).widest ≡ widest_after (length buf.new) (Some (state_of self.old).widest) }
+        ensures plan { Some (state_of self.new).plan ≡ Some (state_of self.old).plan }
+        ensures bound { Some (bound_of (state_of self.new)) ≡ Some (bound_of (state_of self.old)) }
+        ensures calls { ReadAtCalls handle.0 offset buf.new result (state_of self.old) (state_of self.new) }
+    {
+        self.read_now(handle, offset, buf)
+    }
+
+    fn close(&mut self, handle: Handle)
+        ensures history { Told (Closes handle.0) (Some (state_of self.old).world) (Some (state_of self.new).world) }
+        ensures cause { (state_of self.new).faults ≡ (state_of self.old).faults }
+        ensures nameless { (tree_meaning).nameless self.new ≡ (tree_meaning).nameless self.old }
+        ensures taken { (state_of self.new).taken ≡ (state_of self.old).taken }
+        ensures widest { Some (state_of self.new).widest ≡ Some (state_of self.old).widest }
+        ensures plan { Some (state_of self.new).plan ≡ Some (state_of self.old).plan }
+        ensures bound { Some (bound_of (state_of self.new)) ≡ Some (bound_of (state_of self.old)) }
+        ensures calls { CloseCalls handle.0 (state_of self.old) (state_of self.new) }
+    {
+        self.close_now(handle)
     }
 
     ghost use Rattle.std.proofs.Common.{arith};
+
+    ghost lawful = { λ tree. tree.lawful };
+
+    ghost followed = { λ tree. tree.followed };
+
+    ghost in_range = { λ tree. tree.counted };
 
     ghost within_bound = { λ tree. Prim.omega arith };
 }

@@ -1,7 +1,7 @@
 // A world with steps that are still to be played.
 ghost use Rattle.std.specs.Prelude.{◌≡◌, ◌+◌, ◌<◌, ◌≤◌, ◌↔◌, ◌∷◌, ◌++◌, [], ℕ, All, length, map, filter, is_some, IsTrue, false, Err, OnOk, OnErr, min, vec_len, vec_capacity};
-ghost use Rattle.outside.specs.Lawful.{is_lawful};
-ghost use Rattle.outside.specs.Plan.{Plan, Follows};
+ghost use Rattle.outside.specs.Lawful.{is_lawful, may_come, IsLawful};
+ghost use Rattle.outside.specs.Plan.{Plan};
 ghost use Rattle.outside.specs.World.{History};
 ghost use Rattle.mem_world.specs.TreeEvents.{event_seen};
 ghost use Rattle.mem_world.specs.TreePlan.{own_since, last_call};
@@ -42,7 +42,7 @@ impl Model for Planned {
 }
 
 impl Planned {
-    ghost use Rattle.mem_world.specs.TreePlanned.{empty_plan, with_plan, begun};
+    ghost use Rattle.mem_world.specs.TreePlanned.{empty_plan, with_plan, begun, IsFollowed};
 
     pub fn new(alloc: Global) -> Planned
         ensures { result ≡ empty_plan }
@@ -59,6 +59,14 @@ impl Planned {
         ensures { result.now.history ≡ self.now.history }
     {
         &self.world
+    }
+
+    /// The history is lawful, and has followed the plan.
+    pub fn keeps_plan(&self)
+        ensures lawful { IsLawful self.now.history }
+        ensures followed { IsFollowed self.now }
+    {
+        self.world.keeps_lawful();
     }
 
     /// Does one step, and sets the plan.
@@ -111,7 +119,6 @@ impl Planned {
     /// Plays what is due, and counts a call.
     pub fn begin(&mut self)
         ensures begun { self.new ≡ begun self.old }
-        ensures follows { Follows self.new.plan self.new.history }
         ensures counted { self.new.calls < last_call → own_since self.new.plan self.new.history < self.new.calls }
     {
         play_due(&mut self.world, self.steps.as_mut_slice(), self.calls);
@@ -120,10 +127,11 @@ impl Planned {
 
     /// Takes down an event of the agent's own, in a call that has begun.
     pub fn observe(&mut self, seen: Seen) -> Result<(), AllocError>
-        requires { self.old.calls < last_call → own_since self.old.plan self.old.history < self.old.calls }
+        requires counted { self.old.calls < last_call → own_since self.old.plan self.old.history < self.old.calls }
+        requires may_come { IsTrue (may_come self.old.history (event_seen seen)) }
         ensures ok { OnOk result (self.new ≡ record self.old { history = event_seen seen ∷ self.old.history }) }
         ensures err { OnErr result (self.new ≡ self.old) }
-        ensures follows { Follows self.new.plan self.new.history }
+        ensures followed { IsFollowed self.new }
     {
         self.world.observe(seen)?;
         Ok(())

@@ -1,6 +1,6 @@
 // The history of a world, with its present: names, and the bytes of each file.
 ghost use Rattle.std.specs.Prelude.{◌≡◌, ◌+◌, ◌<◌, ◌≤◌, ◌∷◌, ◌==◌, ℕ, length, IsTrue, OnOk, OnErr, IfOk, ◌||◌, vec_len, vec_capacity};
-ghost use Rattle.outside.specs.Lawful.{is_lawful, is_free};
+ghost use Rattle.outside.specs.Lawful.{is_lawful, is_free, may_come, IsLawful};
 ghost use Rattle.outside.specs.World.{names, bytes, has_name, file_at, was_created, without};
 ghost use Rattle.mem_world.specs.TreeRoom.{room_in, empty_world};
 ghost use Rattle.mem_world.specs.WorldSteps.{event_of, added_by, makes};
@@ -61,6 +61,13 @@ impl Stored {
         ensures { result ≡ length self.now.history }
     {
         self.history.len()
+    }
+
+    /// The history is lawful.
+    pub fn keeps_lawful(&self)
+        ensures { IsLawful self.now.history }
+    {
+        let _room = self.room;
     }
 
     pub fn is_lawful(&self, step: &WorldStep) -> bool
@@ -181,6 +188,7 @@ impl Stored {
 
     /// Takes down an event of the agent's own.
     pub fn observe(&mut self, seen: Seen) -> Result<(), AllocError>
+        requires { IsTrue (may_come self.old.history (event_seen seen)) }
         ensures ok { OnOk result (self.new.history ≡ event_seen seen ∷ self.old.history) }
         ensures err { OnErr result (self.new.history ≡ self.old.history) }
         ensures room { self.new.room ≡ self.old.room }

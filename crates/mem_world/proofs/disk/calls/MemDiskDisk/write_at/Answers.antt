@@ -1,30 +1,30 @@
-use Rattle.std.proofs.Common.{◌≡◌, length}
+use Rattle.std.proofs.Common.{◌≡◌, length, refl}
 use Rattle.mem_world.proofs.DiskSteps.{idle_moves, write_moves, write_begun, write_written, writes_by}
 use Rattle.mem_world.proofs.disk.calls.MemDiskDisk.write_at.Goals as goal
 
-pub returns-in_err-bytes-clause-crash : goal.returns-in_err-bytes-clause-crash
-returns-in_err-bytes-clause-crash c = idle_moves c.args.file c.args.offset (length c.args.bytes.now) c.args.self.now
+pub returns-in_default-clause-crash : goal.returns-in_default-clause-crash
+returns-in_default-clause-crash c = idle_moves c.args.file c.args.offset (length c.args.bytes.now) c.args.self.now _ refl
 
 pub returns-clause-crash : goal.returns-clause-crash
 returns-clause-crash c =
-    let bytes = c.in_ok-bytes.bytes in
-    let same : bytes.items ≡ c.args.bytes.now = c.in_ok-bytes.ensures.items_if_clones_equal (λ x y e. e) in
-    write_moves c.args.file c.args.offset bytes c.args.bytes.now c.call.result c.args.self.now c.call.new.self same c.call.ensures
+    let bytes = c.in-Ok.bytes in
+    let same : bytes.items ≡ c.args.bytes.now = c.in-Ok.ensures.items_if_clones_equal (λ x y e. e) in
+    write_moves c.args.file c.args.offset bytes c.args.bytes.now c.call.result c.args.self.now c.call.new.self same c.call.ensures.calls
 
 pub returns-clause-begun : goal.returns-clause-begun
 returns-clause-begun c =
-    let bytes = c.in_ok-bytes.bytes in
-    let same : bytes.items ≡ c.args.bytes.now = c.in_ok-bytes.ensures.items_if_clones_equal (λ x y e. e) in
-    write_begun c.args.file c.args.offset bytes c.args.bytes.now c.call.result c.args.self.now c.call.new.self same c.call.ensures
+    let bytes = c.in-Ok.bytes in
+    let same : bytes.items ≡ c.args.bytes.now = c.in-Ok.ensures.items_if_clones_equal (λ x y e. e) in
+    write_begun c.args.file c.args.offset bytes c.args.bytes.now c.call.result c.args.self.now c.call.new.self same c.call.ensures.calls
 
 pub returns-clause-written : goal.returns-clause-written
 returns-clause-written c =
-    let bytes = c.in_ok-bytes.bytes in
-    let same : bytes.items ≡ c.args.bytes.now = c.in_ok-bytes.ensures.items_if_clones_equal (λ x y e. e) in
-    write_written c.args.file c.args.offset bytes c.args.bytes.now c.call.result c.args.self.now c.call.new.self same c.requires.begins c.call.ensures
+    let bytes = c.in-Ok.bytes in
+    let same : bytes.items ≡ c.args.bytes.now = c.in-Ok.ensures.items_if_clones_equal (λ x y e. e) in
+    write_written c.args.file c.args.offset bytes c.args.bytes.now c.call.result c.args.self.now c.call.new.self same c.requires.begins c.call.ensures.calls
 
 pub returns-clause-calls : goal.returns-clause-calls
 returns-clause-calls c =
-    let bytes = c.in_ok-bytes.bytes in
-    let same : bytes.items ≡ c.args.bytes.now = c.in_ok-bytes.ensures.items_if_clones_equal (λ x y e. e) in
-    writes_by c.args.file c.args.offset bytes c.args.bytes.now c.call.result c.args.self.now c.call.new.self same c.call.ensures
+    let bytes = c.in-Ok.bytes in
+    let same : bytes.items ≡ c.args.bytes.now = c.in-Ok.ensures.items_if_clones_equal (λ x y e. e) in
+    writes_by c.args.file c.args.offset bytes c.args.bytes.now c.call.result c.args.self.now c.call.new.self same c.call.ensures.calls

@@ -13,6 +13,6 @@ loop-entry-preserved c =
     let shown = c.loop-entry.shown.items in
     let left = c.loop-entry.left.items in
     elim c.if-is_of.branch [
-      | then-is_of+in_ok-step w ↦ rw (w.shown-is, w.left-is) (tears_step c.args.tear.kind file log i entry shown left w.step.new.shown.items w.step.new.left.items (search rules) (grind (arith, common_steps)) (search rules) c.loop-entry.invariant w.in_ok-step.ensures.shown w.in_ok-step.ensures.left w.in_ok-step.ensures.keeps)
-      | else-is_of w ↦ rw (w.shown-is, w.left-is) (tears_skip c.args.tear.kind file log i entry shown left (search rules) (grind (arith, common_steps)) (search rules) c.loop-entry.invariant)
+      | then-is_of+in_ok-step w ↦ rw (w.shown-is, w.left-is) (tears_step c.args.tear file log i entry shown left w.step.new.shown.items w.step.new.left.items (search rules) (grind (arith, common_steps)) (search rules) c.loop-entry.invariant w.in_ok-step.ensures.shown w.in_ok-step.ensures.left w.in_ok-step.ensures.torn)
+      | else-is_of w ↦ rw (w.shown-is, w.left-is) (tears_skip c.args.tear file log i entry shown left (search rules) (grind (arith, common_steps)) (search rules) c.loop-entry.invariant)
     ]

@@ -1,6 +1,6 @@
-use Rattle.mem_world.proofs.TreeMoves.{moves_begun}
+use Rattle.mem_world.specs.MemTree.{state_of}
+use Rattle.mem_world.proofs.TreeMoves.{closes_world}
 use Rattle.mem_world.proofs.tree.calls.MemTreeTree.close.Goals as goal
 
 pub returns-clause-history : goal.returns-clause-history
-returns-clause-history c =
-    rw (← c.self.view_is) (record { handles = c.close.ensures; history = moves_begun c.self.inside.planned c.begin.new.self c.begin.ensures.begun })
+returns-clause-history c = closes_world c.args.handle.0 (state_of c.args.self.now) (state_of c.close_now.new.self) c.close_now.ensures

@@ -4,7 +4,7 @@ use Rattle.mem_world.specs.declared.tree.events.Scheduled.{Scheduled}
 use Rattle.std.proofs.lemmas.List.{with_items_is}
 use Rattle.mem_world.specs.TreePlan.{last_call, left_after, own_since, played, due_at, not_due_at}
 use Rattle.mem_world.specs.TreeSteps.{all_pairs, waiting_pairs}
-use Rattle.mem_world.proofs.TreePacing.{Begins, begins, begun_is, paced_follows}
+use Rattle.mem_world.proofs.TreePacing.{Begins, begins, begun_is}
 use Rattle.mem_world.proofs.tree.planned.Planned.begin.Goals as goal
 use Rattle.mem_world.proofs.tree.planned.Planned.begin.Goals.{After-min-self-inside}
 
@@ -21,11 +21,6 @@ pub invariant_of-self : goal.invariant_of-self
 invariant_of-self c =
     let long : length c.play_due.new.steps ≡ c.self.inside.steps.len = search rules in
     rw (with_items_is c.self.inside.steps c.play_due.new.steps long) (here (goal.at.invariant_of-self c).After-min-self-inside).paced
-
-pub returns-clause-follows : goal.returns-clause-follows
-returns-clause-follows c =
-    let long : length c.play_due.new.steps ≡ c.self.inside.steps.len = search rules in
-    rw (with_items_is c.self.inside.steps c.play_due.new.steps long) (paced_follows (here (goal.at.returns-clause-follows c).After-min-self-inside).paced)
 
 pub returns-clause-counted : goal.returns-clause-counted
 returns-clause-counted c =

@@ -1,9 +1,11 @@
-use Rattle.std.proofs.Common.{◌≡◌, ◌∷◌, ◌++◌, ◌||◌, map, sym, ap, ◌∙◌, arith}
-use Rattle.outside.specs.World.{names, was_created, bytes}
+use Rattle.std.proofs.Common.{◌≡◌, ◌∷◌, ◌++◌, ◌||◌, map, sym, ap, subst, ◌∙◌, arith}
+use Rattle.std.specs.Prelude.{IsTrue}
+use Rattle.outside.specs.Lawful.{is_lawful, IsLawful}
+use Rattle.outside.specs.World.{History, names, was_created, bytes}
 use Rattle.mem_world.specs.TreeEvents.{event_recorded}
 use Rattle.mem_world.specs.WorldSteps.{event_of, added_by, makes, names_after}
 use Rattle.mem_world.proofs.TreeRooms.{room_rooms}
-use Rattle.mem_world.proofs.TreeStoring.{names_then, created_then, bytes_then}
+use Rattle.mem_world.proofs.TreeStoring.{lawful_then, names_then, created_then, bytes_then}
 use Rattle.mem_world.proofs.tree.stored.Stored.play.Goals as goal
 
 pub grow-requires-clause-room : goal.grow-requires-clause-room
@@ -17,8 +19,10 @@ invariant_of-self c =
     let inside = c.self.inside in
     let event = event_of c.args.ready.step in
     let before = map event_recorded inside.history.items in
+    let lawful : IsTrue (is_lawful before event) = rw (← c.self.view_is) at c.requires.lawful in
     let after : map event_recorded c.push_front_reserved.new.self.items ≡ event ∷ before = ap (map event_recorded) c.push_front_reserved.ensures.items in
     record {
+      lawful = (let P : History → Type 0 = λ h. IsLawful h in subst P (sym after) (lawful_then event before lawful c.self.invariant.lawful));
       names_kept = c.change.ensures.names ∙ ap (names_after event) c.self.invariant.names_kept ∙ sym (names_then event before) ∙ ap names (sym after);
       created_kept = λ file. c.note_created.ensures.made file ∙ ap (λ b. makes event file || b) (c.self.invariant.created_kept file) ∙ sym (created_then event before file) ∙ ap (λ h. was_created h file) (sym after);
       bytes_kept = λ file. c.grow.ensures.bytes file ∙ ap (λ b. b ++ added_by event file) (c.self.invariant.bytes_kept file) ∙ sym (bytes_then event before file) ∙ ap (λ h. bytes h file) (sym after);
