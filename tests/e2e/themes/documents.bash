@@ -1,0 +1,171 @@
+# What the documents show: each fenced block of a kind that can be run is run, and so are the rows of their examples.
+
+documents=("$root"/README.md "$root"/docs/*.md)
+
+document() { "$root/tests/e2e/document" "$@"; }
+
+# each_document FUNCTION: calls it with the fenced blocks of each document in the folder `blocks`, and says which failed.
+each_document() {
+    local file
+    for file in "${documents[@]}"; do
+        rm -rf blocks && mkdir blocks && document blocks "$file" blocks || return 1
+        "$1" || {
+            echo "in $(basename "$file")"
+            return 1
+        }
+    done
+}
+
+# Blocks of other kinds than these would go unnoticed. Those of the second line aren't run here: commands that the theme
+# `examples` runs, other programs' settings, and pictures.
+kinds_are_known() {
+    ! find blocks -type f ! -name '*.settings' ! -name '*.log' ! -name '*.report' ! -name '*.output' ! -name '*.console' \
+        ! -name '*.sh' ! -name '*.yaml' ! -name '*.text' | grep .
+}
+
+check_kinds_of_blocks() { each_document kinds_are_known; }
+
+# block NUMBER KIND: the block with this number, which has to be of this kind.
+block() { printf 'blocks/%03d.%s' "$1" "$2"; }
+
+# settings_give: blocks with settings are followed by a log, by what is reported, where that is shown, and by the output as
+# examples/show shows it.
+settings_give() {
+    local said number
+    for said in blocks/*.settings; do
+        [ -e "$said" ] || return 0
+        number=$((10#$(basename "$said" .settings)))
+        rm -rf one && mkdir one && cp "$said" one/settings.json && cp "$(block $((number + 1)) log)" one/app.log || return 1
+        (cd one && quietly) || return 1
+        if [ -e "$(block $((number + 2)) report)" ]; then
+            number=$((number + 1))
+            diff "$(block $((number + 1)) report)" "$work/report" || return 1
+        fi
+        "$root/examples/show" one/output.jsonl | diff "$(block $((number + 2)) output)" - || {
+            cat "$said"
+            return 1
+        }
+    done
+}
+
+check_settings() { each_document settings_give; }
+
+# consoles_show: each line that begins with a dollar is a command, and what follows is what it shows.
+consoles_show() {
+    local block
+    for block in blocks/*.console; do
+        [ -e "$block" ] || return 0
+        rm -rf one && mkdir one && (cd one && a_log) || return 1
+        sed -n 's/^\$ //p' "$block" | while IFS= read -r command; do
+            printf 'printf "%%s\n" %q\n(exit $status)\n%s\nstatus=$?\n' "\$ $command" "$command"
+        done >script
+        (cd one && PATH=$work/bin:$PATH status=0 wait_for bash ../script 2>&1) | diff "$block" - || return 1
+    done
+}
+
+check_consoles() { each_document consoles_show; }
+
+check_keys() {
+    local keys body attributes resource count=0
+    while IFS=$'\x1f' read -r keys body attributes resource; do
+        gives "$keys" ' hello \n' "[$body, $attributes, $resource]" || return 1
+        count=$((count + 1))
+    done < <(document rows "$root/docs/SETTINGS.md" Settings Body)
+    [ "$count" -gt 10 ]
+}
+
+# Each key of the first table has a row with an example, and each type of operators one of its own.
+check_keys_have_examples() {
+    local key type
+    document rows "$root/docs/SETTINGS.md" Settings Body >examples || return 1
+    while IFS=$'\x1f' read -r key _; do
+        [ "$key" = include ] || [ "$key" = start_at ] || grep -q -F "\"$key\": " examples || {
+            echo "there is no example of $key"
+            return 1
+        }
+    done < <(document rows "$root/docs/SETTINGS.md" Key Value Default 'What it says' | sed '/^operators/q')
+    mkdir blocks && document blocks "$root/docs/SETTINGS.md" blocks || return 1
+    for type in $(sed -n 's/^### `\(.*\)`$/\1/p' "$root/docs/SETTINGS.md"); do
+        grep -q -F "\"type\": \"$type\"" blocks/*.settings || {
+            echo "there is no example of $type"
+            return 1
+        }
+    done
+}
+
+# what_it_gives EXPRESSION: as the document says it.
+what_it_gives() {
+    local quoted
+    quoted=$(python3 -c 'import json, sys; print(json.dumps(sys.argv[1]), json.dumps(f"not ({sys.argv[1]})"), sep="\x1f")' "$1")
+    IFS=$'\x1f' read -r is not <<<"$quoted"
+    case $(makes '"include_file_name":false,"operators":[
+        {"type":"add","field":"attributes","value":{"status":404,"user":"ann"}},
+        {"type":"add","field":"resource.is","value":true,"if":'"$is"',"on_error":"drop"},
+        {"type":"add","field":"resource.is","value":false,"if":'"$not"'}]' 'GET /cart took 12 ms\n') in
+    *'{"is": true}]') echo true ;;
+    *'{"is": false}]') echo false ;;
+    '') echo a fault ;;
+    *) echo no truth ;;
+    esac
+}
+
+check_expressions() {
+    local expression wanted found count=0
+    while IFS=$'\x1f' read -r expression wanted; do
+        found=$(what_it_gives "$expression")
+        [ "$found" = "$wanted" ] || {
+            echo "$expression gives $found"
+            return 1
+        }
+        count=$((count + 1))
+    done < <(document rows "$root/docs/SETTINGS.md" Expression)
+    [ "$count" -gt 10 ]
+}
+
+check_refused_settings() {
+    local said line count=0
+    printf 'hello\n' >app.log
+    while IFS=$'\x1f' read -r said line _; do
+        ends 3 "${line#fault 3 }" "$said" || return 1
+        count=$((count + 1))
+    done < <(document rows "$root/docs/STATUSES.md" Settings Line)
+    [ "$count" -gt 10 ]
+}
+
+check_settings_not_built() {
+    local said count=0
+    printf 'hello\n' >app.log
+    while IFS=$'\x1f' read -r said _; do
+        ends 14 not-built "$said" || return 1
+        count=$((count + 1))
+    done < <(document rows "$root/docs/STATUSES.md" Settings "What it can't do yet")
+    [ "$count" -gt 3 ]
+}
+
+# Each status of the table has a section, and the README has the same statuses.
+check_statuses_have_sections() {
+    local status place
+    document rows "$root/docs/STATUSES.md" Status Line >statuses || return 1
+    while IFS=$'\x1f' read -r status _; do
+        place=${status#*(#}
+        place=${place%)}
+        grep -q -i -x "## ${place//-/ }" "$root/docs/STATUSES.md" || {
+            echo "there is no section $place"
+            return 1
+        }
+    done <statuses
+    diff <(sed 's/^\[\([0-9]*\)\].*/\1/' statuses) <(document rows "$root/README.md" Status | cut -d $'\x1f' -f 1)
+}
+
+# The links between the documents lead somewhere.
+check_links() {
+    local file link
+    for file in "${documents[@]}"; do
+        while read -r link; do
+            [ -e "$(dirname "$file")/$link" ] || {
+                echo "$(basename "$file") links to $link"
+                return 1
+            }
+        done < <(grep -o '](\([^)#:]\+\)[)#]' "$file" | sed 's/^](//;s/[)#]$//')
+    done
+}
