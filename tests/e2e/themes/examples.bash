@@ -32,7 +32,7 @@ check_rotated_after_a_stop() {
     rm spool/app.log-20261127.jsonl
     printf x >state/output.jsonl
     printf 'INFO st' >state/app.log
-    ./take logs state spool && diff -r wanted spool
+    ./take logs state spool && diff -r wanted spool && [ "$(ls state)" = settings.json ]
 }
 
 # A file that isn't taken as a whole doesn't come into the spool.
