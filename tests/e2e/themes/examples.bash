@@ -35,12 +35,15 @@ check_rotated_after_a_stop() {
     ./take logs state spool && diff -r wanted spool && [ "$(ls state)" = settings.json ]
 }
 
-# A file that isn't taken as a whole doesn't come into the spool.
+# A file that isn't taken as a whole doesn't come into the spool; the others do, and it does once it can be taken.
 check_rotated_with_a_fault() {
     cp -R "$root/examples/rotated/." . && mkdir spool && PATH=$work/bin:$PATH || return 1
     printf '\x1f\x8b' >logs/app.log-20261126
     ./take logs state spool 2>"$work/shown"
-    [ $? = 1 ] && [ -z "$(ls spool)" ] && grep -q 'fault 14 not-built$' "$work/shown"
+    [ $? = 1 ] && [ "$(ls spool)" = app.log-20261127.jsonl ] || return 1
+    grep -q 'app.log-20261126: fault 14 not-built$' "$work/shown" || return 1
+    echo hello >logs/app.log-20261126
+    ./take logs state spool && [ "$(ls spool | wc -l)" = 2 ]
 }
 
 check_units() {
