@@ -1,0 +1,10 @@
+pub mod Atoms
+pub mod Drafts
+pub mod Epoch
+pub mod Instant
+pub mod Iso
+pub mod LayoutFaults
+pub mod LayoutText
+pub mod Meaning
+pub mod Names
+pub mod Parts

@@ -1,0 +1,29 @@
+//! Times out of texts: `strptime` layouts, RFC 3339, and counts since 1970.
+//!
+//! The contract for the layer above: a [`Layout`] is seen as its parts and its location. [`Layout::read`] answers the
+//! parts that a text of directives spells (`layout_parts`), or the first place that is wrong. [`Layout::instant`] reads
+//! a text part by part (`layout_read`): what the parts say is a day of the calendar, a time of day and a distance from
+//! UTC, and the instant is the number of nanoseconds from 1970-01-01T00:00:00Z up to it (`nanos_of`). A text that
+//! doesn't fit is refused at its first place that can't be read. [`rfc3339`] is one such layout, and [`EpochKind`] reads
+//! counts of seconds or of parts of one.
+//!
+//! Directives are those of POSIX `strptime` and of the OpenTelemetry Collector's time parser. The calendar is that of
+//! the crate `jiff`. Seconds are POSIX's: each day has 86,400, and there is no second 60.
+#![tactic(auto)]
+
+mod atoms;
+mod calendar;
+mod directives;
+mod epoch;
+mod fault;
+mod iso;
+mod layout;
+mod names;
+mod parts;
+#[cfg(test)]
+mod tests;
+
+pub use epoch::EpochKind;
+pub use fault::{LayoutFault, TimeFault};
+pub use iso::rfc3339;
+pub use layout::Layout;

@@ -1,0 +1,171 @@
+// The parts of a layout, what they say, and reading them along a text.
+ghost use Rattle.std.specs.Prelude.{◌≡◌, ◌≤◌, IfOk, length};
+ghost use Rattle.time_layout.specs.Parts.{part_read, parts_read, layout_read, full_year, clock_of};
+
+use crate::TimeFault;
+use crate::atoms::{
+    Reading, read_fraction, read_name, read_number, read_optional_fraction, read_padded_day,
+    read_zone, stands,
+};
+use crate::names::{meridiems, weekdays};
+use case_table::months;
+
+/// Whether hours and minutes of a zone have a colon between them.
+#[derive(Clone, Copy, Debug, PartialEq, Eq)]
+pub(crate) enum Colon {
+    Optional,
+    Required,
+}
+
+/// What stands in a text at a place.
+#[derive(Clone, Copy, Debug, PartialEq, Eq)]
+pub(crate) enum Part {
+    /// This byte.
+    Literal(u8),
+    /// Four digits.
+    Year,
+    /// Two digits, of a year from 1969 to 2068.
+    ShortYear,
+    Month,
+    MonthName,
+    Day,
+    /// A day of which a first digit 0 may be missing, or be a space.
+    PaddedDay,
+    /// A name that says nothing.
+    WeekdayName,
+    Hour,
+    /// An hour from 1 to 12, of the half of the day that the meridiem names.
+    TwelveHour,
+    Meridiem,
+    Minute,
+    Second,
+    /// One to nine digits of a second's fraction.
+    Fraction,
+    /// Nothing, or a point and one to this many digits.
+    PointFraction(u8),
+    Zone(Colon),
+}
+
+/// By which clock the hour is counted.
+#[derive(Clone, Copy, Debug, PartialEq, Eq)]
+pub(crate) enum Clock {
+    Full,
+    Am,
+    Pm,
+}
+
+/// What a text says of a time.
+#[derive(Clone, Copy, Debug, PartialEq, Eq)]
+pub(crate) struct Said {
+    pub(crate) year: u16,
+    pub(crate) month: u16,
+    pub(crate) day: u8,
+    pub(crate) clock: Clock,
+    pub(crate) hour: u8,
+    pub(crate) minute: u8,
+    pub(crate) second: u8,
+    pub(crate) nanosecond: u32,
+    /// In seconds east of UTC.
+    pub(crate) offset: i32,
+}
+
+/// Reads a text to its end, part by part. Where it has no zone, it is said at this distance from UTC.
+pub(crate) fn read_layout(parts: &[Part], location: i32, text: &[u8]) -> Reading<Said>
+    ensures { result ≡ layout_read parts.now location text.now }
+{
+    let nothing = Said {
+        year: 0,
+        month: 0,
+        day: 0,
+        clock: Clock::Full,
+        hour: 0,
+        minute: 0,
+        second: 0,
+        nanosecond: 0,
+        offset: location,
+    };
+    let (said, at) = read_parts(parts, text, nothing)?;
+    if at < text.len() {
+        return Err(TimeFault::Mismatch { at });
+    }
+    Ok((said, at))
+}
+
+fn read_parts(parts: &[Part], text: &[u8], nothing: Said) -> Reading<Said>
+    ensures is { result ≡ parts_read parts.now text.now 0 nothing }
+    ensures within { IfOk result (λ read. read.1 ≤ length text.now) }
+{
+    let mut said = nothing;
+    let mut at = 0;
+    for part in parts {
+        (said, at) = read_part(*part, text, at, said)?;
+    }
+    Ok((said, at))
+}
+
+/// What a reader answered, as one field more of what was said.
+macro_rules! say {
+    ($said:ident, $reading:expr, $value:ident => $field:ident: $saying:expr) => {{
+        let ($value, next) = $reading?;
+        Ok((Said { $field: $saying, ..$said }, next))
+    }};
+}
+
+fn read_part(part: Part, text: &[u8], at: usize, said: Said) -> Reading<Said>
+    requires { at ≤ length text.now }
+    ensures is { result ≡ part_read part text.now at said }
+    ensures within { IfOk result (λ read. read.1 ≤ length text.now) }
+{
+    match part {
+        Part::Literal(byte) => read_literal(byte, text, at, said),
+        Part::Year => say!(said, read_number(4, 0, 9999, text, at), value => year: value as u16),
+        Part::ShortYear =>
+            say!(said, read_number(2, 0, 99, text, at), value => year: full_year(value)),
+        Part::Month => say!(said, read_number(2, 1, 12, text, at), value => month: value as u16),
+        Part::MonthName => say!(said, read_name(&months(), 3, text, at), value => month: value),
+        Part::Day => say!(said, read_number(2, 1, 31, text, at), value => day: value as u8),
+        Part::PaddedDay => say!(said, read_padded_day(text, at), value => day: value as u8),
+        Part::WeekdayName => {
+            let (_, next) = read_name(&weekdays(), 3, text, at)?;
+            Ok((said, next))
+        }
+        Part::Hour => say!(said, read_number(2, 0, 23, text, at), value => hour: value as u8),
+        Part::TwelveHour => say!(said, read_number(2, 1, 12, text, at), value => hour: value as u8),
+        Part::Meridiem =>
+            say!(said, read_name(&meridiems(), 2, text, at), value => clock: clock_of(value)),
+        Part::Minute => say!(said, read_number(2, 0, 59, text, at), value => minute: value as u8),
+        Part::Second => say!(said, read_number(2, 0, 59, text, at), value => second: value as u8),
+        Part::Fraction => say!(said, read_fraction(9, text, at), value => nanosecond: value),
+        Part::PointFraction(most) =>
+            say!(said, read_optional_fraction(most, text, at), value => nanosecond: value),
+        Part::Zone(colon) => say!(said, read_zone(colon, text, at), value => offset: value),
+    }
+}
+
+fn read_literal(byte: u8, text: &[u8], at: usize, said: Said) -> Reading<Said>
+    requires { at ≤ length text.now }
+    ensures is { result ≡ part_read (Part.Literal byte) text.now at said }
+    ensures within { IfOk result (λ read. read.1 ≤ length text.now) }
+{
+    if stands(byte, text, at) {
+        return Ok((said, at + 1));
+    }
+    Err(TimeFault::Mismatch { at })
+}
+
+fn full_year(short: u32) -> u16
+    requires { short ≤ 99 }
+    ensures { result ≡ full_year short }
+{
+    if short < 69 {
+        2000 + short as u16
+    } else {
+        1900 + short as u16
+    }
+}
+
+fn clock_of(code: u16) -> Clock
+    ensures { result ≡ clock_of code }
+{
+    if code == 1 { Clock::Am } else { Clock::Pm }
+}
