@@ -8,3 +8,5 @@ pub mod LayoutText
 pub mod Meaning
 pub mod Names
 pub mod Parts
+pub mod Printed
+pub mod Texts

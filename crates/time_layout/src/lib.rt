@@ -17,6 +17,7 @@ mod directives;
 mod epoch;
 mod fault;
 mod iso;
+pub mod laws;
 mod layout;
 mod names;
 mod parts;
