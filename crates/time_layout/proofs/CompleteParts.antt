@@ -31,8 +31,8 @@ optional_reads most at value text own rest is (inl none) =
 optional_reads most at value text own rest is (inr some) =
     let begins : drop at text ≡ 46 ∷ (some.0 ++ rest) = is ∙ ap (λ bytes. bytes ++ rest) some.1 in
     rw (stands_is 46 at text 46 (some.0 ++ rest) begins)
-        (fraction_reads most (at + 1) value text some.0 rest (behind_one at text 46 (some.0 ++ rest) begins) some.2
-            ∙ ap (λ next. Ok (value, next)) (omega (arith, ap length some.1)))
+    (fraction_reads most (at + 1) value text some.0 rest (behind_one at text 46 (some.0 ++ rest) begins) some.2
+    ∙ ap (λ next. Ok (value, next)) (omega (arith, ap length some.1)))
 
 pub part_reads : (part : Part) (at : ℕ) (text own rest : List ℕ) (before said : Said) → drop at text ≡ own ++ rest → Spells part own rest before said
     → part_read part text at before ≡ Ok (said, at + length own)
@@ -68,10 +68,10 @@ part_reads Fraction at text own rest before said is spelled =
     through _ spelled.0 (at + length own) (λ v. record before { nanosecond = v }) said (fraction_reads 9 at spelled.0 text own rest is spelled.1) spelled.2
 part_reads (PointFraction most) at text own rest before said is (inl none) =
     through _ 0 (at + length own) (λ v. record before { nanosecond = v }) said
-        (optional_reads (min most 9) at 0 text own rest is (inl (none.0, none.1, refl))) none.2
+    (optional_reads (min most 9) at 0 text own rest is (inl (none.0, none.1, refl))) none.2
 part_reads (PointFraction most) at text own rest before said is (inr some) =
     through _ some.1 (at + length own) (λ v. record before { nanosecond = v }) said
-        (optional_reads (min most 9) at some.1 text own rest is (inr (some.0, some.2, some.3))) some.4
+    (optional_reads (min most 9) at some.1 text own rest is (inr (some.0, some.2, some.3))) some.4
 part_reads (Zone colon) at text own rest before said is spelled =
     through _ spelled.0 (at + length own) (λ v. record before { offset = v }) said (zone_reads colon at spelled.0 text own rest is spelled.1) spelled.2
 

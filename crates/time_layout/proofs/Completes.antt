@@ -40,8 +40,8 @@ front_whole own rest size is = ap (λ n. take n (own ++ rest)) (sym is) ∙ take
 
 number_of_digits : (digits low high at value : ℕ) → low ≤ value → value ≤ high
     → cond {A = Reading ℕ} (nat_lt digits digits) (Err (Mismatch (at + digits)))
-        (cond {A = Reading ℕ} (nat_le low value && nat_le value high) (Ok (value, at + digits)) (Err (Mismatch at)))
-        ≡ Ok (value, at + digits)
+    (cond {A = Reading ℕ} (nat_le low value && nat_le value high) (Ok (value, at + digits)) (Err (Mismatch at)))
+    ≡ Ok (value, at + digits)
 number_of_digits digits low high at value least greatest = grind (arith, nat_tests)
 
 pub number_reads : (digits low high at value : ℕ) (text own rest : List ℕ) → drop at text ≡ own ++ rest → IsNumber digits low high own value
@@ -77,7 +77,7 @@ count_is own rest most all few (inl whole) = ap (prefix_len is_ascii_digit) (fro
 count_is own rest most all few (inr none) =
     let split : most ≡ length own + (most - length own) = omega arith in
     let front : take most (own ++ rest) ≡ own ++ take (most - length own) rest =
-        ap (λ n. take n (own ++ rest)) split ∙ take-append-add own rest (most - length own) in
+    ap (λ n. take n (own ++ rest)) split ∙ take-append-add own rest (most - length own) in
     rw (front, prefix_len-append, none_in_front (most - length own) rest none, all) (either_way _ (length own))
 
 fraction_of_digits : (count at nanos : ℕ) → 1 ≤ count
@@ -89,7 +89,7 @@ pub fraction_reads : (most at nanos : ℕ) (text own rest : List ℕ) → drop a
 unfolding fraction
 fraction_reads most at nanos text own rest is f =
     let count : prefix_len is_ascii_digit (take most (drop at text)) ≡ length own =
-        ap (λ bytes. prefix_len is_ascii_digit (take most bytes)) is ∙ count_is own rest most f.all f.few f.ends in
+    ap (λ bytes. prefix_len is_ascii_digit (take most bytes)) is ∙ count_is own rest most f.all f.few f.ends in
     let whole : take (length own) (drop at text) ≡ own = ap (take (length own)) is ∙ take-append_seam own rest in
     rw (count, whole, f.value_is) (fraction_of_digits (length own) at nanos f.some)
 
@@ -118,11 +118,11 @@ padded_day_reads at day text own rest is (inl spaced) =
     rw (stands_is 32 at text 32 (spaced.0 ++ rest) begins) (after ∙ ap (λ next. Ok (day, next)) size)
 padded_day_reads at day text own rest is (inr (inl two)) =
     let count : prefix_len is_ascii_digit (take 2 (drop at text)) ≡ 2 =
-        ap (λ bytes. prefix_len is_ascii_digit (take 2 bytes)) is ∙ ap (prefix_len is_ascii_digit) (front_whole own rest 2 two.size) ∙ two.all ∙ two.size in
+    ap (λ bytes. prefix_len is_ascii_digit (take 2 bytes)) is ∙ ap (prefix_len is_ascii_digit) (front_whole own rest 2 two.size) ∙ two.all ∙ two.size in
     rw (digits_begin 32 at text own rest refl is two.all (omega (arith, two.size)), count) (number_reads 2 1 31 at day text own rest is two)
 padded_day_reads at day text own rest is (inr (inr one)) =
     let count : prefix_len is_ascii_digit (take 2 (drop at text)) ≡ 1 =
-        ap (λ bytes. prefix_len is_ascii_digit (take 2 bytes)) is ∙ count_is own rest 2 one.0.all (omega (arith, one.0.size)) (inr one.1) ∙ one.0.size in
+    ap (λ bytes. prefix_len is_ascii_digit (take 2 bytes)) is ∙ count_is own rest 2 one.0.all (omega (arith, one.0.size)) (inr one.1) ∙ one.0.size in
     rw (digits_begin 32 at text own rest refl is one.0.all (omega (arith, one.0.size)), count) (number_reads 1 1 31 at day text own rest is one.0)
 
 colon_reads : (at minutes : ℕ) (text digits rest : List ℕ) → drop at text ≡ 58 ∷ (digits ++ rest) → IsNumber 2 0 59 digits minutes
@@ -145,12 +145,12 @@ pub offset_reads : (colon : Colon) (at seconds : ℕ) (text own rest : List ℕ)
     → offset colon text at ≡ Ok (seconds, at + length own)
 offset_reads colon at seconds text own rest is o =
     let begins : drop at text ≡ o.hours_text ++ (o.minutes_text ++ rest) =
-        is ∙ ap (λ bytes. bytes ++ rest) o.is ∙ append_assoc o.hours_text o.minutes_text rest in
+    is ∙ ap (λ bytes. bytes ++ rest) o.is ∙ append_assoc o.hours_text o.minutes_text rest in
     let hours = number_reads 2 0 23 at o.hours text o.hours_text (o.minutes_text ++ rest) begins o.are_hours in
     let minutes = minutes_read colon (at + length o.hours_text) o.minutes text o.minutes_text rest
-        (behind at text o.hours_text (o.minutes_text ++ rest) begins) o.are_minutes in
+    (behind at text o.hours_text (o.minutes_text ++ rest) begins) o.are_minutes in
     let size : at + length o.hours_text + length o.minutes_text ≡ at + length own =
-        omega (arith, ap length o.is, length-append o.hours_text o.minutes_text) in
+    omega (arith, ap length o.is, length-append o.hours_text o.minutes_text) in
     rw (hours, minutes, size, o.seconds_are) refl
 
 signed_reads : (colon : Colon) (sign at seconds : ℕ) (text own behind_sign rest : List ℕ) → drop at text ≡ own ++ rest → own ≡ sign ∷ behind_sign
@@ -158,7 +158,7 @@ signed_reads : (colon : Colon) (sign at seconds : ℕ) (text own behind_sign res
 signed_reads colon sign at seconds text own behind_sign rest is own_is o =
     let begins : drop at text ≡ sign ∷ (behind_sign ++ rest) = is ∙ ap (λ bytes. bytes ++ rest) own_is in
     offset_reads colon (at + 1) seconds text behind_sign rest (behind_one at text sign (behind_sign ++ rest) begins) o
-        ∙ ap (λ next. Ok (seconds, next)) (omega (arith, ap length own_is))
+    ∙ ap (λ next. Ok (seconds, next)) (omega (arith, ap length own_is))
 
 pub zone_reads : (colon : Colon) (at : ℕ) (offset_is : ℤ) (text own rest : List ℕ) → drop at text ≡ own ++ rest → IsZone colon own offset_is
     → zone colon text at ≡ Ok (offset_is, at + length own)
@@ -168,9 +168,18 @@ zone_reads colon at offset_is text own rest is (inl utc) =
     rw (stands_is 90 at text 90 rest begins, utc.0, utc.1) refl
 zone_reads colon at offset_is text own rest is (inr (inl east)) =
     let begins : drop at text ≡ 43 ∷ (east.0 ++ rest) = is ∙ ap (λ bytes. bytes ++ rest) east.2 in
-    rw (stands_is 90 at text 43 (east.0 ++ rest) begins, stands_is 43 at text 43 (east.0 ++ rest) begins,
-        signed_reads colon 43 at east.1 text own east.0 rest is east.2 east.4, east.3) refl
+    rw (
+      stands_is 90 at text 43 (east.0 ++ rest) begins,
+      stands_is 43 at text 43 (east.0 ++ rest) begins,
+      signed_reads colon 43 at east.1 text own east.0 rest is east.2 east.4,
+      east.3,
+    ) refl
 zone_reads colon at offset_is text own rest is (inr (inr west)) =
     let begins : drop at text ≡ 45 ∷ (west.0 ++ rest) = is ∙ ap (λ bytes. bytes ++ rest) west.2 in
-    rw (stands_is 90 at text 45 (west.0 ++ rest) begins, stands_is 43 at text 45 (west.0 ++ rest) begins, stands_is 45 at text 45 (west.0 ++ rest) begins,
-        signed_reads colon 45 at west.1 text own west.0 rest is west.2 west.4, west.3) refl
+    rw (
+      stands_is 90 at text 45 (west.0 ++ rest) begins,
+      stands_is 43 at text 45 (west.0 ++ rest) begins,
+      stands_is 45 at text 45 (west.0 ++ rest) begins,
+      signed_reads colon 45 at west.1 text own west.0 rest is west.2 west.4,
+      west.3,
+    ) refl

@@ -54,20 +54,20 @@ value_of-digits_text (suc width) n small =
 
 number_text : (width low high n : ℕ) → n < 10 ^ width → low ≤ n → n ≤ high → IsNumber width low high (digits_text width n) n
 number_text width low high n small least greatest = record {
-    all = are_digits width n;
-    size = length-digits_text width n;
-    value_is = value_of-digits_text width n small;
-    least = least;
-    greatest = greatest
+  all = are_digits width n;
+  size = length-digits_text width n;
+  value_is = value_of-digits_text width n small;
+  least = least;
+  greatest = greatest;
 }
 
 fraction_text : (most n : ℕ) (rest : List ℕ) → most ≡ 9 → n < 1_000_000_000 → IsFraction most (digits_text 9 n) rest n
 fraction_text most n rest is small = record {
-    all = are_digits 9 n;
-    some = omega (arith, length-digits_text 9 n);
-    few = omega (arith, length-digits_text 9 n);
-    ends = inl (length-digits_text 9 n ∙ sym is);
-    value_is = mul-one (value_of (digits_text 9 n)) ∙ value_of-digits_text 9 n small
+  all = are_digits 9 n;
+  some = omega (arith, length-digits_text 9 n);
+  few = omega (arith, length-digits_text 9 n);
+  ends = inl (length-digits_text 9 n ∙ sym is);
+  value_is = mul-one (value_of (digits_text 9 n)) ∙ value_of-digits_text 9 n small;
 }
 
 month_text : (code : ℕ) → 1 ≤ code → code ≤ 12 → IsName month_table 3 (name_text month_table code) code
@@ -118,14 +118,14 @@ minutes_text Required minutes few = (digits_text 2 minutes, refl, number_text 2 
 
 offset_is_text : (colon : Colon) (seconds : ℕ) → seconds < 86_400 → seconds % 60 ≡ 0 → IsOffset colon (offset_text seconds) seconds
 offset_is_text colon seconds small whole = record {
-    hours_text = digits_text 2 (seconds / 3600);
-    minutes_text = 58 ∷ digits_text 2 (seconds % 3600 / 60);
-    hours = seconds / 3600;
-    minutes = seconds % 3600 / 60;
-    is = refl;
-    are_hours = number_text 2 0 23 (seconds / 3600) (omega arith) (omega arith) (omega arith);
-    are_minutes = minutes_text colon (seconds % 3600 / 60) (omega arith);
-    seconds_are = omega arith
+  hours_text = digits_text 2 (seconds / 3600);
+  minutes_text = 58 ∷ digits_text 2 (seconds % 3600 / 60);
+  hours = seconds / 3600;
+  minutes = seconds % 3600 / 60;
+  is = refl;
+  are_hours = number_text 2 0 23 (seconds / 3600) (omega arith) (omega arith) (omega arith);
+  are_minutes = minutes_text colon (seconds % 3600 / 60) (omega arith);
+  seconds_are = omega arith;
 }
 
 zone_is_text : (colon : Colon) (offset : ℤ) → nat_abs offset < 86_400 → nat_abs offset % 60 ≡ 0 → IsZone colon (zone_text offset) offset
@@ -170,4 +170,4 @@ pub prints_back : (parts : List Part) (location : ℤ) (s : Said) → CanTellBy 
     → layout_read parts location (printed parts s) ≡ Ok (s, length (printed parts s))
 prints_back parts location s can all =
     layout_reads parts location (printed parts s) (told_by parts s (nothing_said location)) (parts_print parts s (nothing_said location) can)
-        ∙ ap (λ said. Ok (said, length (printed parts s))) all
+    ∙ ap (λ said. Ok (said, length (printed parts s))) all

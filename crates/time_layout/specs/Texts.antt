@@ -46,7 +46,7 @@ pub record IsName (table : List Named) (size : ℕ) (own : List ℕ) (code : ℕ
 abbrev pub IsPaddedDay : List ℕ → List ℕ → ℕ → Type 0
 IsPaddedDay own rest day =
     ((digit : List ℕ) × (own ≡ 32 ∷ digit) × IsNumber 1 1 31 digit day)
-        ⊎ (IsNumber 2 1 31 own day ⊎ (IsNumber 1 1 31 own day × BeginsNoDigit rest))
+    ⊎ (IsNumber 2 1 31 own day ⊎ (IsNumber 1 1 31 own day × BeginsNoDigit rest))
 
 -- minutes, behind a colon, or without one where it may be left out
 abbrev pub AreMinutes : Colon → List ℕ → ℕ → Type 0
@@ -68,8 +68,8 @@ pub record IsOffset (colon : Colon) (own : List ℕ) (seconds : ℕ) : Type 0 wh
 abbrev pub IsZone : Colon → List ℕ → ℤ → Type 0
 IsZone colon own offset =
     ((own ≡ 90 ∷ []) × (offset ≡ pos 0))
-        ⊎ (((behind : List ℕ) × (seconds : ℕ) × (own ≡ 43 ∷ behind) × (offset ≡ pos seconds) × IsOffset colon behind seconds)
-        ⊎ ((behind : List ℕ) × (seconds : ℕ) × (own ≡ 45 ∷ behind) × (offset ≡ neg_ℤ (pos seconds)) × IsOffset colon behind seconds))
+    ⊎ (((behind : List ℕ) × (seconds : ℕ) × (own ≡ 43 ∷ behind) × (offset ≡ pos seconds) × IsOffset colon behind seconds)
+    ⊎ ((behind : List ℕ) × (seconds : ℕ) × (own ≡ 45 ∷ behind) × (offset ≡ neg_ℤ (pos seconds)) × IsOffset colon behind seconds))
 
 -- own is the part's text where rest follows, and says this more than was said before
 abbrev pub Spells : Part → List ℕ → List ℕ → Said → Said → Type 0
@@ -89,7 +89,7 @@ Spells Second own rest before said = (value : ℕ) × IsNumber 2 0 59 own value 
 Spells Fraction own rest before said = (value : ℕ) × IsFraction 9 own rest value × (said ≡ record before { nanosecond = value })
 Spells (PointFraction most) own rest before said =
     ((own ≡ []) × ((more : List ℕ) → rest ≢ 46 ∷ more) × (said ≡ record before { nanosecond = 0 }))
-        ⊎ ((digits : List ℕ) × (value : ℕ) × (own ≡ 46 ∷ digits) × IsFraction (min most 9) digits rest value × (said ≡ record before { nanosecond = value }))
+    ⊎ ((digits : List ℕ) × (value : ℕ) × (own ≡ 46 ∷ digits) × IsFraction (min most 9) digits rest value × (said ≡ record before { nanosecond = value }))
 Spells (Zone colon) own rest before said = (value : ℤ) × IsZone colon own value × (said ≡ record before { offset = value })
 
 -- the text is made of the parts' texts, one after another, and says all that they say

@@ -1,9 +1,24 @@
 // What the definitions imply.
-ghost use Rattle.std.specs.Prelude.{◌≡◌, ◌↔◌, ℕ, ℤ, List, length, Ok};
+ghost use Rattle.std.specs.Prelude.{◌≡◌, ◌↔◌, ℕ, ℤ, List, length, Ok, Result};
 ghost use Rattle.time_layout.specs.declared.parts.Part.{Part as part};
 ghost use Rattle.time_layout.specs.declared.parts.Said.{Said as saying};
+ghost use Rattle.time_layout.specs.declared.fault.TimeFault.{TimeFault};
+ghost use Rattle.time_layout.specs.Atoms.{Reading};
+ghost use Rattle.time_layout.specs.Instant.{IsTimeOf};
 ghost use Rattle.time_layout.specs.Parts.{layout_read, nothing_said};
 ghost use Rattle.time_layout.specs.Printed.{CanTellBy, told_by, printed};
+ghost use Rattle.time_layout.specs.Texts.{IsTextOf};
+
+/// A text is read exactly where it is made of the texts of the layout's parts, one after another, and as what they say.
+pub fn texts_of_the_parts_are_read()
+    ensures { (parts : List part) (location : ℤ) (text : List ℕ) (said : saying)
+        → (layout_read parts location text ≡ Ok (said, length text)) ↔ IsTextOf parts text (nothing_said location) said }
+{}
+
+/// What was read has one instant, or one fault.
+pub fn readings_have_one_answer()
+    ensures { (reading : Reading saying) (answer other : Result ℕ TimeFault) → IsTimeOf reading answer → IsTimeOf reading other → answer ≡ other }
+{}
 
 /// What is printed in a layout reads back, where the layout's parts can tell it and tell all of it.
 pub fn printed_texts_read_back()
