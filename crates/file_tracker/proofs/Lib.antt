@@ -1,0 +1,10 @@
+pub mod FrontLemmas
+pub mod CostLemmas
+pub mod PlaceLemmas
+pub mod StandingLemmas
+pub mod FreeLemmas
+pub mod OrderLemmas
+pub mod AscentLemmas
+pub mod AdmitLemmas
+pub mod FindLemmas
+pub mod RowLemmas
