@@ -1,0 +1,9 @@
+pub mod Filling
+pub mod OnlyReading
+pub mod Frames
+pub mod Framed
+pub mod Counts
+pub mod Leaving
+pub mod Tears
+pub mod Choices
+pub mod Commits
