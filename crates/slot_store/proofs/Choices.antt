@@ -29,7 +29,7 @@ file_of : Option Slot → DiskFile
 file_of None = Settings
 file_of (Some slot) = slot.file
 
-slot_in_file : (file : DiskFile) (content : List ℕ) (slot : Slot) → slot_in file content ≡ Some slot → slot.file ≡ file
+pub slot_in_file : (file : DiskFile) (content : List ℕ) (slot : Slot) → slot_in file content ≡ Some slot → slot.file ≡ file
 unfolding file_of
 slot_in_file file content slot found = by_test (is_open_at 0 content) found
   where
@@ -65,7 +65,7 @@ pub chosen_from : (image : Image DiskFile) (first second : Option Slot) → slot
 unfolding chosen_slot
 chosen_from image first second a b = ap (λ x. greater_of x (slot_in SlotB (image SlotB))) a ∙ ap (λ y. greater_of first y) b
 
-chosen_in : (image : Image DiskFile) (slot : Slot) → chosen_slot image ≡ Some slot → (slot_in SlotA (image SlotA) ≡ Some slot) ⊎ (slot_in SlotB (image SlotB) ≡ Some slot)
+pub chosen_in : (image : Image DiskFile) (slot : Slot) → chosen_slot image ≡ Some slot → (slot_in SlotA (image SlotA) ≡ Some slot) ⊎ (slot_in SlotB (image SlotB) ≡ Some slot)
 unfolding chosen_slot
 chosen_in image slot chosen = greater_in (slot_in SlotA (image SlotA)) (slot_in SlotB (image SlotB)) slot chosen
 
@@ -235,7 +235,7 @@ slot_in_length file content slot found = by_test (is_open_at 0 content) found
     by_test true e = sym (ap size_of e)
     by_test false e = cc
 
-chosen_length : (image : Image DiskFile) (slot : Slot) → chosen_slot image ≡ Some slot → slot.length ≡ length_at 0 (image slot.file)
+pub chosen_length : (image : Image DiskFile) (slot : Slot) → chosen_slot image ≡ Some slot → slot.length ≡ length_at 0 (image slot.file)
 chosen_length image slot chosen = elim (chosen_in image slot chosen) [
   | inl first ↦ slot_in_length SlotA (image SlotA) slot first ∙ sym (ap (λ file. length_at 0 (image file)) (slot_in_file SlotA (image SlotA) slot first))
   | inr second ↦ slot_in_length SlotB (image SlotB) slot second ∙ sym (ap (λ file. length_at 0 (image file)) (slot_in_file SlotB (image SlotB) slot second))
