@@ -1,0 +1,11 @@
+pub mod Completions
+pub mod Spelled
+pub mod Sound
+pub mod Running
+pub mod Complete
+pub mod Viable
+pub mod Wider
+pub mod Faults
+pub mod Places
+pub mod Steps
+pub mod Values
