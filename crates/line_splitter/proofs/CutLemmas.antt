@@ -1,24 +1,13 @@
 -- What holds of the cuts of any rule.
-use Rattle.std.proofs.Common.{◌≡◌, ℕ, zero, suc, ◌+◌, ◌<◌, ◌≤◌, ◌⊎◌, List, [], ◌∷◌, ◌++◌, length, drop, Option, None, Some, IfSome, refl, sym, ap, subst, ◌∙◌, inl, inr, arith, length-drop, sum_by}
+use Rattle.std.proofs.Common.{◌≡◌, ℕ, zero, suc, ◌+◌, ◌<◌, ◌≤◌, ◌⊎◌, List, [], ◌∷◌, ◌++◌, length, drop, Option, None, Some, IfSome, refl, sym, ap, subst, ◌∙◌, inl, inr, arith, length-drop}
 use Rattle.std.proofs.lemmas.List.{drop-drop, drop-append-le}
 use Rattle.std.proofs.lemmas.List.Sums.{sum_by-cons}
-use Rattle.line_splitter.specs.Cuts.{Cut, cuts_within, cuts}
-
--- The rule uses at least one of the bytes and at most all, and more bytes behind them don't change
--- its cut.
-pub record IsCutRule (first : List ℕ → Option Cut) : Type 0 where
-  pub some_used : (b : List ℕ) → IfSome (first b) (λ c. 1 ≤ c.used)
-  pub within : (b : List ℕ) → IfSome (first b) (λ c. c.used ≤ length b)
-  pub lasting : (b more : List ℕ) → IfSome (first b) (λ c. first (b ++ more) ≡ Some c)
+use Rattle.line_splitter.specs.Cuts.{Cut, cuts_within, cuts, used_by, IsCutRule}
 
 -- a value of an option is none or some
 pub option_tells : {A : Type 0} (o : Option A) → (o ≡ None) ⊎ ((x : A) × (o ≡ Some x))
 option_tells None = inl refl
 option_tells (Some x) = inr (x, refl)
-
--- how many bytes the cuts use
-abbrev pub used_by : List Cut → ℕ
-used_by cs = sum_by (λ (c : Cut). c.used) cs
 
 -- what a rule says of the cut that it gives
 pub rule_used : (first : List ℕ → Option Cut) → IsCutRule first → (b : List ℕ) (c : Cut) → first b ≡ Some c → 1 ≤ c.used

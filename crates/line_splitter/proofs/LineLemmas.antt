@@ -7,9 +7,9 @@ use Rattle.memchr.specs.Find.{is_byte, IsFirstByte}
 use Rattle.std.proofs.lemmas.Bool.Decides.{nat_tests}
 use Rattle.std.specs.Str.Lines.{strip_carriage_return}
 use Rattle.std.specs.List.{position_or_len}
-use Rattle.line_splitter.specs.Cuts.{Cut, cut}
+use Rattle.line_splitter.specs.Cuts.{Cut, cut, used_by, IsCutRule}
 use Rattle.line_splitter.specs.LineTokens.{is_line_feed, line_end, first_cut, line_cuts, tokens, used, HasNoToken, BeginsWith, KeepsTokens}
-use Rattle.line_splitter.proofs.CutLemmas.{IsCutRule, option_tells, used_by, cuts-none, cuts-some, used_by-cuts, cuts-append, rule_used, rule_within}
+use Rattle.line_splitter.proofs.CutLemmas.{option_tells, cuts-none, cuts-some, used_by-cuts, cuts-append, rule_used, rule_within}
 
 -- the first max + 1 bytes
 abbrev pub window : ℕ → List ℕ → List ℕ

@@ -9,6 +9,7 @@
 //! `preserve_leading_whitespaces`, `preserve_trailing_whitespaces`).
 #![tactic(auto)]
 
+pub mod laws;
 mod texts;
 mod tokens;
 
