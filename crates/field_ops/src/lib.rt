@@ -8,6 +8,7 @@
 
 mod fault;
 mod flattening;
+pub mod laws;
 mod retaining;
 mod single;
 #[cfg(test)]

@@ -13,3 +13,4 @@ pub mod Reaching
 pub mod Ordering
 pub mod Routes
 pub mod Checks
+pub mod Sorts

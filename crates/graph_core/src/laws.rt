@@ -1,6 +1,7 @@
 //! Laws of the definitions, for every built graph. The functions do nothing; their clauses are the laws.
 
-ghost use Rattle.std.specs.Prelude.{◌≡◌, ◌≤◌, ℕ, [], ◌++◌, List, Option, length};
+ghost use Rattle.std.specs.Prelude.{◌≡◌, ◌≤◌, ℕ, [], ◌++◌, Bool, List, map, Option, Some, length, slice_get};
+ghost use Rattle.graph_core.specs.Behavior.{Behavior, KeepsSort};
 ghost use Rattle.graph_core.specs.declared.Target.{Target};
 ghost use Rattle.graph_core.specs.Wiring.{wiring_of, edges_of};
 ghost use Rattle.graph_core.specs.Faults.{route_count};
@@ -67,6 +68,18 @@ pub fn determine_runs<O: Step>(graph: &Graph<O>)
         (from : List O.State) (requests : List (Target × Option O.Item)) (calls : List (Call O.Item))
         → IsRun network from (numbered 0 requests) calls
         → (to : Target) → calls_to to calls ≡ trace to (calls_for network from requests) }
+{
+    let _order = &graph.order;
+}
+
+/// What each operator's steps keep of its state, the states keep over any requests: where each operator begins with a state
+/// of its sort and has one of its sort behind each item, the states stay of the operators' sorts.
+pub fn keep_sorts<O: Step>(graph: &Graph<O>)
+    ensures { let network = network_of O.behavior graph.now in
+        (sort : O.State → Bool) (sorts : List Bool)
+        → ((node : ℕ) (wanted : Bool) (behavior : Behavior O.State O.Item) → slice_get sorts node ≡ Some wanted → slice_get network.behaviors node ≡ Some behavior → KeepsSort sort wanted behavior)
+        → (from : List O.State) → map sort from ≡ sorts
+        → (requests : List (Target × Option O.Item)) → map sort (states_after network from requests) ≡ sorts }
 {
     let _order = &graph.order;
 }

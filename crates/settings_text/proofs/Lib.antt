@@ -5,3 +5,4 @@ pub mod Lists
 pub mod Numbers
 pub mod Texts
 pub mod Limits
+pub mod FreeIds

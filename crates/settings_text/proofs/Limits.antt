@@ -1,21 +1,22 @@
 -- What settings say is within the limits.
 use Rattle.std.proofs.Common.{◌≡◌, ℕ, zero, suc, ◌+◌, ◌≤◌, List, [], ◌∷◌, length, Bool, true, false, Result, Ok, Err, Option, None, Some, ◌++◌, refl, sym, ap, subst, ◌∙◌, arith, rules}
 use Rattle.std.proofs.lemmas.Bool.{ltb-false, leb-true}
-use Rattle.std.specs.Prelude.{nat_lt, nat_le, ◌&&◌, if◌then◌else◌, codes, slice_get}
-use Rattle.entry_model.specs.Datum.{no_members}
-use Rattle.serde_json.specs.Data.{Data, Items, no_items, item, Num, unsigned, negative, float}
+use Rattle.std.specs.Prelude.{nat_lt, nat_le, ◌&&◌, if◌then◌else◌, codes, slice_get, max, pos, ◌^◌, decimal}
+use Rattle.entry_model.specs.Datum as datum
+use Rattle.serde_json.specs.Data.{Data, null, boolean, number, string, array, object, Items, no_items, item, Members, no_members, member, Num, unsigned, negative, float, depth, items_depth, members_depth}
 use Rattle.serde_json.specs.Events.{items_len}
-use Rattle.serde_json.specs.Find.{get, as_object, as_number, as_array}
+use Rattle.serde_json.specs.Find.{get, as_object, as_number, as_array, as_str}
 use Rattle.settings_text.specs.Grammar.{settings, settings_of, flags_of, json_of, top_keys, start_named}
-use Rattle.settings_text.specs.Kinds.{Kind, must, may, or_missing, or_default, given, known, name, text, whole, number_within, texts, some_texts, text_or_texts, fields, value, each}
-use Rattle.settings_text.specs.Limits.{KeepsLimits, route_count}
+use Rattle.settings_text.specs.Kinds.{Kind, must, may, or_missing, or_default, given, known, name, text, whole, number_within, texts, some_texts, text_or_texts, some_item_texts, fields, value, each}
+use Rattle.settings_text.specs.Limits.{KeepsLimits, OperatorKeepsLimits, KindKeepsLimits, KeepsRouteLimits, IsSomeIfWritten, nesting, items_nesting, members_nesting, route_count}
 use Rattle.settings_text.specs.Operators as op
 use Rattle.settings_text.specs.Operators.{DraftData, at_most_64, with_ids, draft, written_ids, front, type_named, on_error_named, keys_of, kind_of, route, routable}
 use Rattle.settings_text.specs.Outcome.{◌>>=◌, or_fault}
 use Rattle.settings_text.specs.Place.{item_place}
+use Rattle.settings_text.specs.ValueData.{value_data, items_data, members_data, number_data, has_fraction}
 use Rattle.settings_text.specs.SettingsData.{SettingsData, OperatorData, RouteData, KindData, noop, move, copy, add, remove, flatten, retain, filter, router}
 use Rattle.settings_text.specs.declared.fault.SettingsFault.{SettingsFault}
-use Rattle.settings_text.specs.declared.fault.SettingsFault.TheVariants.{NotJson, WrongKind, OutOfRange, TooLong}
+use Rattle.settings_text.specs.declared.fault.SettingsFault.TheVariants.{NotJson, WrongKind, OutOfRange, Fraction, TooLong}
 use Rattle.settings_text.specs.declared.operators.OpType.{OpType}
 use Rattle.settings_text.specs.declared.operators.OpType.TheVariants.{Noop, Move, Copy, Add, Remove, Flatten, Retain, Filter, Router}
 use Rattle.settings_text.specs.declared.settings.OnError.TheVariants.{Send}
@@ -92,13 +93,83 @@ unfolding with_ids
 ids_as_many taken [] = refl
 ids_as_many taken (d ∷ ds) = ap suc (ids_as_many (taken ++ op.id_of taken d ∷ []) ds)
 
--- an operator does what its draft does
-ids_keep_kinds : (P : KindData → Type 0) (taken : List (List ℕ)) (drafts : List DraftData) → ((i : ℕ) (d : DraftData) → slice_get drafts i ≡ Some d → P d.kind)
-    → (i : ℕ) (o : OperatorData) → slice_get (with_ids taken drafts) i ≡ Some o → P o.kind
+-- what is had by whatever is settled of a draft, each operator has
+ids_keep : (P : OperatorData → Type 0) (Q : DraftData → Type 0) → ((taken : List (List ℕ)) (d : DraftData) → Q d → P (op.settled taken d))
+    → (taken : List (List ℕ)) (drafts : List DraftData) → ((i : ℕ) (d : DraftData) → slice_get drafts i ≡ Some d → Q d)
+    → (i : ℕ) (o : OperatorData) → slice_get (with_ids taken drafts) i ≡ Some o → P o
 unfolding with_ids
-ids_keep_kinds P taken [] so i o at = absurd (not_there o at)
-ids_keep_kinds P taken (d ∷ ds) so i o at =
-    in_front (λ o. P o.kind) (op.settled taken d) _ (so zero d refl) (ids_keep_kinds P (taken ++ op.id_of taken d ∷ []) ds (λ j. so (suc j))) i o at
+ids_keep P Q settle taken [] so i o at = absurd (not_there o at)
+ids_keep P Q settle taken (d ∷ ds) so i o at =
+    in_front P (op.settled taken d) _ (settle taken d (so zero d refl)) (ids_keep P Q settle (taken ++ op.id_of taken d ∷ []) ds (λ j. so (suc j))) i o at
+
+-- ---- lists that have a member
+
+some_items : (place : List ℕ) (items : Items) (all : List (List ℕ)) → some_item_texts place items ≡ Ok all → 1 ≤ length all
+some_items place no_items all e = absurd (no_value _ all e)
+some_items place (item d ds) all e = omega (arith, as_many (λ n. text (item_place place n)) 0 (item d ds) all e)
+
+some_listed : (place : List ℕ) (d : Data) (all : List (List ℕ)) → some_texts place d ≡ Ok all → 1 ≤ length all
+some_listed place d all e =
+    let items = binds (or_fault (WrongKind place) (as_array d)) (some_item_texts place) all e in
+    some_items place items.0 all items.2
+
+some_or_one : (place : List ℕ) (d : Data) (all : List (List ℕ)) → text_or_texts place d ≡ Ok all → 1 ≤ length all
+some_or_one place d all e = by (as_str d) e
+  where
+    by : (one : Option (List ℕ)) → (elim one as (λ _. Result (List (List ℕ)) SettingsFault) [ Some one ↦ Ok (one ∷ []) | None ↦ some_texts place d ]) ≡ Ok all → 1 ≤ length all
+    by (Some word) is =
+        let one : 1 ≤ length (word ∷ []) = omega arith in
+        subst (λ l. 1 ≤ length l) (same_value (word ∷ []) all is) one
+    by None is = some_listed place d all is
+
+some_given : (place : List ℕ) (d : Data) (written : Option (List (List ℕ))) → given text_or_texts place d ≡ Ok written → IsSomeIfWritten written
+some_given place d written e ids is =
+    let read = binds (text_or_texts place d) _ written e in
+    let same : read.0 ≡ ids = same_there read.0 ids (same_value (Some read.0) written read.2 ∙ is) in
+    subst (λ l. 1 ≤ length l) same (some_or_one place d read.0 read.1)
+
+some_written : (at key : List ℕ) (d : Data) (written : Option (List (List ℕ))) → may at key (given text_or_texts) None d ≡ Ok written → IsSomeIfWritten written
+some_written at key d written e = from_kind IsSomeIfWritten None (given text_or_texts) (at ++ key) (get key d) written (λ ids is. absurd (not_there ids is)) (some_given (at ++ key)) e
+
+-- ---- how deep values nest
+
+number_nests : (n : Num) → nesting (number_data n) ≡ 0
+number_nests (unsigned n) = by (nat_lt n (2 ^ 63))
+  where
+    by : (b : Bool) → nesting (if b then datum.int (pos n) else datum.text (decimal n)) ≡ 0
+    by true = refl
+    by false = refl
+number_nests (negative z) = refl
+number_nests (float x) = refl
+
+mutual
+  nests : (d : Data) → nesting (value_data d) ≡ depth d
+  nests null = refl
+  nests (boolean b) = refl
+  nests (number n) = number_nests n
+  nests (string s) = refl
+  nests (array ds) = ap suc (items_nest ds)
+  nests (object ms) = ap suc (members_nest ms)
+
+  items_nest : (ds : Items) → items_nesting (items_data ds) ≡ items_depth ds
+  items_nest no_items = refl
+  items_nest (item d ds) = ap (λ n. max n (items_nesting (items_data ds))) (nests d) ∙ ap (max (depth d)) (items_nest ds)
+
+  members_nest : (ms : Members) → members_nesting (members_data ms) ≡ members_depth ms
+  members_nest no_members = refl
+  members_nest (member key d ms) = ap (λ n. max n (members_nesting (members_data ms))) (nests d) ∙ ap (max (depth d)) (members_nest ms)
+
+value_nests : (place : List ℕ) (d : Data) (read : datum.Datum) → value place d ≡ Ok read → nesting read ≤ 64
+value_nests place d read e = by (has_fraction d) (nat_lt 64 (depth d)) refl e
+  where
+    by : (fraction deep : Bool) → nat_lt 64 (depth d) ≡ deep → (if fraction then Err (Fraction place) else (if deep then Err (OutOfRange place) else Ok (value_data d))) ≡ Ok read → nesting read ≤ 64
+    by true deep known is = absurd (no_value _ read is)
+    by false true known is = absurd (no_value _ read is)
+    by false false known is =
+        let few : nesting (value_data d) ≤ 64 = omega (arith, ltb-false 64 (depth d) known, nests d) in
+        subst (λ v. nesting v ≤ 64) (same_value (value_data d) read is) few
+
+-- ---- routes
 
 routes_within : (place : List ℕ) (items all : Items) → routable place items ≡ Ok all → (all ≡ items) × (items_len items ≤ 65534)
 routes_within place no_items all e = absurd (no_value _ all e)
@@ -115,45 +186,80 @@ few_routes place d routes e =
     let few_items = routes_within place all.0 some.0 some.1 in
     omega (arith, as_many (route place) 0 some.0 routes some.2, ap items_len few_items.0, few_items.1)
 
--- a kind that has no routes
-no_routes : (made kind : KindData) → route_count made ≡ 0 → ◌≡◌ {A = Result KindData SettingsFault} (Ok made) (Ok kind) → route_count kind ≤ 65534
-no_routes made kind none e =
-    let few : route_count made ≤ 65534 = omega arith in
-    subst (λ k. route_count k ≤ 65534) (same_value made kind e) few
+some_routes : (place : List ℕ) (d : Data) (routes : List RouteData) → op.routes place d ≡ Ok routes → 1 ≤ length routes
+some_routes place d routes e =
+    let all = binds (or_fault (WrongKind place) (as_array d)) _ routes e in
+    let some = binds (routable place all.0) _ routes all.2 in
+    by all.0 some.0 some.1 some.2
+  where
+    by : (items few_items : Items) → routable place items ≡ Ok few_items → each (route place) 0 few_items ≡ Ok routes → 1 ≤ length routes
+    by no_items few_items is read = absurd (no_value _ few_items is)
+    by (item d ds) few_items is read = omega (arith, as_many (route place) 0 few_items routes read, ap items_len (routes_within place (item d ds) few_items is).0)
 
-kind_keeps : (op_type : OpType) (at : List ℕ) (d : Data) (kind : KindData) → kind_of op_type at d ≡ Ok kind → route_count kind ≤ 65534
-kind_keeps Noop at d kind e = no_routes noop kind refl e
+route_output : (place : List ℕ) (n : ℕ) (d : Data) (made : RouteData) → route place n d ≡ Ok made → 1 ≤ length made.output
+unfolding route
+route_output place n d made e =
+    let members = binds (or_fault (WrongKind (item_place place n)) (as_object d)) _ made e in
+    let all_known = binds (known op.route_keys (item_place place n ++ codes ".") members.0) _ made members.2 in
+    let expr = binds (must (item_place place n ++ codes ".") (codes "expr") text d) _ made all_known.2 in
+    let output = binds (must (item_place place n ++ codes ".") (codes "output") text_or_texts d) _ made expr.2 in
+    let some : 1 ≤ length output.0 = from_must (λ l. 1 ≤ length l) text_or_texts (item_place place n ++ codes "." ++ codes "output") (get (codes "output") d) output.0 (some_or_one (item_place place n ++ codes "." ++ codes "output")) output.1 in
+    subst (λ (r : RouteData). 1 ≤ length r.output) (same_value _ made output.2) some
+
+routes_output : (place : List ℕ) (d : Data) (routes : List RouteData) → op.routes place d ≡ Ok routes → (i : ℕ) (made : RouteData) → slice_get routes i ≡ Some made → 1 ≤ length made.output
+routes_output place d routes e =
+    let all = binds (or_fault (WrongKind place) (as_array d)) _ routes e in
+    let some = binds (routable place all.0) _ routes all.2 in
+    each_has (λ (r : RouteData). 1 ≤ length r.output) (route place) (route_output place) 0 some.0 routes some.2
+
+-- ---- what a type says
+
+kept : (made kind : KindData) → KindKeepsLimits made → ◌≡◌ {A = Result KindData SettingsFault} (Ok made) (Ok kind) → KindKeepsLimits kind
+kept made kind keeps e = subst KindKeepsLimits (same_value made kind e) keeps
+
+kind_keeps : (op_type : OpType) (at : List ℕ) (d : Data) (kind : KindData) → kind_of op_type at d ≡ Ok kind → KindKeepsLimits kind
+kind_keeps Noop at d kind e = kept noop kind tt e
 kind_keeps Move at d kind e =
     let from = binds (must at (codes "from") text d) _ kind e in
     let to = binds (must at (codes "to") text d) _ kind from.2 in
-    no_routes (move from.0 to.0) kind refl to.2
+    kept (move from.0 to.0) kind tt to.2
 kind_keeps Copy at d kind e =
     let from = binds (must at (codes "from") text d) _ kind e in
     let to = binds (must at (codes "to") text d) _ kind from.2 in
-    no_routes (copy from.0 to.0) kind refl to.2
+    kept (copy from.0 to.0) kind tt to.2
 kind_keeps Add at d kind e =
     let field = binds (must at (codes "field") text d) _ kind e in
     let added = binds (must at (codes "value") value d) _ kind field.2 in
-    no_routes (add field.0 added.0) kind refl added.2
+    kept (add field.0 added.0) kind (from_must (λ v. nesting v ≤ 64) value (at ++ codes "value") (get (codes "value") d) added.0 (value_nests (at ++ codes "value")) added.1) added.2
 kind_keeps Remove at d kind e =
     let field = binds (must at (codes "field") text d) _ kind e in
-    no_routes (remove field.0) kind refl field.2
+    kept (remove field.0) kind tt field.2
 kind_keeps Flatten at d kind e =
     let field = binds (must at (codes "field") text d) _ kind e in
-    no_routes (flatten field.0) kind refl field.2
+    kept (flatten field.0) kind tt field.2
 kind_keeps Retain at d kind e =
     let fields = binds (must at (codes "fields") some_texts d) _ kind e in
-    no_routes (retain fields.0) kind refl fields.2
+    kept (retain fields.0) kind (from_must (λ l. 1 ≤ length l) some_texts (at ++ codes "fields") (get (codes "fields") d) fields.0 (some_listed (at ++ codes "fields")) fields.1) fields.2
 kind_keeps Filter at d kind e =
     let expr = binds (must at (codes "expr") text d) _ kind e in
-    no_routes (filter expr.0) kind refl expr.2
+    kept (filter expr.0) kind tt expr.2
 kind_keeps Router at d kind e =
+    let place = at ++ codes "routes" in
     let routes = binds (must at (codes "routes") op.routes d) _ kind e in
     let default = binds (may at (codes "default") (given text_or_texts) None d) _ kind routes.2 in
-    let few = from_must (λ l. length l ≤ 65534) op.routes (at ++ codes "routes") (get (codes "routes") d) routes.0 (few_routes (at ++ codes "routes")) routes.1 in
-    subst (λ k. route_count k ≤ 65534) (same_value (router routes.0 default.0) kind default.2) few
+    kept (router routes.0 default.0) kind
+    (record {
+      some = from_must (λ l. 1 ≤ length l) op.routes place (get (codes "routes") d) routes.0 (some_routes place) routes.1;
+      few = from_must (λ l. length l ≤ 65534) op.routes place (get (codes "routes") d) routes.0 (few_routes place) routes.1;
+      outputs = from_must (λ l. (i : ℕ) (made : RouteData) → slice_get l i ≡ Some made → 1 ≤ length made.output) op.routes place (get (codes "routes") d) routes.0 (routes_output place) routes.1;
+      default_output = some_written at (codes "default") d default.0 default.1;
+    }) default.2
 
-draft_keeps : (n : ℕ) (d : Data) (made : DraftData) → draft n d ≡ Ok made → route_count made.kind ≤ 65534
+record DraftKeeps (made : DraftData) : Type 0 where
+  output : IsSomeIfWritten made.output
+  kind : KindKeepsLimits made.kind
+
+draft_keeps : (n : ℕ) (d : Data) (made : DraftData) → draft n d ≡ Ok made → DraftKeeps made
 unfolding draft
 draft_keeps n d made e =
     let members = binds (or_fault (WrongKind (item_place (codes "operators") n)) (as_object d)) _ made e in
@@ -164,7 +270,7 @@ draft_keeps n d made e =
     let condition = binds (may (front n) (codes "if") (given text) None d) _ made output.2 in
     let on_error = binds (may (front n) (codes "on_error") (name on_error_named) Send d) _ made condition.2 in
     let kind = binds (kind_of op_type.0 (front n) d) _ made on_error.2 in
-    subst (λ made. route_count made.kind ≤ 65534) (same_value _ made kind.2) (kind_keeps op_type.0 (front n) d kind.0 kind.1)
+    subst DraftKeeps (same_value _ made kind.2) (record { output = some_written (front n) (codes "output") d output.0 output.1; kind = kind_keeps op_type.0 (front n) d kind.0 kind.1 })
 
 few : (place : List ℕ) (items all : Items) → at_most_64 place items ≡ Ok all → (all ≡ items) × (items_len items ≤ 64)
 few place items all e = by (nat_lt 64 (items_len items)) refl e
@@ -182,17 +288,31 @@ few_operators place d operators e =
     let few_items = few place all.0 some.0 some.1 in
     omega (arith, ap length (sym same), ids_as_many (written_ids drafts.0) drafts.0, as_many draft 0 some.0 drafts.0 drafts.1, ap items_len few_items.0, few_items.1)
 
-abbrev FewRoutes : List OperatorData → Type 0
-FewRoutes operators = (i : ℕ) (o : OperatorData) → slice_get operators i ≡ Some o → route_count o.kind ≤ 65534
+abbrev AllKeep : List OperatorData → Type 0
+AllKeep operators = (i : ℕ) (o : OperatorData) → slice_get operators i ≡ Some o → OperatorKeepsLimits o
 
-operators_keep : (place : List ℕ) (d : Data) (operators : List OperatorData) → op.operators place d ≡ Ok operators → FewRoutes operators
+operators_keep : (place : List ℕ) (d : Data) (operators : List OperatorData) → op.operators place d ≡ Ok operators → AllKeep operators
 operators_keep place d operators e i o at =
     let all = binds (or_fault (WrongKind place) (as_array d)) _ operators e in
     let some = binds (at_most_64 place all.0) _ operators all.2 in
     let drafts = binds (each draft 0 some.0) _ operators some.2 in
     let same : with_ids (written_ids drafts.0) drafts.0 ≡ operators = same_value _ operators drafts.2 in
-    ids_keep_kinds (λ k. route_count k ≤ 65534) (written_ids drafts.0) drafts.0 (each_has (λ made. route_count made.kind ≤ 65534) draft draft_keeps 0 some.0 drafts.0 drafts.1) i o
+    ids_keep OperatorKeepsLimits DraftKeeps (λ taken d keeps. record { output = keeps.output; kind = keeps.kind }) (written_ids drafts.0) drafts.0 (each_has DraftKeeps draft draft_keeps 0 some.0 drafts.0 drafts.1) i o
     (subst (λ l. slice_get l i ≡ Some o) (sym same) at)
+
+few_of : (kind : KindData) → KindKeepsLimits kind → route_count kind ≤ 65534
+few_of noop keeps = omega arith
+few_of (move from to) keeps = omega arith
+few_of (copy from to) keeps = omega arith
+few_of (add field added) keeps = omega arith
+few_of (remove field) keeps = omega arith
+few_of (flatten field) keeps = omega arith
+few_of (retain listed) keeps = omega arith
+few_of (filter expr) keeps = omega arith
+few_of (router routes default) keeps = keeps.few
+
+default_front : (16 ≤ 1000) × (1000 ≤ 4096)
+default_front = (omega arith, omega arith)
 
 default_size : (64 ≤ 1048576) × (1048576 ≤ 4194304)
 default_size = (omega arith, omega arith)
@@ -200,11 +320,16 @@ default_size = (omega arith, omega arith)
 no_operators : length {A = OperatorData} [] ≤ 64
 no_operators = omega arith
 
--- what two of the keys say
-two_keys : (d : Data) (said : SettingsData) → settings_of d ≡ Ok said
-    → (may [] (codes "max_log_size") (whole 64 4194304) 1048576 d ≡ Ok said.max_log_size) × (may [] (codes "operators") op.operators [] d ≡ Ok said.operators)
+-- what four of the keys say
+record KeysSay (d : Data) (said : SettingsData) : Type 0 where
+  include : must [] (codes "include") some_texts d ≡ Ok said.include
+  front : may [] (codes "fingerprint_size") (whole 16 4096) 1000 d ≡ Ok said.fingerprint_size
+  max : may [] (codes "max_log_size") (whole 64 4194304) 1048576 d ≡ Ok said.max_log_size
+  operators : may [] (codes "operators") op.operators [] d ≡ Ok said.operators
+
+keys_say : (d : Data) (said : SettingsData) → settings_of d ≡ Ok said → KeysSay d said
 unfolding settings_of
-two_keys d said e =
+keys_say d said e =
     let members = binds (or_fault NotJson (as_object d)) _ said e in
     let all_known = binds (known top_keys [] members.0) _ said members.2 in
     let include = binds (must [] (codes "include") some_texts d) _ said all_known.2 in
@@ -213,21 +338,26 @@ two_keys d said e =
     let fingerprint = binds (may [] (codes "fingerprint_size") (whole 16 4096) 1000 d) _ said start_at.2 in
     let max = binds (may [] (codes "max_log_size") (whole 64 4194304) 1048576 d) _ said fingerprint.2 in
     let flags = binds (flags_of d) _ said max.2 in
-    let attributes = binds (may [] (codes "attributes") fields no_members d) _ said flags.2 in
-    let resource = binds (may [] (codes "resource") fields no_members d) _ said attributes.2 in
+    let attributes = binds (may [] (codes "attributes") fields datum.no_members d) _ said flags.2 in
+    let resource = binds (may [] (codes "resource") fields datum.no_members d) _ said attributes.2 in
     let operators = binds (may [] (codes "operators") op.operators [] d) _ said resource.2 in
-    let same = same_value _ said operators.2 in
-    (max.1 ∙ ap (λ (s : SettingsData). Ok s.max_log_size) same, operators.1 ∙ ap (λ (s : SettingsData). Ok s.operators) same)
+    subst (KeysSay d) (same_value _ said operators.2) (record { include = include.1; front = fingerprint.1; max = max.1; operators = operators.1 })
 
 settings_of_keep : (d : Data) (said : SettingsData) → settings_of d ≡ Ok said → KeepsLimits said
 settings_of_keep d said e =
-    let keys = two_keys d said e in
-    let size = from_kind (λ n. (64 ≤ n) × (n ≤ 4194304)) 1048576 (whole 64 4194304) (codes "max_log_size") (get (codes "max_log_size") d) said.max_log_size default_size (whole_within 64 4194304 (codes "max_log_size")) keys.0 in
+    let keys = keys_say d said e in
+    let size = from_kind (λ n. (64 ≤ n) × (n ≤ 4194304)) 1048576 (whole 64 4194304) (codes "max_log_size") (get (codes "max_log_size") d) said.max_log_size default_size (whole_within 64 4194304 (codes "max_log_size")) keys.max in
+    let front = from_kind (λ n. (16 ≤ n) × (n ≤ 4096)) 1000 (whole 16 4096) (codes "fingerprint_size") (get (codes "fingerprint_size") d) said.fingerprint_size default_front (whole_within 16 4096 (codes "fingerprint_size")) keys.front in
+    let all = from_kind AllKeep [] op.operators (codes "operators") (get (codes "operators") d) said.operators (λ i o at. absurd (not_there o at)) (operators_keep (codes "operators")) keys.operators in
     record {
+      some_include = from_must (λ l. 1 ≤ length l) some_texts (codes "include") (get (codes "include") d) said.include (some_listed (codes "include")) keys.include;
+      fingerprint_size_from = front.0;
+      fingerprint_size_to = front.1;
       max_log_size_from = size.0;
       max_log_size_to = size.1;
-      few_operators = from_kind (λ all. length all ≤ 64) [] op.operators (codes "operators") (get (codes "operators") d) said.operators no_operators (few_operators (codes "operators")) keys.1;
-      few_routes = from_kind FewRoutes [] op.operators (codes "operators") (get (codes "operators") d) said.operators (λ i o at. absurd (not_there o at)) (operators_keep (codes "operators")) keys.1;
+      few_operators = from_kind (λ all. length all ≤ 64) [] op.operators (codes "operators") (get (codes "operators") d) said.operators no_operators (few_operators (codes "operators")) keys.operators;
+      few_routes = λ i o at. few_of o.kind (all i o at).kind;
+      operators = all;
     }
 
 pub settings_keep : (bytes : List ℕ) (said : SettingsData) → settings bytes ≡ Ok said → KeepsLimits said
