@@ -1,1 +1,3 @@
-pub mod Reading
+pub mod Readings
+pub mod Compiled
+pub mod Applying

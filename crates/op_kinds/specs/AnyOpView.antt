@@ -1,43 +1,43 @@
 -- What an operator in memory is.
-use Rattle.std.specs.Prelude.{map, option_map, Result, Ok, Err, alloc_error}
+use Rattle.std.specs.Prelude.{List, [], ◌∷◌, map, Option, None, Some, option_map, Result, Ok, Err, alloc_error}
 use Rattle.std.specs.declared.alloc.AllocError.{AllocError}
 use Rattle.entry_model.specs.Datum.{datum}
 use Rattle.entry_model.specs.LogRecord.{LogRecord}
 use Rattle.field_ops.specs.declared.fault.FieldFault.{FieldFault}
 use Rattle.field_ops.specs.declared.fault.FieldFault.TheVariants.{Missing, NotAMap, Memory}
 use Rattle.expr_lang.specs.TreeOf.{tree_of}
-use Rattle.op_kinds.specs.Operator as made
+use Rattle.op_kinds.specs.Operator as op
 use Rattle.op_kinds.specs.Operator.{Act, Operator}
 use Rattle.op_kinds.specs.declared.action.Action.{Action}
 use Rattle.op_kinds.specs.declared.action.Action.TheVariants.{Noop, Move, Copy, Add, Remove, Flatten, Retain, Filter}
-use Rattle.op_kinds.specs.declared.action.Made.{Made}
-use Rattle.op_kinds.specs.declared.action.Made.TheVariants.{Sent, Dropped, Error}
+use Rattle.op_kinds.specs.declared.action.Fate.{Fate}
+use Rattle.op_kinds.specs.declared.action.Fate.TheVariants.{Sent, Dropped, Faulty}
 use Rattle.op_kinds.specs.declared.any_op.Form.{Form}
 use Rattle.op_kinds.specs.declared.any_op.Form.TheVariants.{Conditional, Router}
 
 abbrev pub act_of : Action → Act
-act_of Noop = made.noop
-act_of (Move op) = made.move op.from op.to
-act_of (Copy op) = made.copy op.from op.to
-act_of (Add op) = made.add op.field (datum op.value)
-act_of (Remove op) = made.remove op.field
-act_of (Flatten op) = made.flatten op.parent op.name
-act_of (Retain op) = made.retain op.fields.items
-act_of (Filter expr) = made.filter (tree_of expr)
+act_of Noop = op.noop
+act_of (Move made) = op.move made.from made.to
+act_of (Copy made) = op.copy made.from made.to
+act_of (Add made) = op.add made.field (datum made.value)
+act_of (Remove made) = op.remove made.field
+act_of (Flatten made) = op.flatten made.parent made.name
+act_of (Retain made) = op.retain made.fields.items
+act_of (Filter expr) = op.filter (tree_of expr)
 
 abbrev pub form_of : Form → Operator
-form_of (Conditional op) = made.conditional (option_map tree_of op.condition) (act_of op.action) op.drops_faulty
-form_of (Router op) = made.router (map tree_of op.routes.items) op.has_default
+form_of (Conditional made) = op.conditional (option_map tree_of made.condition) (act_of made.action) made.drops_faulty
+form_of (Router made) = op.router (map tree_of made.routes.items) made.has_default
 
--- what became of an entry, which may have been changed
-abbrev pub made_of : Made → LogRecord → made.Made
-made_of Sent entry = made.sent entry
-made_of Dropped entry = made.dropped
-made_of Error entry = made.error
+-- the entries that an entry, which may have been changed, gives by its fate
+abbrev pub entries_by : Fate → LogRecord → Option (List LogRecord)
+entries_by Sent entry = Some (entry ∷ [])
+entries_by Dropped entry = Some []
+entries_by Faulty entry = None
 
--- what becomes of an entry that a field operator was applied to
-abbrev pub made_from : Result (Unit {0}) FieldFault → Result Made AllocError
-made_from (Ok _) = Ok Sent
-made_from (Err Missing) = Ok Error
-made_from (Err NotAMap) = Ok Error
-made_from (Err Memory) = Err alloc_error
+-- the fate of an entry that a field operator was applied to
+abbrev pub fate_from : Result (Unit {0}) FieldFault → Result Fate AllocError
+fate_from (Ok _) = Ok Sent
+fate_from (Err Missing) = Ok Faulty
+fate_from (Err NotAMap) = Ok Faulty
+fate_from (Err Memory) = Err alloc_error

@@ -1,7 +1,6 @@
 -- Which operator the settings of one ask for.
-use Rattle.std.specs.Prelude.{◌≡◌, ◌⊎◌, ⊤, ℕ, List, [], ◌∷◌, Bool, true, false, Option, None, Some, is_some}
+use Rattle.std.specs.Prelude.{◌≡◌, ⊤, ℕ, List, [], ◌∷◌, Bool, true, false, Option, None, Some, is_some}
 use Rattle.expr_lang.specs.Grammar.{IsExpression}
-use Rattle.expr_lang.specs.Outcome.{IsNoExpression}
 use Rattle.expr_lang.specs.Tree.{Tree}
 use Rattle.field_ops.specs.Rows.{member_of}
 use Rattle.field_paths.specs.PathText.{IsPathText}
@@ -64,48 +63,4 @@ Routes _ trees has_default = ⊥
 
 abbrev pub IsCompiledTo : OperatorData → Operator → Type 0
 IsCompiledTo spec (conditional condition act drops) = IsCondition spec.condition condition × Does spec.kind act × (drops ≡ drops_faulty spec.kind spec.on_error)
-IsCompiledTo spec (router trees has_default) = Routes spec.kind trees has_default
-
--- ---- why there is none
-
-abbrev pub IsNoPath : List ℕ → Type 0
-IsNoPath text = (place : Place) → IsPathText text place → ⊥
-
--- the text is no path, or one without members, of which there is nothing to flatten
-abbrev pub IsNoMember : List ℕ → Type 0
-IsNoMember text = (parent : Place) (name : List ℕ) → IsPathText text (member_of parent name) → ⊥
-
-abbrev pub IsSomeNoPath : List (List ℕ) → Type 0
-IsSomeNoPath [] = ⊥
-IsSomeNoPath (text ∷ texts) = IsNoPath text ⊎ IsSomeNoPath texts
-
--- some path of the operator can't be read
-abbrev pub HasFaultyPath : KindData → Type 0
-HasFaultyPath kind.noop = ⊥
-HasFaultyPath (kind.move from to) = IsNoPath from ⊎ IsNoPath to
-HasFaultyPath (kind.copy from to) = IsNoPath from ⊎ IsNoPath to
-HasFaultyPath (kind.add field value) = IsNoPath field
-HasFaultyPath (kind.remove field) = IsNoPath field
-HasFaultyPath (kind.flatten field) = IsNoMember field
-HasFaultyPath (kind.retain fields) = IsSomeNoPath fields
-HasFaultyPath (kind.filter expr) = ⊥
-HasFaultyPath (kind.router routes default) = ⊥
-
-abbrev pub IsFaultyCondition : Option (List ℕ) → Type 0
-IsFaultyCondition None = ⊥
-IsFaultyCondition (Some text) = IsNoExpression text
-
-abbrev pub IsSomeNoExpression : List RouteData → Type 0
-IsSomeNoExpression [] = ⊥
-IsSomeNoExpression (route ∷ routes) = IsNoExpression route.expr ⊎ IsSomeNoExpression routes
-
--- some expression among an operator's own keys can't be read
-abbrev pub HasFaultyOwnExpr : KindData → Type 0
-HasFaultyOwnExpr (kind.filter expr) = IsNoExpression expr
-HasFaultyOwnExpr (kind.router routes default) = IsSomeNoExpression routes
-HasFaultyOwnExpr _ = ⊥
-
--- every path of the operator can be read, and some expression can't: one of its own, or its condition
-pub record HasOnlyFaultyExpr (spec : OperatorData) : Type 0 where
-  pub paths : HasFaultyPath spec.kind → ⊥
-  pub expr : HasFaultyOwnExpr spec.kind ⊎ IsFaultyCondition spec.condition
+IsCompiledTo spec (router trees has_default) = (condition : Option Tree) × IsCondition spec.condition condition × Routes spec.kind trees has_default

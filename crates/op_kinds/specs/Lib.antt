@@ -1,9 +1,13 @@
+pub mod Kept
+pub mod StateView
 pub mod Operator
-pub mod Compiled
-pub mod AnyOpView
-pub mod WorkView
-pub mod Causes
 pub mod Ports
+pub mod AnyOpView
+pub mod Applied
+pub mod WorkView
 pub mod PlaceCode
 pub mod TreeCode
 pub mod Code
+pub mod Compiled
+pub mod Causes
+pub mod Readings

@@ -1,5 +1,5 @@
 -- What an operator is, and what it makes of an entry.
-use Rattle.std.specs.Prelude.{ℕ, suc, ◌+◌, List, [], ◌∷◌, length, Bool, true, false, if◌then◌else◌, Option, None, Some, unwrap_or, Result, Ok, Err}
+use Rattle.std.specs.Prelude.{ℕ, suc, ◌+◌, List, [], ◌∷◌, length, map, Bool, true, false, if◌then◌else◌, Option, None, Some, option_map, unwrap_or, Result, Ok, Err}
 use Rattle.entry_model.specs.Datum.{Datum}
 use Rattle.entry_model.specs.LogRecord.{LogRecord}
 use Rattle.expr_lang.specs.EvalOutcome.{answers}
@@ -10,8 +10,7 @@ use Rattle.field_ops.specs.Outcome.{Outcome}
 use Rattle.field_ops.specs.Rows as rows
 use Rattle.field_paths.specs.Place.{Place}
 use Rattle.graph_core.specs.Behavior.{Behavior}
-use Rattle.op_kinds.specs.declared.state.OpState.{OpState}
-use Rattle.op_kinds.specs.declared.state.OpState.TheVariants.{Stateless}
+use Rattle.op_kinds.specs.Kept.{Kept, fresh_kept}
 
 -- what an operator with one output does with an entry
 pub data Act : Type 0 where
@@ -48,48 +47,65 @@ truth_of (Err at) = None
 abbrev pub holds : Tree → LogRecord → Option Bool
 holds expr entry = truth_of (answers expr entry)
 
+-- ---- rows: the entries that an act without groups makes of one; none where it can't be done
+
+-- a row says that there is a fault, and not which
+abbrev pub changed : Outcome → Option (List LogRecord)
+changed (Ok entry) = Some (entry ∷ [])
+changed (Err _) = None
+
+abbrev pub filtered : Option Bool → LogRecord → Option (List LogRecord)
+filtered (Some true) entry = Some []
+filtered (Some false) entry = Some (entry ∷ [])
+filtered None entry = None
+
+abbrev pub row : Act → LogRecord → Option (List LogRecord)
+row noop entry = Some (entry ∷ [])
+row (move from to) entry = changed (rows.moved from to entry)
+row (copy from to) entry = changed (rows.copied from to entry)
+row (add field value) entry = changed (rows.added field value entry)
+row (remove field) entry = changed (rows.removed field entry)
+row (flatten parent name) entry = changed (rows.flattened parent name entry)
+row (retain fields) entry = Some (rows.retained fields entry ∷ [])
+row (filter expr) entry = filtered (holds expr entry) entry
+
 -- ---- operators with one output
 
--- what becomes of an entry
-pub data Made : Type 0 where
-  sent : LogRecord → Made
-  dropped : Made
-  error : Made
+-- what is kept from then on, and the entries that are sent on
+pub record Made : Type 0 where
+  pub kept : Kept
+  pub sent : List LogRecord
 
-abbrev pub changed : Outcome → Made
-changed (Ok entry) = sent entry
-changed (Err _) = error
+-- whether an act holds groups
+abbrev pub holds_groups : Act → Bool
+holds_groups act = false
 
-abbrev pub filtered : Option Bool → LogRecord → Made
-filtered (Some true) entry = dropped
-filtered (Some false) entry = sent entry
-filtered None entry = error
+-- what an act makes of an entry; none where it can't be done
+abbrev pub done : Act → Kept → LogRecord → Option Made
+done act kept entry = option_map (λ sent. record { kept = kept; sent = sent }) (row act entry)
 
-abbrev pub done : Act → LogRecord → Made
-done noop entry = sent entry
-done (move from to) entry = changed (rows.moved from to entry)
-done (copy from to) entry = changed (rows.copied from to entry)
-done (add field value) entry = changed (rows.added field value entry)
-done (remove field) entry = changed (rows.removed field entry)
-done (flatten parent name) entry = changed (rows.flattened parent name entry)
-done (retain fields) entry = sent (rows.retained fields entry)
-done (filter expr) entry = filtered (holds expr entry) entry
+-- what it sends on at the end of a run
+abbrev pub closing : Act → Kept → List LogRecord
+closing act kept = []
 
 -- an entry for which the condition isn't true goes on unchanged
-abbrev pub guarded : Option Bool → LogRecord → Made → Made
-guarded (Some true) entry made = made
-guarded (Some false) entry made = sent entry
-guarded None entry made = error
+abbrev pub guarded : Option Bool → Kept → LogRecord → Option Made → Option Made
+guarded (Some true) kept entry made = made
+guarded (Some false) kept entry made = Some (record { kept = kept; sent = entry ∷ [] })
+guarded None kept entry made = None
 
-abbrev pub made : Option Tree → Act → LogRecord → Made
-made None act entry = done act entry
-made (Some condition) act entry = guarded (holds condition entry) entry (done act entry)
+abbrev pub made : Option Tree → Act → Kept → LogRecord → Option Made
+made None act kept entry = done act kept entry
+made (Some condition) act kept entry = guarded (holds condition entry) kept entry (done act kept entry)
 
--- on an error the entry is dropped, or sent on unchanged
-abbrev pub sent_on : Bool → LogRecord → Made → List (ℕ × LogRecord)
-sent_on drops_faulty entry (sent changed) = (0, changed) ∷ []
-sent_on drops_faulty entry dropped = []
-sent_on drops_faulty entry error = if drops_faulty then [] else (0, entry) ∷ []
+-- on an error the entry is dropped, or sent on unchanged, and what was kept is kept
+abbrev pub or_unchanged : Bool → Kept → LogRecord → Option Made → Made
+or_unchanged drops_faulty kept entry (Some made) = made
+or_unchanged drops_faulty kept entry None = record { kept = kept; sent = if drops_faulty then [] else entry ∷ [] }
+
+-- entries on the one output
+abbrev pub on_one_port : List LogRecord → List (ℕ × LogRecord)
+on_one_port entries = map {B = ℕ × LogRecord} (λ entry. (0, entry)) entries
 
 -- ---- routers
 
@@ -108,15 +124,29 @@ routed (Some port) entry = (port, entry) ∷ []
 
 -- ---- any operator
 
--- what is emitted, each with its port
-abbrev pub emitted : Operator → LogRecord → List (ℕ × LogRecord)
-emitted (conditional condition act drops_faulty) entry = sent_on drops_faulty entry (made condition act entry)
-emitted (router routes has_default) entry = routed (route_port 0 routes has_default entry) entry
+abbrev pub has_groups : Operator → Bool
+has_groups (conditional condition act drops_faulty) = holds_groups act
+has_groups (router routes has_default) = false
 
-abbrev pub behavior_of : Operator → Behavior OpState LogRecord
+-- what an operator keeps behind an entry
+abbrev pub after : Operator → Kept → LogRecord → Kept
+after (conditional condition act drops_faulty) kept entry = (or_unchanged drops_faulty kept entry (made condition act kept entry)).kept
+after (router routes has_default) kept entry = kept
+
+-- what is emitted, each with its port
+abbrev pub emitted : Operator → Kept → LogRecord → List (ℕ × LogRecord)
+emitted (conditional condition act drops_faulty) kept entry = on_one_port (or_unchanged drops_faulty kept entry (made condition act kept entry)).sent
+emitted (router routes has_default) kept entry = routed (route_port 0 routes has_default entry) entry
+
+-- what is emitted at the end of a run
+abbrev pub closed : Operator → Kept → List (ℕ × LogRecord)
+closed (conditional condition act drops_faulty) kept = on_one_port (closing act kept)
+closed (router routes has_default) kept = []
+
+abbrev pub behavior_of : Operator → Behavior Kept LogRecord
 behavior_of operator = record {
-  first = Stateless;
-  after = λ state entry. state;
-  emitted = λ state entry. emitted operator entry;
-  closed = λ state. [];
+  first = fresh_kept (has_groups operator);
+  after = after operator;
+  emitted = emitted operator;
+  closed = closed operator;
 }

@@ -5,14 +5,12 @@ use Rattle.std.specs.List.{All}
 use Rattle.std.specs.Prelude.{Bool, true, false, if◌then◌else◌, Some}
 use Rattle.entry_model.specs.LogRecord.{LogRecord}
 use Rattle.expr_lang.specs.Tree.{Tree}
-use Rattle.op_kinds.specs.Operator.{Operator, conditional, router, Made, sent, dropped, error, sent_on, made, is_true, route_port, routed, emitted, port_count, behavior_of}
-use Rattle.op_kinds.specs.declared.state.OpState.{OpState}
+use Rattle.op_kinds.specs.Kept.{Kept}
+use Rattle.op_kinds.specs.Operator.{Operator, conditional, router, or_unchanged, on_one_port, made, closing, is_true, route_port, routed, emitted, port_count, behavior_of}
 
-sends_on_port_0 : (drops : Bool) (entry : LogRecord) (what : Made) → All (λ e. e.0 < 1) (sent_on drops entry what)
-sends_on_port_0 drops entry (sent changed) = Prim.search (rules, common_steps)
-sends_on_port_0 drops entry dropped = Prim.search (rules, common_steps)
-sends_on_port_0 true entry error = Prim.search (rules, common_steps)
-sends_on_port_0 false entry error = Prim.search (rules, common_steps)
+on_port_0 : (entries : List LogRecord) → All (λ e. e.0 < 1) (on_one_port entries)
+on_port_0 [] = Prim.search (rules, common_steps)
+on_port_0 (entry ∷ entries) = let others = on_port_0 entries in Prim.search (rules, common_steps, others)
 
 -- how many ports there are from the n-th on
 abbrev bound : ℕ → List Tree → Bool → ℕ
@@ -34,11 +32,12 @@ routes_within n [] true entry = one_port n (bound n [] true) entry (Prim.omega a
 routes_within n [] false entry = Prim.search (rules, common_steps)
 routes_within n (route ∷ routes) has_default entry = one_route n route routes has_default entry (is_true route entry) (routes_within (suc n) routes has_default entry)
 
-pub emits_in_ports : (op : Operator) (state : OpState) (item : LogRecord) → All (λ e. e.0 < port_count op) ((behavior_of op).emitted state item)
-emits_in_ports (conditional condition act drops_faulty) state item = sends_on_port_0 drops_faulty item (made condition act item)
+pub emits_in_ports : (op : Operator) (state : Kept) (item : LogRecord) → All (λ e. e.0 < port_count op) ((behavior_of op).emitted state item)
+emits_in_ports (conditional condition act drops_faulty) state item = on_port_0 (or_unchanged drops_faulty state item (made condition act state item)).sent
 emits_in_ports (router routes has_default) state item =
     let same : bound 0 routes has_default ≡ port_count (router routes has_default) = Prim.omega arith in
-    subst (λ limit. All (λ e. e.0 < limit) (emitted (router routes has_default) item)) same (routes_within 0 routes has_default item)
+    subst (λ limit. All (λ e. e.0 < limit) (emitted (router routes has_default) state item)) same (routes_within 0 routes has_default item)
 
-pub closes_in_ports : (op : Operator) (state : OpState) → All (λ e. e.0 < port_count op) ((behavior_of op).closed state)
-closes_in_ports op state = Prim.search (rules, common_steps)
+pub closes_in_ports : (op : Operator) (state : Kept) → All (λ e. e.0 < port_count op) ((behavior_of op).closed state)
+closes_in_ports (conditional condition act drops_faulty) state = on_port_0 (closing act state)
+closes_in_ports (router routes has_default) state = Prim.search (rules, common_steps)

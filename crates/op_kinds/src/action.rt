@@ -1,12 +1,13 @@
 // What operators with one output do with an entry.
 ghost use Rattle.std.specs.Prelude.{◌≡◌, IfOk};
 ghost use Rattle.entry_model.specs.LogRecord.{log_record};
-ghost use Rattle.expr_lang.specs.TreeOf.{tree_of};
-ghost use Rattle.op_kinds.specs.AnyOpView.{act_of, made_of, made_from};
+ghost use Rattle.op_kinds.specs.AnyOpView.{act_of, entries_by, fate_from};
+ghost use Rattle.op_kinds.specs.Applied.{IsApplied, effect};
 ghost use Rattle.op_kinds.specs.Operator as operator;
-ghost use Rattle.op_kinds.specs.Operator.{done, filtered};
+ghost use Rattle.op_kinds.specs.Operator.{done, row};
 
-use crate::condition::holds;
+use crate::types::filtering;
+use crate::{OpState, Record};
 use entry_model::Entry;
 use expr_lang::Expr;
 use field_ops::{Add, Copy, FieldFault, Flatten, Move, Remove, Retain};
@@ -26,50 +27,78 @@ pub(crate) enum Action {
     Filter(Expr),
 }
 
-/// What becomes of an entry.
+/// What becomes of an entry that is changed in place.
 #[derive(Clone, Copy, PartialEq, Eq)]
-pub(crate) enum Made {
+pub(crate) enum Fate {
     Sent,
     Dropped,
     /// It can't be done. The entry is unchanged.
-    Error,
+    Faulty,
+}
+
+/// What an action came to.
+#[derive(Drop)]
+pub(crate) enum Applied {
+    /// What comes of the entry was put out.
+    Done,
+    /// It can't be done: here is the entry, unchanged, and so is what the operator keeps.
+    Faulty(Record),
 }
 
 impl Action {
-    /// Does it, and changes the entry in place.
-    pub(crate) fn apply(&self, alloc: Global, entry: &mut Entry) -> Result<Made, AllocError>
-        ensures made { IfOk result (λ made. made_of made (log_record entry.new) ≡ done (act_of self.now) (log_record entry.old)) }
-        ensures kept { IfOk result (λ made. made ≡ Made.Error → log_record entry.new ≡ log_record entry.old) }
+    /// Whether it holds entries back in groups.
+    pub(crate) fn holds_groups(&self) -> bool
+        ensures { result ≡ operator.holds_groups (act_of self.now) }
+    {
+        false
+    }
+
+    /// Does it: puts out what comes of the entry on the one port, and changes what is kept.
+    pub(crate) fn apply(
+        &self,
+        alloc: Global,
+        state: &mut OpState,
+        item: Record,
+        out: &mut Vec<(u16, Record)>,
+    ) -> Result<Applied, AllocError>
+        ensures { IfOk result (IsApplied (done (act_of self.now) state.old item) item (effect state.old state.new out.old.items out.new.items)) }
+    {
+        let _kept = state;
+        let mut item = item;
+        match self.change(alloc, &mut item.entry)? {
+            Fate::Sent => {
+                out.push((0, item))?;
+                Ok(Applied::Done)
+            }
+            Fate::Dropped => Ok(Applied::Done),
+            Fate::Faulty => Ok(Applied::Faulty(item)),
+        }
+    }
+
+    // The row of a type without groups, which changes the entry in place.
+    fn change(&self, alloc: Global, entry: &mut Entry) -> Result<Fate, AllocError>
+        ensures made { IfOk result (λ fate. entries_by fate (log_record entry.new) ≡ row (act_of self.now) (log_record entry.old)) }
+        ensures kept { IfOk result (λ fate. fate ≡ Fate.Faulty → log_record entry.new ≡ log_record entry.old) }
     {
         match self {
-            Action::Noop => Ok(Made::Sent),
+            Action::Noop => Ok(Fate::Sent),
             Action::Move(op) => after(op.apply(alloc, entry)),
             Action::Copy(op) => after(op.apply(alloc, entry)),
             Action::Add(op) => after(op.apply(alloc, entry)),
             Action::Remove(op) => after(op.apply(alloc, entry)),
             Action::Flatten(op) => after(op.apply(alloc, entry)),
             Action::Retain(op) => after(op.apply(alloc, entry)),
-            Action::Filter(expr) => filtered(alloc, expr, entry),
+            Action::Filter(expr) => filtering::apply(alloc, expr, entry),
         }
     }
 }
 
-fn after(applied: Result<(), FieldFault>) -> Result<Made, AllocError>
-    ensures { result ≡ made_from applied }
+fn after(applied: Result<(), FieldFault>) -> Result<Fate, AllocError>
+    ensures { result ≡ fate_from applied }
 {
     match applied {
-        Ok(()) => Ok(Made::Sent),
+        Ok(()) => Ok(Fate::Sent),
         Err(FieldFault::Memory) => Err(AllocError),
-        Err(FieldFault::Missing | FieldFault::NotAMap) => Ok(Made::Error),
+        Err(FieldFault::Missing | FieldFault::NotAMap) => Ok(Fate::Faulty),
     }
-}
-
-fn filtered(alloc: Global, expr: &Expr, entry: &Entry) -> Result<Made, AllocError>
-    ensures { IfOk result (λ made. made_of made (log_record entry.now) ≡ filtered (operator.holds (tree_of expr.now) (log_record entry.now)) (log_record entry.now)) }
-{
-    Ok(match holds(alloc, expr, entry)? {
-        Some(true) => Made::Dropped,
-        Some(false) => Made::Sent,
-        None => Made::Error,
-    })
 }

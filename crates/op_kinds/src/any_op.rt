@@ -1,4 +1,8 @@
 // An operator of any type.
+ghost use Rattle.std.specs.Prelude.{◌≡◌};
+ghost use Rattle.op_kinds.specs.Kept.{fresh_kept};
+ghost use Rattle.op_kinds.specs.Operator.{has_groups};
+
 use crate::conditional::Conditional;
 use crate::router::Router;
 use crate::{OpState, Record};
@@ -31,6 +35,25 @@ impl Model for AnyOp {
     ghost view = { λ op. form_of op.form };
 }
 
+impl AnyOp {
+    /// Whether it holds entries back in groups.
+    pub fn has_groups(&self) -> bool
+        ensures { result ≡ has_groups self.now }
+    {
+        match &self.form {
+            Form::Conditional(op) => op.action.holds_groups(),
+            Form::Router(_router) => false,
+        }
+    }
+}
+
+/// What the operator keeps before the first entry: no open groups, or nothing.
+pub fn fresh_state(alloc: Global, op: &AnyOp) -> OpState
+    ensures { result ≡ fresh_kept (has_groups op.now) }
+{
+    OpState::fresh(alloc, op.has_groups())
+}
+
 impl Step for AnyOp {
     ghost use Rattle.op_kinds.specs.Operator.{behavior_of, port_count};
     ghost use Rattle.op_kinds.specs.Ports.{emits_in_ports, closes_in_ports};
@@ -55,8 +78,8 @@ impl Step for AnyOp {
         }
     }
 
-    fn start(&self, _alloc: Global) -> Result<OpState, AllocError> {
-        Ok(OpState::Stateless)
+    fn start(&self, alloc: Global) -> Result<OpState, AllocError> {
+        Ok(fresh_state(alloc, self))
     }
 
     fn copy(&self, alloc: Global, item: &Record) -> Result<Record, AllocError> {
@@ -68,22 +91,23 @@ impl Step for AnyOp {
     fn step(
         &self,
         alloc: Global,
-        _state: &mut OpState,
+        state: &mut OpState,
         item: Record,
         out: &mut Vec<(u16, Record)>,
     ) -> Result<(), AllocError> {
         match &self.form {
-            Form::Conditional(op) => op.emit(alloc, item, out),
+            Form::Conditional(op) => op.emit(alloc, state, item, out),
             Form::Router(router) => router.emit(alloc, item, out),
         }
     }
 
     fn close(
         &self,
-        _alloc: Global,
-        _state: &mut OpState,
+        alloc: Global,
+        state: &mut OpState,
         _out: &mut Vec<(u16, Record)>,
     ) -> Result<(), AllocError> {
+        *state = fresh_state(alloc, self);
         Ok(())
     }
 }

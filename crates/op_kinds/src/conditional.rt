@@ -1,14 +1,14 @@
 // Operators with one output.
 ghost use Rattle.std.specs.Prelude.{◌≡◌, ◌++◌, IfOk, OnOk, option_map};
-ghost use Rattle.entry_model.specs.LogRecord.{log_record};
 ghost use Rattle.expr_lang.specs.TreeOf.{tree_of};
-ghost use Rattle.op_kinds.specs.AnyOpView.{act_of, made_of};
+ghost use Rattle.op_kinds.specs.AnyOpView.{act_of};
+ghost use Rattle.op_kinds.specs.Applied.{IsApplied, effect};
 ghost use Rattle.op_kinds.specs.Operator as operator;
+ghost use Rattle.op_kinds.specs.Operator.{on_one_port, or_unchanged};
 
-use crate::Record;
-use crate::action::{Action, Made};
+use crate::action::{Action, Applied};
 use crate::condition::holds;
-use entry_model::Entry;
+use crate::{OpState, Record};
 use expr_lang::Expr;
 use std::alloc::{AllocError, Global};
 
@@ -21,37 +21,50 @@ pub(crate) struct Conditional {
 }
 
 impl Conditional {
-    /// Emits what it makes of an entry.
+    /// Emits what it makes of an entry. Where it can't be done, the entry is sent on unchanged or dropped.
     pub(crate) fn emit(
         &self,
         alloc: Global,
+        state: &mut OpState,
         item: Record,
         out: &mut Vec<(u16, Record)>,
     ) -> Result<(), AllocError>
-        ensures { OnOk result (out.new.items ≡ out.old.items ++ operator.sent_on self.now.drops_faulty item
-            (operator.made (option_map tree_of self.now.condition) (act_of self.now.action) item)) }
+        ensures state { OnOk result (state.new ≡ (or_unchanged self.now.drops_faulty state.old item
+            (operator.made (option_map tree_of self.now.condition) (act_of self.now.action) state.old item)).kept) }
+        ensures emits { OnOk result (out.new.items ≡ out.old.items ++ on_one_port (or_unchanged self.now.drops_faulty state.old item
+            (operator.made (option_map tree_of self.now.condition) (act_of self.now.action) state.old item)).sent) }
     {
-        let mut item = item;
-        match self.apply(alloc, &mut item.entry)? {
-            Made::Error if self.drops_faulty => {}
-            Made::Sent | Made::Error => out.push((0, item))?,
-            Made::Dropped => {}
+        match self.apply(alloc, state, item, out)? {
+            Applied::Done => Ok(()),
+            Applied::Faulty(item) => {
+                if !self.drops_faulty {
+                    out.push((0, item))?;
+                }
+                Ok(())
+            }
         }
-        Ok(())
     }
 
-    fn apply(&self, alloc: Global, entry: &mut Entry) -> Result<Made, AllocError>
-        ensures made { IfOk result (λ made. made_of made (log_record entry.new)
-            ≡ operator.made (option_map tree_of self.now.condition) (act_of self.now.action) (log_record entry.old)) }
-        ensures kept { IfOk result (λ made. made ≡ Made.Error → log_record entry.new ≡ log_record entry.old) }
+    fn apply(
+        &self,
+        alloc: Global,
+        state: &mut OpState,
+        item: Record,
+        out: &mut Vec<(u16, Record)>,
+    ) -> Result<Applied, AllocError>
+        ensures { IfOk result (IsApplied (operator.made (option_map tree_of self.now.condition) (act_of self.now.action) state.old item)
+            item (effect state.old state.new out.old.items out.new.items)) }
     {
         let Some(condition) = &self.condition else {
-            return self.action.apply(alloc, entry);
+            return self.action.apply(alloc, state, item, out);
         };
-        match holds(alloc, condition, entry)? {
-            Some(true) => self.action.apply(alloc, entry),
-            Some(false) => Ok(Made::Sent),
-            None => Ok(Made::Error),
+        match holds(alloc, condition, item.entry())? {
+            Some(true) => self.action.apply(alloc, state, item, out),
+            Some(false) => {
+                out.push((0, item))?;
+                Ok(Applied::Done)
+            }
+            None => Ok(Applied::Faulty(item)),
         }
     }
 }

@@ -1,24 +1,33 @@
 //! The types of operators that settings can name, each a [`graph_core::Step`] over log records.
 //!
 //! The contract for the layer above: [`compile`] makes the operator that the settings of one ask for, as `specs/Compiled`
-//! says, or tells that a field path or an expression in them can't be read. What an [`AnyOp`] makes of a record is
-//! `emitted` of `specs/Operator`. An operator with one output does what the row of its type says, with its condition and
-//! `on_error` around it: where the condition isn't true, or where it can't be done, the record is unchanged, and is sent
-//! on or dropped. A router sends the record to the port of the first route that is true.
+//! says, or tells the least cause for which a text in them can't be read, as `specs/Readings` says. What an [`AnyOp`]
+//! makes of a record is `behavior_of` of `specs/Operator`, a function of what it keeps and the record: what it keeps from
+//! then on, and a list of records, each with its port. An operator with one output does what the row of its type says, with
+//! its condition and `on_error` around it: where the condition isn't true, or where it can't be done, the record is
+//! unchanged, and is sent on or dropped, and what is kept stays. A router sends the record to the port of the first route
+//! that is true. [`laws`] has what the definitions imply.
 #![tactic(auto)]
 
 mod action;
 mod any_op;
+mod cause;
 mod compiling;
 mod condition;
 mod conditional;
+mod group;
+pub mod laws;
+mod reading;
 mod record;
 mod router;
 mod state;
 #[cfg(test)]
 mod tests;
+mod types;
 
-pub use any_op::AnyOp;
-pub use compiling::{OpCause, compile};
+pub use any_op::{AnyOp, fresh_state};
+pub use cause::OpCause;
+pub use compiling::compile;
+pub use group::Group;
 pub use record::Record;
-pub use state::OpState;
+pub use state::{OpState, is_fresh};

@@ -1,10 +1,16 @@
 // Routers.
-ghost use Rattle.std.specs.Prelude.{◌≤◌, length};
+ghost use Rattle.std.specs.Prelude.{◌≡◌, ◌≤◌, length, map, IfOk, IfErr};
+ghost use Rattle.expr_lang.specs.TreeOf.{tree_of};
+ghost use Rattle.op_kinds.specs.Compiled.{AreExpressions};
+ghost use Rattle.op_kinds.specs.Readings.{Caused, route_reading};
+ghost use Rattle.settings_text.specs.SettingsData.{route_data};
 
-use crate::Record;
 use crate::condition::holds;
+use crate::reading::expression;
+use crate::{OpCause, Record};
 use entry_model::Entry;
 use expr_lang::Expr;
+use settings_text::RouteSpec;
 use std::alloc::{AllocError, Global};
 
 /// Sends an entry to the port of the first route that is true for it, or else to the one behind those of the routes,
@@ -17,10 +23,30 @@ pub(crate) struct Router {
 }
 
 impl Router {
-    ghost use Rattle.std.specs.Prelude.{◌≡◌, ◌++◌, ◌+◌, ◌≤◌, IfOk, OnOk, map, if◌then◌else◌, length};
+    ghost use Rattle.std.specs.Prelude.{◌≡◌, ◌++◌, ◌+◌, ◌≤◌, IfOk, IfErr, OnOk, map, if◌then◌else◌, length};
     ghost use Rattle.entry_model.specs.LogRecord.{log_record};
     ghost use Rattle.expr_lang.specs.TreeOf.{tree_of};
+    ghost use Rattle.op_kinds.specs.Compiled.{AreExpressions};
     ghost use Rattle.op_kinds.specs.Operator as operator;
+    ghost use Rattle.op_kinds.specs.Readings.{Caused, route_reading};
+    ghost use Rattle.settings_text.specs.SettingsData.{route_data};
+
+    pub(crate) fn compile(
+        alloc: Global,
+        routes: &[RouteSpec],
+        has_default: bool,
+    ) -> Result<Router, OpCause>
+        requires { length routes.now ≤ 65534 }
+        ensures ok { IfOk result (λ router. AreExpressions (map route_data routes.now) (map tree_of router.routes.items)) }
+        ensures default { IfOk result (λ router. router.has_default ≡ has_default) }
+        ensures cause { IfErr result (Caused (map route_reading (map route_data routes.now))) }
+    {
+        let routes = expressions(alloc, routes)?;
+        Ok(Router {
+            routes,
+            has_default,
+        })
+    }
 
     pub(crate) fn ports(&self) -> u16
         ensures { result ≡ length self.now.routes.items + (if self.now.has_default then 1 else 0) }
@@ -60,4 +86,16 @@ impl Router {
             Ok(None)
         }
     }
+}
+
+fn expressions(alloc: Global, routes: &[RouteSpec]) -> Result<Vec<Expr>, OpCause>
+    ensures ok { IfOk result (λ exprs. AreExpressions (map route_data routes.now) (map tree_of exprs.items)) }
+    ensures many { IfOk result (λ exprs. length exprs.items ≡ length routes.now) }
+    ensures cause { IfErr result (Caused (map route_reading (map route_data routes.now))) }
+{
+    let mut exprs = Vec::new(alloc);
+    for route in routes {
+        exprs.push(expression(alloc, &route.expr)?)?;
+    }
+    Ok(exprs)
 }

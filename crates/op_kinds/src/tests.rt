@@ -3,7 +3,7 @@ ghost use Rattle.std.specs.Prelude.{◌≤◌, IsTrue};
 ghost use Rattle.settings_text.specs.Limits.{route_count};
 ghost use Rattle.settings_text.specs.SettingsData.{kind_data};
 
-use crate::{AnyOp, OpCause, OpState, Record, compile};
+use crate::{AnyOp, OpCause, Record, compile, is_fresh};
 use entry_model::{Entry, Text};
 use graph_core::Step;
 use settings_text::{OnError, OpKind, OpSpec, RouteSpec};
@@ -94,7 +94,7 @@ fn sent(alloc: Global, op: &AnyOp) -> Result<(Vec<u16>, bool), Fail> {
     }
     out.clear();
     op.close(alloc, &mut state, &mut out)?;
-    if state != OpState::Stateless || !out.is_empty() {
+    if !is_fresh(&state) || state.keeps_groups() || !out.is_empty() {
         return Ok((Vec::new(alloc), false));
     }
     Ok((ports, same))

@@ -1,0 +1,215 @@
+-- Texts that can't be read, and the least cause.
+use Rattle.std.proofs.Common.{◌≡◌, ◌≢◌, ℕ, zero, suc, ◌<◌, ◌≤◌, ◌⊎◌, List, [], ◌∷◌, ◌++◌, inl, inr, length, length-append, map, arith, refl, sym, ap, subst, ◌∙◌}
+use Rattle.std.specs.Prelude.{slice_index_or, Option, None, Some}
+use Rattle.expr_lang.specs.Outcome.{IsReadFault as IsExprFault}
+use Rattle.expr_lang.specs.declared.read.ExprReadFault.{ExprReadFault}
+use Rattle.expr_lang.specs.declared.read.ExprReadFault.TheVariants as expr
+use Rattle.field_ops.specs.Rows.{member_of}
+use Rattle.field_paths.proofs.Faults.{one_path}
+use Rattle.field_paths.specs.PathText.{IsPathText}
+use Rattle.field_paths.specs.Place.{Place}
+use Rattle.field_paths.specs.ReadFault.{IsReadFault}
+use Rattle.field_paths.specs.declared.path.PathFault.{PathFault}
+use Rattle.field_paths.specs.declared.path.PathFault.TheVariants.{NotAPath, Memory}
+use Rattle.graph_core.specs.Wiring.{Has}
+use Rattle.op_kinds.specs.Causes.{of_path_fault, of_read_fault}
+use Rattle.op_kinds.specs.Readings.{Reading, path, member, expression, IsFaulty, route_reading, condition_readings, cause_of, number, IsLeastCause, Caused, AreRead}
+use Rattle.op_kinds.specs.declared.cause.OpCause.{OpCause}
+use Rattle.op_kinds.specs.declared.cause.OpCause.TheVariants as cause
+use Rattle.settings_text.specs.SettingsData.{route_data}
+use Rattle.settings_text.specs.declared.settings.RouteSpec.{RouteSpec}
+
+-- ---- members of lists
+
+pub has-front : {X : Type 0} (xs ys : List X) (x : X) → Has xs x → Has (xs ++ ys) x
+has-front [] ys x has = absurd has
+has-front (y ∷ xs) ys x (inl is) = inl is
+has-front (y ∷ xs) ys x (inr has) = inr (has-front xs ys x has)
+
+pub has-back : {X : Type 0} (xs ys : List X) (x : X) → Has ys x → Has (xs ++ ys) x
+has-back [] ys x has = has
+has-back (y ∷ xs) ys x has = inr (has-back xs ys x has)
+
+pub has-either : {X : Type 0} (xs ys : List X) (x : X) → Has (xs ++ ys) x → Has xs x ⊎ Has ys x
+has-either [] ys x has = inr has
+has-either (y ∷ xs) ys x (inl is) = inl (inl is)
+has-either (y ∷ xs) ys x (inr has) = elim (has-either xs ys x has) [ inl front ↦ inl (inr front) | inr back ↦ inr back ]
+
+pub has-map : {X Y : Type 0} (f : X → Y) (xs : List X) (y : Y) → Has (map f xs) y → (x : X) × (y ≡ f x) × Has xs x
+has-map f [] y has = absurd has
+has-map f (x ∷ xs) y (inl is) = (x, is, inl refl)
+has-map f (x ∷ xs) y (inr has) = let found = has-map f xs y has in (found.0, found.1, inr found.2)
+
+pub has-at : {X Y : Type 0} (f : X → Y) (xs : List X) (index : ℕ) (x : X) → index < length xs → slice_index_or xs index x ≡ x → Has (map f xs) (f x)
+has-at f [] index x within at = absurd (omega (arith, within))
+has-at f (y ∷ xs) zero x within at = inl (ap f (sym at))
+has-at f (y ∷ xs) (suc index) x within at = inr (has-at f xs index x (omega (arith, within)) at)
+
+-- ---- causes
+
+not_memory : (reading : Reading) → cause_of reading ≢ cause.Memory
+not_memory (path text) is = cc is
+not_memory (member text) is = cc is
+not_memory (expression text) is = cc is
+
+same_number : (one other : OpCause) → number one ≡ number other → one ≡ other
+same_number cause.Path cause.Path is = refl
+same_number cause.Path cause.Expr is = absurd (omega (arith, is))
+same_number cause.Path cause.Memory is = absurd (omega (arith, is))
+same_number cause.Expr cause.Path is = absurd (omega (arith, is))
+same_number cause.Expr cause.Expr is = refl
+same_number cause.Expr cause.Memory is = absurd (omega (arith, is))
+same_number cause.Memory cause.Path is = absurd (omega (arith, is))
+same_number cause.Memory cause.Expr is = absurd (omega (arith, is))
+same_number cause.Memory cause.Memory is = refl
+
+ordered : (n m : ℕ) → (n < m) ⊎ ((n ≡ m) ⊎ (m < n))
+ordered zero zero = inr (inl refl)
+ordered zero (suc m) = inl (omega arith)
+ordered (suc n) zero = inr (inr (omega arith))
+ordered (suc n) (suc m) = elim (ordered n m) [
+  | inl less ↦ inl (omega (arith, less))
+  | inr other ↦ elim other [ inl same ↦ inr (inl (ap suc same)) | inr more ↦ inr (inr (omega (arith, more))) ]
+]
+
+-- a cause that isn't less than that of something faulty
+not_above : (all : List Reading) (found other : OpCause) → IsLeastCause all found → IsLeastCause all other → number found < number other → ⊥
+not_above all found other one also less =
+    also.least one.reading one.among (subst (λ c. number c < number other) (sym one.is) less) one.faulty
+
+pub one_cause : (all : List Reading) (found other : OpCause) → IsLeastCause all found → IsLeastCause all other → found ≡ other
+one_cause all found other one also = elim (ordered (number found) (number other)) [
+  | inl less ↦ absurd (not_above all found other one also less)
+  | inr not_less ↦ elim not_less [
+    | inl same ↦ same_number found other same
+    | inr more ↦ absurd (not_above all other found also one more)
+  ]
+]
+
+-- a reading alone
+of_one : (reading : Reading) (found : OpCause) → cause_of reading ≡ found → IsFaulty reading → IsLeastCause (reading ∷ []) found
+of_one reading found is faulty = record {
+  reading = reading;
+  among = inl refl;
+  is = is;
+  faulty = faulty;
+  least = λ other has less. elim has [
+    | inl same ↦ λ _. omega (arith, less, ap (λ r. number (cause_of r)) same, ap number is)
+    | inr none ↦ absurd none
+  ];
+}
+
+pub no_path_of : (text : List ℕ) (fault : PathFault) → IsReadFault text fault → Caused (path text ∷ []) (of_path_fault fault)
+no_path_of text (NotAPath at) given = λ _. of_one (path text) cause.Path refl given.no_path
+no_path_of text Memory given = λ some. absurd (some refl)
+
+pub no_expression_of : (text : List ℕ) (fault : ExprReadFault) → IsExprFault text fault → Caused (expression text ∷ []) (of_read_fault fault)
+no_expression_of text (expr.Syntax at) given = λ _. of_one (expression text) cause.Expr refl given.0
+no_expression_of text (expr.Pattern at) given = λ _. of_one (expression text) cause.Expr refl given.0
+no_expression_of text expr.Memory given = λ some. absurd (some refl)
+
+-- one of several that have no lesser causes
+pub caused_among : (reading : Reading) (all : List Reading) (found : OpCause) → Has all reading → ((other : Reading) → Has all other → number (cause_of reading) ≤ number (cause_of other))
+    → Caused (reading ∷ []) found → Caused all found
+caused_among reading all found has no_less given some =
+    let alone = given some in
+    elim alone.among [
+      | inl same ↦ record {
+        reading = reading;
+        among = has;
+        is = ap cause_of (sym same) ∙ alone.is;
+        faulty = subst IsFaulty same alone.faulty;
+        least = λ other among less faulty. omega (arith, less, no_less other among, ap (λ r. number (cause_of r)) same, ap number alone.is);
+      }
+      | inr none ↦ absurd none
+    ]
+
+-- the front alone, where nothing behind it has a lesser cause
+pub caused_in_front : (front back : List Reading) (found : OpCause) → ((other : Reading) → Has back other → number found ≤ number (cause_of other)) → Caused front found → Caused (front ++ back) found
+caused_in_front front back found no_less given some =
+    let alone = given some in
+    record {
+      reading = alone.reading;
+      among = has-front front back alone.reading alone.among;
+      is = alone.is;
+      faulty = alone.faulty;
+      least = λ other has less faulty. elim (has-either front back other has) [
+        | inl in_front ↦ alone.least other in_front less faulty
+        | inr behind ↦ omega (arith, less, no_less other behind)
+      ];
+    }
+
+-- what stands behind others that can be read
+pub caused_behind : (front back : List Reading) (found : OpCause) → AreRead front → Caused back found → Caused (front ++ back) found
+caused_behind front back found read given some =
+    let alone = given some in
+    record {
+      reading = alone.reading;
+      among = has-back front back alone.reading alone.among;
+      is = alone.is;
+      faulty = alone.faulty;
+      least = λ other has less faulty. elim (has-either front back other has) [
+        | inl in_front ↦ read other in_front faulty
+        | inr behind ↦ alone.least other behind less faulty
+      ];
+    }
+
+-- paths have the least cause
+paths_first : (text : List ℕ) (all : List Reading) (other : Reading) → Has all other → number (cause_of (path text)) ≤ number (cause_of other)
+paths_first text all (path other) has = omega arith
+paths_first text all (member other) has = omega arith
+paths_first text all (expression other) has = omega arith
+
+pub first_path : (from to : List ℕ) (found : OpCause) → Caused (path from ∷ []) found → Caused (path from ∷ path to ∷ []) found
+first_path from to found given = caused_among (path from) (path from ∷ path to ∷ []) found (inl refl) (paths_first from (path from ∷ path to ∷ [])) given
+
+pub second_path : (from to : List ℕ) (found : OpCause) → Caused (path to ∷ []) found → Caused (path from ∷ path to ∷ []) found
+second_path from to found given = caused_among (path to) (path from ∷ path to ∷ []) found (inr (inl refl)) (paths_first to (path from ∷ path to ∷ [])) given
+
+pub path_at : (texts : List (List ℕ)) (index : ℕ) (text : List ℕ) (found : OpCause) → index < length texts → slice_index_or texts index text ≡ text → Caused (path text ∷ []) found → Caused (map path texts) found
+path_at texts index text found within at given = caused_among (path text) (map path texts) found (has-at path texts index text within at) (paths_first text (map path texts)) given
+
+pub expression_at : (routes : List RouteSpec) (index : ℕ) (route : RouteSpec) (found : OpCause) → index < length routes → slice_index_or routes index route ≡ route
+    → Caused (expression route.expr ∷ []) found → Caused (map route_reading (map route_data routes)) found
+expression_at routes index route found within at given =
+    caused_among (expression route.expr) (map route_reading (map route_data routes)) found (has-route routes index within at)
+    (λ other has. let is = has-map route_reading (map route_data routes) other has in omega (arith, ap (λ r. number (cause_of r)) is.1)) given
+  where
+    has-route : (routes : List RouteSpec) (index : ℕ) → index < length routes → slice_index_or routes index route ≡ route → Has (map route_reading (map route_data routes)) (expression route.expr)
+    has-route [] index within at = absurd (omega (arith, within))
+    has-route (r ∷ routes) zero within at = inl (ap (λ (r : RouteSpec). expression r.expr) (sym at))
+    has-route (r ∷ routes) (suc index) within at = inr (has-route routes index (omega (arith, within)) at)
+
+-- a path that can't be read has no member
+pub no_member_of : (text : List ℕ) (found : OpCause) → Caused (path text ∷ []) found → Caused (member text ∷ []) found
+no_member_of text found given some =
+    let alone = given some in
+    elim alone.among [
+      | inl same ↦ of_one (member text) found (ap cause_of (sym same) ∙ alone.is) (λ parent name. subst IsFaulty same alone.faulty (member_of parent name))
+      | inr none ↦ absurd none
+    ]
+
+not_empty : {A : Type 0} (xs : List A) (x : A) → [] ≡ xs ++ x ∷ [] → ⊥
+not_empty xs x is = omega (arith, ap length is, length-append xs (x ∷ []))
+
+-- a root isn't the place of a member
+pub no_member_at_a_root : (text : List ℕ) (place : Place) → IsPathText text place → place.names ≡ [] → Caused (member text ∷ []) cause.Path
+no_member_at_a_root text place is root some =
+    of_one (member text) cause.Path refl (λ parent name other. not_empty parent.names name (sym root ∙ ap (λ p. p.names) (one_path text place (member_of parent name) is other)))
+
+-- ---- a whole operator
+
+at_most_2 : (reading : Reading) → number (cause_of reading) ≤ 2
+at_most_2 (path text) = omega arith
+at_most_2 (member text) = omega arith
+at_most_2 (expression text) = omega arith
+
+pub work_refused : (own : List Reading) (condition : Option (List ℕ)) (found : OpCause) → Caused own found → Caused (own ++ condition_readings condition) found
+work_refused own condition found given some =
+    let alone = given some in
+    caused_in_front own (condition_readings condition) found (no_less condition (subst (λ c. number c ≤ 2) alone.is (at_most_2 alone.reading))) given some
+  where
+    no_less : (condition : Option (List ℕ)) → number found ≤ 2 → (other : Reading) → Has (condition_readings condition) other → number found ≤ number (cause_of other)
+    no_less None few other has = absurd has
+    no_less (Some text) few other (inl is) = omega (arith, few, ap (λ r. number (cause_of r)) is)
+    no_less (Some text) few other (inr none) = absurd none

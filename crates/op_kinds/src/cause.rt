@@ -1,0 +1,68 @@
+// Why there is no operator.
+use expr_lang::ExprReadFault;
+use field_paths::PathFault;
+use std::alloc::{AllocError, AllocFailed};
+use thiserror::Error;
+
+/// Why the settings of an operator make none. Of several causes the one that stands first here counts.
+#[derive(Clone, Copy, Debug, PartialEq, Eq, Drop, Error)]
+pub enum OpCause {
+    /// A field path can't be read, or one that is to be flattened has no member.
+    #[error("a field path can't be read")]
+    Path,
+    /// An expression can't be read.
+    #[error("an expression can't be read")]
+    Expr,
+    #[error("out of memory")]
+    Memory,
+}
+
+impl From<AllocError> for OpCause {
+    ghost use Rattle.std.specs.Prelude.{◌≡◌};
+    ghost use Rattle.op_kinds.specs.declared.cause.OpCause.TheVariants.{Memory};
+
+    ghost from_gives = { λ _ cause. cause ≡ Memory };
+
+    fn from(_error: AllocError) -> OpCause {
+        OpCause::Memory
+    }
+}
+
+impl<T: Drop> From<AllocFailed<T>> for OpCause {
+    ghost use Rattle.std.specs.Prelude.{◌≡◌};
+    ghost use Rattle.op_kinds.specs.declared.cause.OpCause.TheVariants.{Memory};
+
+    ghost from_gives = { λ _ cause. cause ≡ Memory };
+
+    fn from(_error: AllocFailed<T>) -> OpCause {
+        OpCause::Memory
+    }
+}
+
+impl From<PathFault> for OpCause {
+    ghost use Rattle.std.specs.Prelude.{◌≡◌};
+    ghost use Rattle.op_kinds.specs.Causes.{of_path_fault};
+
+    ghost from_gives = { λ fault cause. cause ≡ of_path_fault fault };
+
+    fn from(fault: PathFault) -> OpCause {
+        match fault {
+            PathFault::NotAPath { .. } => OpCause::Path,
+            PathFault::Memory => OpCause::Memory,
+        }
+    }
+}
+
+impl From<ExprReadFault> for OpCause {
+    ghost use Rattle.std.specs.Prelude.{◌≡◌};
+    ghost use Rattle.op_kinds.specs.Causes.{of_read_fault};
+
+    ghost from_gives = { λ fault cause. cause ≡ of_read_fault fault };
+
+    fn from(fault: ExprReadFault) -> OpCause {
+        match fault {
+            ExprReadFault::Syntax { .. } | ExprReadFault::Pattern { .. } => OpCause::Expr,
+            ExprReadFault::Memory => OpCause::Memory,
+        }
+    }
+}

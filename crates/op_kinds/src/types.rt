@@ -1,0 +1,8 @@
+// One file for each type of operators: how its settings are read, and what it does where no other crate says so.
+pub(crate) mod adding;
+pub(crate) mod copying;
+pub(crate) mod filtering;
+pub(crate) mod flattening;
+pub(crate) mod moving;
+pub(crate) mod removing;
+pub(crate) mod retaining;
