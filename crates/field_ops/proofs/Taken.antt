@@ -98,16 +98,22 @@ taken_elsewhere name (next ∷ names) (other ∷ others) value target fork there
   where
     Below : Type 0
     Below = Fork (next ∷ names) others → (below : Datum) (value : Datum) → value_at (next ∷ names) below ≡ Some value → value_at others (without_value next names below) ≡ value_at others below
+
     ms : Members
     ms = members_in target
+
     changed : Datum
     changed = without_value next names (on_the_way name ms)
+
     way : OnTheWay name (next ∷ names) value ms
     way = on_way name (next ∷ names) value ms there
+
     met : on_the_way name ms ≡ way.below
     met = ap (λ (o : Option Datum). unwrap_or o null) way.there
+
     aside : other ≢ name → option_and_then (value_at others) (member_at other (with_member name changed ms)) ≡ option_and_then (value_at others) (member_at other ms)
     aside apart = ap (option_and_then (value_at others)) (put_elsewhere name other changed ms apart)
+
     deeper : Below → other ≡ name → Fork (next ∷ names) others → option_and_then (value_at others) (member_at other (with_member name changed ms)) ≡ option_and_then (value_at others) (member_at other ms)
     deeper rest same fork =
         ap (λ (k : List ℕ). option_and_then (value_at others) (member_at k (with_member name changed ms))) same
@@ -116,6 +122,7 @@ taken_elsewhere name (next ∷ names) (other ∷ others) value target fork there
         ∙ ap (value_at others) met
         ∙ ap (option_and_then (value_at others)) (sym way.there)
         ∙ ap (λ (k : List ℕ). option_and_then (value_at others) (member_at k ms)) (sym same)
+
     at : Below → (name ≢ other) ⊎ Fork (next ∷ names) others → (other ≡ name) ⊎ (other ≢ name) → option_and_then (value_at others) (member_at other (with_member name changed ms)) ≡ option_and_then (value_at others) (member_at other ms)
     at rest f (inr apart) = aside apart
     at rest (inl apart) (inl same) = absurd (apart (sym same))
@@ -167,6 +174,7 @@ leaves_others place other value entry apart there = at apart (same_root place.ro
     within [] fork down = absurd fork
     within (name ∷ names) fork down =
         ap (value_at other.names) (own_root place.root name names entry) ∙ taken_elsewhere name names other.names value (root_value place.root entry) fork down
+
     at : AreApart place other → (place.root ≡ other.root) ⊎ (place.root ≢ other.root) → datum_at other (take_at place entry) ≡ datum_at other entry
     at a (inr roots) = ap (value_at other.names) (other_root place.root other.root place.names entry roots)
     at (inl roots) (inl same) = absurd (roots same)

@@ -1,8 +1,9 @@
 -- The nodes of operators, one after another.
-use Rattle.std.proofs.Common.{◌≡◌, ◌⊎◌, ℕ, zero, suc, ◌+◌, ◌<◌, ◌≤◌, List, [], ◌∷◌, ◌++◌, length, map, take, get_or, Bool, true, false, inl, inr, refl, sym, ◌∙◌, ap, subst, arith, add-one, rules}
+use Rattle.std.proofs.Common.{◌≡◌, ◌≢◌, ◌⊎◌, ℕ, zero, suc, ◌+◌, ◌<◌, ◌≤◌, List, [], ◌∷◌, ◌++◌, length, map, take, get_or, Bool, true, false, true≢false, ◌||◌, inl, inr, refl, sym, ◌∙◌, ap, subst, arith, add-one, rules}
 use Rattle.std.proofs.lemmas.List.{map-append, take_all}
 use Rattle.std.proofs.lemmas.Option.{slice_get_within, get_or_from_slice_get, slice_get-map, slice_get_read}
 use Rattle.std.proofs.Math.Seq.{take-suc}
+use Rattle.std.proofs.lemmas.Slice.Eq.{bytes_eq-Decides}
 use Rattle.std.specs.List.{list_any}
 use Rattle.std.specs.Prelude.{Some, option_map, slice_get, not, if◌then◌else◌}
 use Rattle.std.specs.Str.{bytes_eq}
@@ -10,15 +11,19 @@ use Rattle.std.proofs.Common.{Bor}
 use Rattle.std.proofs.lemmas.Bool.{cases_lt}
 use Rattle.settings_text.proofs.Lists.{among}
 use Rattle.graph_core.specs.declared.NodeSpec.{NodeSpec}
-use Rattle.op_kinds.specs.Operator.{Operator}
+use Rattle.entry_model.specs.LogRecord.{LogRecord}
+use Rattle.graph_core.specs.Traces.{Network, network_of}
+use Rattle.graph_core.specs.Wiring.{wiring_of}
+use Rattle.op_kinds.proofs.Compiled.{one_operator}
+use Rattle.op_kinds.specs.Kept.{Kept}
+use Rattle.op_kinds.specs.Operator.{Operator, behavior_of}
 use Rattle.pipeline.specs.BuildFaults.{IsFineAt, IsBuildFault, ids_before, refusal}
 use Rattle.op_kinds.specs.Compiled.{IsCompiledTo}
-use Rattle.op_kinds.specs.declared.compiling.OpCause.{OpCause}
-use Rattle.op_kinds.specs.declared.compiling.OpCause.TheVariants as cause
-use Rattle.op_kinds.specs.Causes.{Caused}
-use Rattle.op_kinds.specs.Compiled.{HasFaultyPath, HasOnlyFaultyExpr}
+use Rattle.op_kinds.specs.declared.cause.OpCause.{OpCause}
+use Rattle.op_kinds.specs.declared.cause.OpCause.TheVariants as cause
+use Rattle.op_kinds.specs.Readings.{Caused, readings}
 use Rattle.pipeline.specs.Listed.{AreFirstOperators, AreOperatorsFrom}
-use Rattle.pipeline.specs.Wired.{IsNode, AreFirstNodes, ids_of}
+use Rattle.pipeline.specs.Wired.{IsNode, AreNodes, AreFirstNodes, HaveOwnIds, IsNetwork, ids_of}
 use Rattle.settings_text.specs.Ids.{is_taken}
 use Rattle.settings_text.specs.SettingsData.{OperatorData, operator_data}
 use Rattle.settings_text.specs.declared.settings.OpSpec.{OpSpec}
@@ -100,10 +105,84 @@ one_more_fine operators place fine next k within = elim (cases_lt k place) [
 
 -- the operator at this place can't be made
 pub refused : (operators : List OperatorData) (place : ℕ) (spec : OperatorData) (found : OpCause) → ((k : ℕ) → k < place → IsFineAt operators k) → slice_get operators place ≡ Some spec → is_taken spec.id (ids_before operators place) ≡ false
-    → Caused (HasFaultyPath spec.kind) (HasOnlyFaultyExpr spec) found → IsBuildFault operators (refusal place found)
-refused operators place spec cause.Path fine there new_id given = record { fine_before = fine; spec = spec; there = there; new_id = new_id; faulty = given }
-refused operators place spec cause.Expr fine there new_id given = record { fine_before = fine; spec = spec; there = there; new_id = new_id; faulty = given }
+    → Caused (readings spec) found → IsBuildFault operators (refusal place found)
+refused operators place spec cause.Path fine there new_id given =
+    let some : cause.Path ≢ cause.Memory = λ is. cc is in
+    (some, record { fine_before = fine; spec = spec; there = there; new_id = new_id; faulty = given some })
+refused operators place spec cause.Expr fine there new_id given =
+    let some : cause.Expr ≢ cause.Memory = λ is. cc is in
+    (some, record { fine_before = fine; spec = spec; there = there; new_id = new_id; faulty = given some })
 refused operators place spec cause.Memory fine there new_id given = tt
 
 pub all_ids : (operators : List OperatorData) (place : ℕ) (ids : List (List ℕ)) → length operators ≤ place → ids ≡ ids_before operators place → ids ≡ ids_of operators
 all_ids operators place ids within is = is ∙ ap ids_of (take_all place operators within)
+
+-- ---- ids
+
+taken_before : (operators : List OperatorData) (place count : ℕ) (one : OperatorData) (id : List ℕ) → slice_get operators place ≡ Some one → place < count → one.id ≡ id → is_taken id (ids_of (take count operators)) ≡ true
+taken_before [] place count one id there before same = absurd (search (rules, there))
+taken_before (o ∷ operators) place zero one id there before same = absurd (omega (arith, before))
+taken_before (o ∷ operators) zero (suc count) one id there before same =
+    let is : o ≡ one = search (rules, there) in
+    let found : bytes_eq id o.id ≡ true = rw (ap (λ (x : OperatorData). x.id) is ∙ same) ((bytes_eq-Decides id id).1 refl) in
+    rw found refl
+taken_before (o ∷ operators) (suc place) (suc count) one id there before same =
+    let later = taken_before operators place count one id there (omega (arith, before)) same in
+    or_true (bytes_eq id o.id) (is_taken id (ids_of (take count operators))) later
+  where
+    or_true : (a b : Bool) → b ≡ true → (a || b) ≡ true
+    or_true true b is = refl
+    or_true false b is = is
+
+not_before : (operators : List OperatorData) → ((k : ℕ) → k < length operators → IsFineAt operators k) → (place other : ℕ) (one another : OperatorData) → slice_get operators place ≡ Some one → slice_get operators other ≡ Some another → one.id ≡ another.id → place < other → ⊥
+not_before operators fine place other one another at also same before =
+    let here = fine other (slice_get_within operators other another also) in
+    let is : here.spec ≡ another = search (rules, here.there, also) in
+    let taken = taken_before operators place other one another.id at before same in
+    true≢false (sym taken ∙ ap (λ (s : OperatorData). is_taken s.id (ids_before operators other)) (sym is) ∙ here.new_id)
+
+pub own_ids : (operators : List OperatorData) → ((k : ℕ) → k < length operators → IsFineAt operators k) → HaveOwnIds operators
+own_ids operators fine place other one another at also same = elim (cases_lt place other) [
+  | inl before ↦ absurd (not_before operators fine place other one another at also same before)
+  | inr not_before_it ↦ elim (cases_lt other place) [
+    | inl behind ↦ absurd (not_before operators fine other place another one also at (sym same) behind)
+    | inr last ↦ omega (arith, not_before_it, last)
+  ]
+]
+
+-- ---- one network
+
+same_maps : {A B : Type 0} (f : A → B) (xs ys : List A) → length xs ≡ length ys → ((k : ℕ) (x y : A) → slice_get xs k ≡ Some x → slice_get ys k ≡ Some y → f x ≡ f y) → map f xs ≡ map f ys
+same_maps f [] [] many same = refl
+same_maps f [] (y ∷ ys) many same = absurd (omega (arith, many))
+same_maps f (x ∷ xs) [] many same = absurd (omega (arith, many))
+same_maps f (x ∷ xs) (y ∷ ys) many same =
+    let first : f x ≡ f y = same 0 x y refl refl in
+    let rest : map f xs ≡ map f ys = same_maps f xs ys (omega (arith, many)) (λ k a b at also. same (suc k) a b at also) in
+    cc (first, rest)
+
+slice_get_there : {A : Type 0} (xs : List A) (k : ℕ) → k < length xs → (x : A) × (slice_get xs k ≡ Some x)
+slice_get_there [] k within = absurd (omega (arith, within))
+slice_get_there (x ∷ xs) zero within = (x, refl)
+slice_get_there (x ∷ xs) (suc k) within = slice_get_there xs k (omega (arith, within))
+
+module _ (operators : List OperatorData) (xs ys : List (NodeSpec Operator)) (are : AreNodes operators xs) (also : AreNodes operators ys) where
+  at_place : {B : Type 0} (f : NodeSpec Operator → B) → ((place : ℕ) (spec : OperatorData) (x y : NodeSpec Operator) → IsNode operators place spec x → IsNode operators place spec y → f x ≡ f y) → map f xs ≡ map f ys
+  at_place f same = same_maps f xs ys (are.many ∙ sym also.many) (λ k x y at of_y.
+      let within : k < length operators = omega (arith, slice_get_within xs k x at, are.many) in
+      let spec = slice_get_there operators k within in
+      same k spec.0 x y (are.each k spec.0 x spec.1 at) (also.each k spec.0 y spec.1 of_y))
+
+  same_wiring : wiring_of xs ≡ wiring_of ys
+  same_wiring = at_place (λ node. map (λ port. port.items) node.ports.items) (λ place spec x y is of_y. is.wired ∙ sym of_y.wired)
+
+  same_behaviors : map (λ (node : NodeSpec Operator). behavior_of node.op) xs ≡ map (λ (node : NodeSpec Operator). behavior_of node.op) ys
+  same_behaviors = at_place (λ node. behavior_of node.op) (λ place spec x y is of_y. ap behavior_of (one_operator spec x.op y.op is.compiled of_y.compiled))
+
+  pub same_networks : network_of behavior_of xs ≡ network_of behavior_of ys
+  same_networks =
+      ap (λ w. let n : Network Kept LogRecord = record { wiring = w; behaviors = map (λ (node : NodeSpec Operator). behavior_of node.op) xs } in n) same_wiring
+      ∙ ap (λ b. let n : Network Kept LogRecord = record { wiring = wiring_of ys; behaviors = b } in n) same_behaviors
+
+pub one_network : (operators : List OperatorData) (network other : Network Kept LogRecord) → IsNetwork operators network → IsNetwork operators other → network ≡ other
+one_network operators network other is also = is.is ∙ same_networks operators is.nodes also.nodes is.are also.are ∙ sym also.is

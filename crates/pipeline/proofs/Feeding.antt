@@ -1,17 +1,20 @@
 -- Feeding, token by token.
 use Rattle.std.proofs.Common.{◌≡◌, ℕ, ◌+◌, ◌<◌, List, [], ◌∷◌, ◌++◌, length, drop, refl, sym, ◌∙◌, ap, subst, arith, append_assoc, length-append}
 use Rattle.std.proofs.lemmas.List.{append-nil, map-append}
+use Rattle.std.proofs.lemmas.List.Sums.{sum_by-cons}
 use Rattle.std.specs.Prelude.{Option}
 use Rattle.entry_model.specs.LogRecord.{LogRecord}
 use Rattle.graph_core.specs.declared.Target.{Target}
 use Rattle.graph_core.specs.Traces.{Network, states_after, outputs, start_states, inputs, Served}
-use Rattle.op_kinds.specs.declared.state.OpState.{OpState}
+use Rattle.op_kinds.specs.Kept.{Kept}
 use Rattle.line_splitter.specs.Cuts.{Cut}
-use Rattle.line_splitter.specs.LineTokens.{tokens, used, HasNoToken, BeginsWith}
+use Rattle.line_splitter.specs.Cuts.{texts, used_by}
+use Rattle.line_splitter.specs.LineTokens.{HasNoToken, BeginsWith}
 use Rattle.otlp_json.specs.OutputLines.{output_lines}
 use Rattle.pipeline.specs.Entries.{records_of, record_with, records_behind, text_of}
 use Rattle.pipeline.specs.Fed.{Fed, GoesOn}
-use Rattle.pipeline.specs.GraphOutput.{graph_output, StandsFor}
+use Rattle.pipeline.specs.GraphOutput.{graph_output, kept_from, given_from, StandsFor}
+use Rattle.pipeline.specs.Tokens.{cuts_of, tokens_of, used_of}
 use Rattle.pipeline.specs.declared.state.FileState.{FileState}
 use Rattle.settings_text.specs.SettingsData.{SettingsData}
 
@@ -20,10 +23,10 @@ pub record LineLaws : Type 0 where
   pub none : (id number : ℕ) → output_lines id number [] ≡ []
   pub append : (id number : ℕ) (front back : List LogRecord) → output_lines id number (front ++ back) ≡ output_lines id number front ++ output_lines id (number + length front) back
 
-pub record GraphLaws (network : Network OpState LogRecord) : Type 0 where
-  pub begin : (from : List OpState) (before : List LogRecord) → Served network from before (inputs network []) from before
-  pub states : (from : List OpState) (earlier later : List (Target × Option LogRecord)) → states_after network from (earlier ++ later) ≡ states_after network (states_after network from earlier) later
-  pub items : (from : List OpState) (earlier later : List (Target × Option LogRecord)) → outputs network from (earlier ++ later) ≡ outputs network from earlier ++ outputs network (states_after network from earlier) later
+pub record GraphLaws (network : Network Kept LogRecord) : Type 0 where
+  pub begin : (from : List Kept) (before : List LogRecord) → Served network from before (inputs network []) from before
+  pub states : (from : List Kept) (earlier later : List (Target × Option LogRecord)) → states_after network from (earlier ++ later) ≡ states_after network (states_after network from earlier) later
+  pub items : (from : List Kept) (earlier later : List (Target × Option LogRecord)) → outputs network from (earlier ++ later) ≡ outputs network from earlier ++ outputs network (states_after network from earlier) later
 
 records_append : (settings : SettingsData) (path : List ℕ) (n : ℕ) (a b : List (List ℕ)) → records_behind settings path n (a ++ b) ≡ records_behind settings path n a ++ records_behind settings path (n + length a) b
 records_append settings path n [] b = ap (λ k. records_behind settings path k b) (omega arith)
@@ -32,7 +35,7 @@ records_append settings path n (token ∷ a) b =
     (records_append settings path (n + 1) a b ∙ ap (λ k. records_behind settings path (n + 1) a ++ records_behind settings path k b) (omega arith))
     ∙ sym (append_assoc (records_of settings path (n + 1) (text_of settings token)) (records_behind settings path (n + 1) a) (records_behind settings path (n + length (token ∷ a)) b))
 
-module _ (settings : SettingsData) (network : Network OpState LogRecord) (path : List ℕ) (graph : GraphLaws network) where
+module _ (settings : SettingsData) (network : Network Kept LogRecord) (path : List ℕ) (graph : GraphLaws network) where
   inputs_append : (n : ℕ) (a b : List (List ℕ)) (m : ℕ) → m ≡ n + length a → inputs network (records_behind settings path n (a ++ b)) ≡ inputs network (records_behind settings path n a) ++ inputs network (records_behind settings path m b)
   inputs_append n a b m e =
       ap (inputs network) (records_append settings path n a b)
@@ -90,35 +93,48 @@ module _ (settings : SettingsData) (network : Network OpState LogRecord) (path :
       }
 
 -- some tokens of the bytes were fed, and those of the rest are left
-pub record FeedsOn (settings : SettingsData) (network : Network OpState LogRecord) (id : ℕ) (path bytes rest : List ℕ) (at : ℕ) (before after : FileState) (out grown : List ℕ) : Type 0 where
+pub record FeedsOn (settings : SettingsData) (network : Network Kept LogRecord) (id : ℕ) (path bytes rest : List ℕ) (at : ℕ) (before after : FileState) (out grown : List ℕ) : Type 0 where
   pub done : List (List ℕ)
-  pub left : tokens settings.max_log_size bytes ≡ done ++ tokens settings.max_log_size rest
-  pub used_so_far : used settings.max_log_size bytes ≡ at + used settings.max_log_size rest
+  pub left : tokens_of settings bytes ≡ done ++ tokens_of settings rest
+  pub used_so_far : used_of settings bytes ≡ at + used_of settings rest
   pub fed : Fed settings network id path done before after out grown
 
-module _ (settings : SettingsData) (network : Network OpState LogRecord) (id : ℕ) (path : List ℕ) (graph : GraphLaws network) (laws : LineLaws) (bytes : List ℕ) (s : FileState) (o : List ℕ) where
+module _ (settings : SettingsData) (network : Network Kept LogRecord) (id : ℕ) (path : List ℕ) (graph : GraphLaws network) (laws : LineLaws) (bytes : List ℕ) (s : FileState) (o : List ℕ) where
   pub feeds_from_start : FeedsOn settings network id path bytes bytes 0 s s o o
   feeds_from_start = record { done = []; left = refl; used_so_far = omega arith; fed = fed_none settings network path graph laws id s o }
 
   pub feeds_token : (rest : List ℕ) (at : ℕ) (c : Cut) (m t : FileState) (q r : List ℕ) → BeginsWith settings.max_log_size rest c → FeedsOn settings network id path bytes rest at s m o q → Fed settings network id path (c.text ∷ []) m t q r → FeedsOn settings network id path bytes (drop c.used rest) (at + c.used) s t o r
   feeds_token rest at c m t q r begins so_far next = record {
     done = so_far.done ++ c.text ∷ [];
-    left = so_far.left ∙ ap (λ ts. so_far.done ++ ts) begins.tokens_follow ∙ sym (append_assoc so_far.done (c.text ∷ []) (tokens settings.max_log_size (drop c.used rest)));
-    used_so_far = omega (arith, so_far.used_so_far, begins.used_follow);
+    left = so_far.left ∙ ap (λ cs. so_far.done ++ texts cs) begins.cuts_follow ∙ sym (append_assoc so_far.done (c.text ∷ []) (tokens_of settings (drop c.used rest)));
+    used_so_far = omega (arith, so_far.used_so_far, ap used_by begins.cuts_follow, sum_by-cons (λ (d : Cut). d.used) c (cuts_of settings (drop c.used rest)));
     fed = fed_then settings network path graph laws id so_far.done (c.text ∷ []) s m t o q r so_far.fed next;
   }
 
-  pub feeds_all : (rest : List ℕ) (at : ℕ) (t : FileState) (r : List ℕ) → HasNoToken settings.max_log_size rest → FeedsOn settings network id path bytes rest at s t o r → (at ≡ used settings.max_log_size bytes) × Fed settings network id path (tokens settings.max_log_size bytes) s t o r
+  pub feeds_all : (rest : List ℕ) (at : ℕ) (t : FileState) (r : List ℕ) → HasNoToken settings.max_log_size rest → FeedsOn settings network id path bytes rest at s t o r → (at ≡ used_of settings bytes) × Fed settings network id path (tokens_of settings bytes) s t o r
   feeds_all rest at t r ends so_far =
-      let all : so_far.done ≡ tokens settings.max_log_size bytes = sym (so_far.left ∙ ap (λ ts. so_far.done ++ ts) ends.no_tokens ∙ append-nil so_far.done) in
-      (omega (arith, so_far.used_so_far, ends.none_used), subst (λ ts. Fed settings network id path ts s t o r) all so_far.fed)
+      let all : so_far.done ≡ tokens_of settings bytes = sym (so_far.left ∙ ap (λ cs. so_far.done ++ texts cs) ends.no_cuts ∙ append-nil so_far.done) in
+      (omega (arith, so_far.used_so_far, ap used_by ends.no_cuts), subst (λ ts. Fed settings network id path ts s t o r) all so_far.fed)
 
-pub prefix_kept : (settings : SettingsData) (network : Network OpState LogRecord) → GraphLaws network → (path : List ℕ) (earlier more : List (List ℕ)) → (rest : List LogRecord) × (graph_output settings network path (earlier ++ more) ≡ graph_output settings network path earlier ++ rest)
+pub prefix_kept : (settings : SettingsData) (network : Network Kept LogRecord) → GraphLaws network → (path : List ℕ) (earlier more : List (List ℕ)) → (rest : List LogRecord) × (graph_output settings network path (earlier ++ more) ≡ graph_output settings network path earlier ++ rest)
 prefix_kept settings network graph path earlier more =
     let start = start_states network in
     let front = inputs network (records_behind settings path 0 earlier) in
     let back = inputs network (records_behind settings path (length earlier) more) in
     (outputs network (states_after network start front) back, ap (outputs network start) (inputs_append settings network path graph 0 earlier more (length earlier) (omega arith)) ∙ graph.items start front back)
+
+-- one list of tokens after another
+pub kept_on : (settings : SettingsData) (network : Network Kept LogRecord) → GraphLaws network → (path : List ℕ) (before : ℕ) (states : List Kept) (earlier later : List (List ℕ))
+    → kept_from settings network path before states (earlier ++ later) ≡ kept_from settings network path (before + length earlier) (kept_from settings network path before states earlier) later
+kept_on settings network graph path before states earlier later =
+    ap (states_after network states) (inputs_append settings network path graph before earlier later (before + length earlier) refl)
+    ∙ graph.states states (inputs network (records_behind settings path before earlier)) (inputs network (records_behind settings path (before + length earlier) later))
+
+pub given_on : (settings : SettingsData) (network : Network Kept LogRecord) → GraphLaws network → (path : List ℕ) (before : ℕ) (states : List Kept) (earlier later : List (List ℕ))
+    → given_from settings network path before states (earlier ++ later) ≡ given_from settings network path before states earlier ++ given_from settings network path (before + length earlier) (kept_from settings network path before states earlier) later
+given_on settings network graph path before states earlier later =
+    ap (outputs network states) (inputs_append settings network path graph before earlier later (before + length earlier) refl)
+    ∙ graph.items states (inputs network (records_behind settings path before earlier)) (inputs network (records_behind settings path (before + length earlier) later))
 
 -- the records of one token
 pub record_none : (settings : SettingsData) (path : List ℕ) (before : ℕ) (token : List ℕ) → text_of settings token ≡ [] → records_behind settings path before (token ∷ []) ≡ []
@@ -132,7 +148,7 @@ record_one settings path before token some = append-nil _ ∙ by (text_of settin
     by (byte ∷ more) some = refl
 
 -- a token with a record, which went through the network
-pub one_fed : (settings : SettingsData) (network : Network OpState LogRecord) (id : ℕ) (path token : List ℕ) (record_of_it : LogRecord) (made : List LogRecord) (s t : FileState) (o r : List ℕ)
+pub one_fed : (settings : SettingsData) (network : Network Kept LogRecord) (id : ℕ) (path token : List ℕ) (record_of_it : LogRecord) (made : List LogRecord) (s t : FileState) (o r : List ℕ)
     → records_behind settings path s.records (token ∷ []) ≡ record_of_it ∷ [] → Served network s.states.items [] (inputs network (record_of_it ∷ [])) t.states.items made
     → t.records ≡ s.records + 1 → t.lines ≡ s.lines + length made → r ≡ o ++ output_lines id (s.lines + 1) made → Fed settings network id path (token ∷ []) s t o r
 one_fed settings network id path token record_of_it made s t o r one served records lines written = record {

@@ -2,3 +2,4 @@ pub mod Feeding
 pub mod Paths
 pub mod Building
 pub mod Targets
+pub mod StateKinds

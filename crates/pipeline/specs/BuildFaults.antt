@@ -1,13 +1,14 @@
 -- Why settings give no pipeline.
-use Rattle.std.specs.Prelude.{◌≡◌, ⊤, ℕ, ◌<◌, ◌≤◌, List, length, take, false, true, Some, slice_get}
+use Rattle.std.specs.Prelude.{◌≡◌, ◌≢◌, ⊤, ℕ, ◌<◌, ◌≤◌, List, length, take, false, true, Some, slice_get}
 use Rattle.graph_core.specs.Faults.{IsCause}
 use Rattle.graph_core.specs.Wiring.{edges_of, wiring_of}
 use Rattle.graph_core.specs.declared.GraphFault.{GraphFault}
 use Rattle.graph_core.specs.declared.NodeSpec.{NodeSpec}
-use Rattle.op_kinds.specs.Compiled.{IsCompiledTo, HasFaultyPath, HasOnlyFaultyExpr}
+use Rattle.op_kinds.specs.Compiled.{IsCompiledTo}
 use Rattle.op_kinds.specs.Operator.{Operator}
-use Rattle.op_kinds.specs.declared.compiling.OpCause.{OpCause}
-use Rattle.op_kinds.specs.declared.compiling.OpCause.TheVariants as cause
+use Rattle.op_kinds.specs.Readings.{IsLeastCause, readings}
+use Rattle.op_kinds.specs.declared.cause.OpCause.{OpCause}
+use Rattle.op_kinds.specs.declared.cause.OpCause.TheVariants as cause
 use Rattle.pipeline.specs.Wired.{AreNodes, ids_of}
 use Rattle.pipeline.specs.declared.fault.BuildFault.{BuildFault}
 use Rattle.pipeline.specs.declared.fault.BuildFault.TheVariants.{SameId, Operator as RefusesOperator, Graph, Memory}
@@ -42,9 +43,7 @@ pub record IsFirstFaulty (Faulty : OperatorData → Type 0) (operators : List Op
   pub faulty : Faulty spec
 
 abbrev pub IsRefusal : List OperatorData → ℕ → OpCause → Type 0
-IsRefusal operators place cause.Path = IsFirstFaulty (λ spec. HasFaultyPath spec.kind) operators place
-IsRefusal operators place cause.Expr = IsFirstFaulty HasOnlyFaultyExpr operators place
-IsRefusal operators place cause.Memory = ⊥
+IsRefusal operators place found = (found ≢ cause.Memory) × IsFirstFaulty (λ spec. IsLeastCause (readings spec) found) operators place
 
 -- every operator is fine, and the graph of their nodes has this fault
 pub record HasGraphFault (operators : List OperatorData) (fault : GraphFault) : Type 0 where
@@ -61,9 +60,9 @@ IsBuildFault operators Memory = ⊤
 
 -- the fault that tells why the operator at a place can't be made
 abbrev pub refusal : ℕ → OpCause → BuildFault
+refusal place cause.Memory = Memory
 refusal place cause.Path = RefusesOperator place cause.Path
 refusal place cause.Expr = RefusesOperator place cause.Expr
-refusal place cause.Memory = Memory
 
 -- no operator has too many routes to have a port for each
 abbrev pub HaveFewRoutes : List OperatorData → Type 0

@@ -2,7 +2,7 @@
 use Rattle.std.specs.Prelude.{◌≡◌, ℕ, ◌+◌, List, [], ◌++◌, length}
 use Rattle.entry_model.specs.LogRecord.{LogRecord}
 use Rattle.graph_core.specs.Traces.{Network, inputs, Served}
-use Rattle.op_kinds.specs.declared.state.OpState.{OpState}
+use Rattle.op_kinds.specs.Kept.{Kept}
 use Rattle.otlp_json.specs.OutputLines.{output_lines}
 use Rattle.pipeline.specs.Entries.{records_behind}
 use Rattle.pipeline.specs.GraphOutput.{graph_output, StandsFor}
@@ -10,7 +10,7 @@ use Rattle.pipeline.specs.declared.state.FileState.{FileState}
 use Rattle.settings_text.specs.SettingsData.{SettingsData}
 
 -- The records of these tokens went through the network, and the lines of what came out were appended.
-pub record Fed (settings : SettingsData) (network : Network OpState LogRecord) (id : ℕ) (path : List ℕ) (tokens : List (List ℕ)) (before after : FileState) (out_before out_after : List ℕ) : Type 0 where
+pub record Fed (settings : SettingsData) (network : Network Kept LogRecord) (id : ℕ) (path : List ℕ) (tokens : List (List ℕ)) (before after : FileState) (out_before out_after : List ℕ) : Type 0 where
   pub made : List LogRecord
   pub served : Served network before.states.items [] (inputs network (records_behind settings path before.records tokens)) after.states.items made
   pub records : after.records ≡ before.records + length tokens
@@ -18,7 +18,7 @@ pub record Fed (settings : SettingsData) (network : Network OpState LogRecord) (
   pub written : out_after ≡ out_before ++ output_lines id (before.lines + 1) made
 
 -- From a state that stands for some tokens, the lines past theirs were appended.
-pub record GoesOn (settings : SettingsData) (network : Network OpState LogRecord) (id : ℕ) (path : List ℕ) (earlier tokens : List (List ℕ)) (after : FileState) (out_before out_after : List ℕ) : Type 0 where
+pub record GoesOn (settings : SettingsData) (network : Network Kept LogRecord) (id : ℕ) (path : List ℕ) (earlier tokens : List (List ℕ)) (after : FileState) (out_before out_after : List ℕ) : Type 0 where
   pub stands : StandsFor settings network path (earlier ++ tokens) after
   pub made : List LogRecord
   pub past : graph_output settings network path (earlier ++ tokens) ≡ graph_output settings network path earlier ++ made

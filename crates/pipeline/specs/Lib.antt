@@ -1,3 +1,4 @@
+pub mod Tokens
 pub mod Entries
 pub mod Wired
 pub mod Listed

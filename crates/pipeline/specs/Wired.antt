@@ -5,11 +5,13 @@ use Rattle.std.specs.Str.{bytes_eq}
 use Rattle.graph_core.specs.declared.NodeSpec.{NodeSpec}
 use Rattle.graph_core.specs.declared.Target.{Target}
 use Rattle.graph_core.specs.declared.Target.TheVariants.{Node, Out}
+use Rattle.graph_core.specs.Faults.{IsAccepted}
 use Rattle.graph_core.specs.Traces.{Network, network_of}
+use Rattle.graph_core.specs.Wiring.{wiring_of, edges_of}
 use Rattle.entry_model.specs.LogRecord.{LogRecord}
 use Rattle.op_kinds.specs.Compiled.{IsCompiledTo}
 use Rattle.op_kinds.specs.Operator.{Operator, behavior_of}
-use Rattle.op_kinds.specs.declared.state.OpState.{OpState}
+use Rattle.op_kinds.specs.Kept.{Kept}
 use Rattle.settings_text.specs.SettingsData.{OperatorData, KindData, router}
 
 abbrev pub ids_of : List OperatorData → List (List ℕ)
@@ -58,8 +60,14 @@ pub record AreNodes (operators : List OperatorData) (nodes : List (NodeSpec Oper
   pub many : length nodes ≡ length operators
   pub each : AreFirstNodes operators nodes
 
--- the network is that of the operators
-pub record IsNetwork (operators : List OperatorData) (network : Network OpState LogRecord) : Type 0 where
+-- no two operators have one id
+abbrev pub HaveOwnIds : List OperatorData → Type 0
+HaveOwnIds operators = (place other : ℕ) (one another : OperatorData) → slice_get operators place ≡ Some one → slice_get operators other ≡ Some another → one.id ≡ another.id → place ≡ other
+
+-- the network is that of the operators, whose ids differ and whose graph was accepted
+pub record IsNetwork (operators : List OperatorData) (network : Network Kept LogRecord) : Type 0 where
+  pub differ : HaveOwnIds operators
   pub nodes : List (NodeSpec Operator)
   pub are : AreNodes operators nodes
+  pub accepted : IsAccepted (edges_of (wiring_of nodes))
   pub is : network ≡ network_of behavior_of nodes

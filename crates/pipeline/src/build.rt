@@ -1,11 +1,10 @@
 // Pipelines of settings.
 ghost use Rattle.std.specs.Prelude.{◌≡◌, ◌≤◌, ◌<◌, ℕ, [], length, map, OnOk, IfOk, IfErr};
 ghost use Rattle.graph_core.specs.Traces.{start_states};
-ghost use Rattle.op_kinds.specs.Causes.{Caused};
 ghost use Rattle.pipeline.specs.BuildFaults.{IsBuildFault, IsFineAt, HaveFewRoutes, refusal};
 ghost use Rattle.pipeline.specs.GraphOutput.{StandsFor};
 ghost use Rattle.pipeline.specs.Listed.{AreOperators};
-ghost use Rattle.pipeline.specs.Parts.{settings_of, network, node_count};
+ghost use Rattle.pipeline.specs.Parts.{settings_of, network, node_count, HaveKinds};
 ghost use Rattle.pipeline.specs.Wired.{AreNodes, IsNetwork, ids_of};
 ghost use Rattle.settings_text.specs.SettingsData.{settings_data, operator_data};
 
@@ -46,6 +45,7 @@ impl Pipeline {
     pub fn fresh(&self, alloc: Global) -> Result<FileState, AllocError>
         ensures stands { IfOk result (λ state. (path : _) → StandsFor (settings_of self.now) (network self.now) path [] state) }
         ensures many { IfOk result (λ state. length state.states.items ≡ node_count self.now) }
+        ensures kinds { IfOk result (λ state. HaveKinds self.now state.states.items) }
         ensures counts { IfOk result (λ state. (state.records ≡ 0) × (state.lines ≡ 0)) }
     {
         graph::begin(&self.graph);
@@ -107,7 +107,7 @@ fn refusal(place: usize, cause: OpCause) -> BuildFault
 {
     match cause {
         OpCause::Memory => BuildFault::Memory,
-        OpCause::Path | OpCause::Expr => BuildFault::Operator {
+        _ => BuildFault::Operator {
             place: place as u64,
             cause,
         },

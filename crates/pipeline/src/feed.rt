@@ -2,12 +2,12 @@
 ghost use Rattle.std.specs.Prelude.{◌≡◌, ℕ, ◌+◌, ◌-◌, ◌^◌, ◌≤◌, [], ◌∷◌, ◌++◌, List, length, string_bytes, OnOk, IfOk};
 ghost use Rattle.field_paths.specs.MapOf.{members_seen};
 ghost use Rattle.graph_core.specs.Traces.{inputs, Served};
-ghost use Rattle.line_splitter.specs.LineTokens.{tokens, used};
 ghost use Rattle.otlp_json.specs.OutputLines.{output_lines};
 ghost use Rattle.pipeline.specs.Entries.{file_attributes, records_behind, record_with};
 ghost use Rattle.pipeline.specs.Fed.{Fed, GoesOn};
 ghost use Rattle.pipeline.specs.GraphOutput.{StandsFor};
-ghost use Rattle.pipeline.specs.Parts.{settings_of, network, node_count};
+ghost use Rattle.pipeline.specs.Parts.{settings_of, network, HaveKinds};
+ghost use Rattle.pipeline.specs.Tokens.{tokens_of, used_of};
 
 use crate::{FileState, Pipeline};
 use entry_model::Fields;
@@ -20,7 +20,8 @@ use std::alloc::{AllocError, Global};
 
 impl Pipeline {
     /// Takes the tokens of the bytes, appends the lines of what comes out, and answers how many bytes the tokens used.
-    /// `id` and `path` are the file's.
+    /// `id` and `path` are the file's. The state has one state for each operator, of its kind, and keeps them so. After want
+    /// of memory nothing is said of the state and of what was appended.
     pub fn feed(
         &self,
         alloc: Global,
@@ -30,23 +31,24 @@ impl Pipeline {
         bytes: &[u8],
         out: &mut Vec<u8>,
     ) -> Result<usize, AllocError>
-        requires states { length state.old.states.items ≡ node_count self.now }
+        requires states { HaveKinds self.now state.old.states.items }
         requires lines { state.old.lines ≤ 2 ^ 40 }
         requires records { state.old.records + length bytes.now ≤ 2 ^ 62 }
-        ensures used { IfOk result (λ count. count ≡ used (settings_of self.now).max_log_size bytes.now) }
+        ensures used { IfOk result (λ count. count ≡ used_of (settings_of self.now) bytes.now) }
 
         // From any state.
         ensures fed { OnOk result (Fed (settings_of self.now) (network self.now) id path.now
-            (tokens (settings_of self.now).max_log_size bytes.now) state.old state.new out.old.items out.new.items) }
-        ensures records { OnOk result (state.new.records ≤ state.old.records + used (settings_of self.now).max_log_size bytes.now) }
+            (tokens_of (settings_of self.now) bytes.now) state.old state.new out.old.items out.new.items) }
+        ensures records { OnOk result (state.new.records ≤ state.old.records + used_of (settings_of self.now) bytes.now) }
         ensures lines { OnOk result (state.new.lines + length out.old.items ≤ state.old.lines + length out.new.items) }
-        ensures states { length state.new.states.items ≡ length state.old.states.items }
+        ensures states { OnOk result (HaveKinds self.now state.new.states.items) }
+        ensures many { length state.new.states.items ≡ length state.old.states.items }
 
         // From a state that stands for the tokens before.
         ensures goes_on { OnOk result ((earlier : List (List ℕ))
             → StandsFor (settings_of self.now) (network self.now) path.now earlier state.old
             → GoesOn (settings_of self.now) (network self.now) id path.now earlier
-            (tokens (settings_of self.now).max_log_size bytes.now) state.new out.old.items out.new.items) }
+            (tokens_of (settings_of self.now) bytes.now) state.new out.old.items out.new.items) }
     {
         graph::begin(&self.graph);
         graph::go_on(&self.graph);
@@ -71,14 +73,15 @@ impl Pipeline {
         token: &[u8],
         out: &mut Vec<u8>,
     ) -> Result<(), AllocError>
-        requires states { length state.old.states.items ≡ node_count self.now }
+        requires states { HaveKinds self.now state.old.states.items }
         requires lines { state.old.lines ≤ 2 ^ 40 + length out.old.items }
         requires records { state.old.records + 1 ≤ 2 ^ 62 }
         ensures fed { OnOk result ((path : List ℕ) → members_seen shared.now.entries ≡ file_attributes (settings_of self.now) path
             → Fed (settings_of self.now) (network self.now) id path (token.now ∷ []) state.old state.new out.old.items out.new.items) }
         ensures lines { OnOk result (state.new.lines + length out.old.items ≤ state.old.lines + length out.new.items) }
         ensures records { OnOk result (state.new.records ≡ state.old.records + 1) }
-        ensures states { length state.new.states.items ≡ length state.old.states.items }
+        ensures states { OnOk result (HaveKinds self.now state.new.states.items) }
+        ensures many { length state.new.states.items ≡ length state.old.states.items }
     {
         graph::begin(&self.graph);
         lines_append();

@@ -1,17 +1,56 @@
 //! What the definitions imply.
-ghost use Rattle.std.specs.Prelude.{◌≡◌, ℕ, ◌++◌, List};
+ghost use Rattle.std.specs.Prelude.{◌≡◌, ℕ, ◌+◌, [], ◌++◌, List, length};
 ghost use Rattle.entry_model.specs.LogRecord.{LogRecord};
-ghost use Rattle.pipeline.specs.GraphOutput.{graph_output};
+ghost use Rattle.graph_core.specs.Traces.{Network};
+ghost use Rattle.line_splitter.specs.Cuts.{IsCutRule};
+ghost use Rattle.op_kinds.specs.Kept.{Kept};
+ghost use Rattle.pipeline.specs.GraphOutput.{graph_output, kept_from, given_from};
 ghost use Rattle.pipeline.specs.Parts.{settings_of, network};
+ghost use Rattle.pipeline.specs.Tokens.{first_cut_of};
+ghost use Rattle.pipeline.specs.Wired.{IsNetwork};
+ghost use Rattle.settings_text.specs.SettingsData.{OperatorData};
 
 use crate::Pipeline;
 use graph_core::laws as graph;
+use line_splitter::laws::lines_are_cut_by_a_rule;
 
 /// What comes out for some tokens is a prefix of what comes out for them and more.
 pub fn keep_prefix(pipeline: &Pipeline)
     ensures { (path : List ℕ) (tokens more : List (List ℕ))
         → (rest : List LogRecord) × (graph_output (settings_of pipeline.now) (network pipeline.now) path (tokens ++ more)
         ≡ graph_output (settings_of pipeline.now) (network pipeline.now) path tokens ++ rest) }
+{
+    graph::begin(&pipeline.graph);
+    graph::go_on(&pipeline.graph);
+}
+
+/// Operators make one network: what is built of the same settings at a restart goes on as what was built before it.
+pub fn operators_make_one_network()
+    ensures { (operators : List OperatorData) (network other : Network Kept LogRecord) → IsNetwork operators network → IsNetwork operators other → network ≡ other }
+{}
+
+/// The tokens of a file are cut by a rule, so the laws of line_splitter hold of them: more bytes change none of them, and
+/// behind some of them stand the others.
+pub fn tokens_are_cut_by_a_rule(pipeline: &Pipeline)
+    ensures { IsCutRule (first_cut_of (settings_of pipeline.now)) }
+{
+    lines_are_cut_by_a_rule(pipeline.settings.max_log_size as usize);
+}
+
+/// What the operators keep and what comes out for one list of tokens and then another: that of the first, and then that of
+/// the second from there.
+pub fn go_on(pipeline: &Pipeline)
+    ensures none { (path : List ℕ) (before : ℕ) (states : List Kept) → kept_from (settings_of pipeline.now) (network pipeline.now) path before states [] ≡ states }
+    ensures nothing { (path : List ℕ) (before : ℕ) (states : List Kept) → given_from (settings_of pipeline.now) (network pipeline.now) path before states [] ≡ [] }
+    ensures kept { (path : List ℕ) (before : ℕ) (states : List Kept) (earlier later : List (List ℕ))
+        → kept_from (settings_of pipeline.now) (network pipeline.now) path before states (earlier ++ later)
+        ≡ kept_from (settings_of pipeline.now) (network pipeline.now) path (before + length earlier)
+        (kept_from (settings_of pipeline.now) (network pipeline.now) path before states earlier) later }
+    ensures given { (path : List ℕ) (before : ℕ) (states : List Kept) (earlier later : List (List ℕ))
+        → given_from (settings_of pipeline.now) (network pipeline.now) path before states (earlier ++ later)
+        ≡ given_from (settings_of pipeline.now) (network pipeline.now) path before states earlier
+        ++ given_from (settings_of pipeline.now) (network pipeline.now) path (before + length earlier)
+        (kept_from (settings_of pipeline.now) (network pipeline.now) path before states earlier) later }
 {
     graph::begin(&pipeline.graph);
     graph::go_on(&pipeline.graph);

@@ -2,7 +2,7 @@
 use op_kinds::OpState;
 
 /// How far a file was fed.
-#[derive(Debug, Drop)]
+#[derive(Drop)]
 pub struct FileState {
     /// The tokens so far, those without an entry too.
     pub records: u64,

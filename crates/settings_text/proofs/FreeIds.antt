@@ -43,9 +43,11 @@ still_taken id another (other ∷ others) differ is = by (bytes_eq id other) ref
     kept : (b : Bool) → (is_taken another others ≡ true → is_taken another (without id others) ≡ true) → (b || is_taken another others) ≡ true → (b || is_taken another (without id others)) ≡ true
     kept true rest is = refl
     kept false rest is = rest is
+
     past : (b : Bool) → (is_taken another others ≡ true → is_taken another (without id others) ≡ true) → bytes_eq another other ≡ b → bytes_eq id other ≡ true → (b || is_taken another others) ≡ true → is_taken another (without id others) ≡ true
     past true rest same removed is = absurd (differ ((bytes_eq-Decides another other).0 same ∙ sym ((bytes_eq-Decides id other).0 removed)))
     past false rest same removed is = rest is
+
     by : (b : Bool) → bytes_eq id other ≡ b → (is_taken another others ≡ true → is_taken another (without id others) ≡ true) → is_taken another (if b then without id others else other ∷ without id others) ≡ true
     by true removed rest = past (bytes_eq another other) rest refl removed is
     by false stays rest = kept (bytes_eq another other) rest is
@@ -60,9 +62,9 @@ all_taken name zero n taken few all = omega arith
 all_taken name (suc count) n taken few all =
     let first = shorter (name ++ decimal n) taken (all n (omega arith) (omega arith)) in
     let rest = all_taken name count (n + 1) (without (name ++ decimal n) taken) (omega (arith, few)) (λ k from to.
-        still_taken (name ++ decimal n) (name ++ decimal k) taken
-        (λ same. let is : k ≡ n = decimal_injective k n (omega (arith, to, few)) (omega (arith, few)) (drop_front name (decimal k) (decimal n) same) in omega (arith, is, from))
-        (all k (omega (arith, from)) (omega (arith, to)))) in
+    still_taken (name ++ decimal n) (name ++ decimal k) taken
+    (λ same. let is : k ≡ n = decimal_injective k n (omega (arith, to, few)) (omega (arith, few)) (drop_front name (decimal k) (decimal n) same) in omega (arith, is, from))
+    (all k (omega (arith, from)) (omega (arith, to)))) in
     omega (arith, first, rest)
 
 -- the number that was chosen among so many from n on

@@ -13,6 +13,7 @@ loop-token-init c =
       feeds = feeds_from_start (settings_of c.args.self.now) (network c.args.self.now) c.args.id c.args.path.now graph lines c.args.bytes.now c.args.state.now c.args.out.now.items;
       records = omega arith;
       lines = omega arith;
+      kinds = c.requires.states;
       states = refl;
     }
 
@@ -29,7 +30,8 @@ loop-token-preserved c =
           (feeds_token (settings_of c.args.self.now) (network c.args.self.now) c.args.id c.args.path.now graph lines c.args.bytes.now c.args.state.now c.args.out.now.items (drop c.loop-token.at c.args.bytes.now) c.loop-token.at _ c.loop-token.state c.feed_token.new.state c.loop-token.out.items c.feed_token.new.out.items begins so_far.feeds fed);
       records = omega (arith, c.in_ok-feed_token.ensures.records, so_far.records, begins.some_used);
       lines = omega (arith, c.in_ok-feed_token.ensures.lines, so_far.lines);
-      states = c.feed_token.ensures.states ∙ so_far.states;
+      kinds = c.in_ok-feed_token.ensures.states;
+      states = c.feed_token.ensures.many ∙ so_far.states;
     }
 
 pub returns-clause-goes_on : goal.returns-clause-goes_on

@@ -1,5 +1,5 @@
 use Rattle.std.proofs.Common.{◌≡◌, ◌+◌, ◌-◌, ◌≤◌, length, drop}
-use Rattle.pipeline.specs.Parts.{settings_of, network}
+use Rattle.pipeline.specs.Parts.{settings_of, network, HaveKinds}
 use Rattle.pipeline.proofs.Feeding.{FeedsOn}
 use Rattle.pipeline.proofs.Pipeline.feed.Given as goal
 
@@ -10,6 +10,7 @@ invariant-loop-token l = record {
   feeds : FeedsOn (settings_of l.self) (network l.self) l.id l.path l.bytes (drop l.at l.bytes) l.at l.fn.state l.state l.fn.out.items l.out.items;
   records : l.state.records ≤ l.fn.state.records + l.at;
   lines : l.state.lines + length l.fn.out.items ≤ l.fn.state.lines + length l.out.items;
+  kinds : HaveKinds l.self l.state.states.items;
   states : length l.state.states.items ≡ length l.fn.state.states.items;
 }
 

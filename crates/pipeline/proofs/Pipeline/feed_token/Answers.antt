@@ -5,6 +5,7 @@ use Rattle.graph_core.specs.Traces.{inputs, Served}
 use Rattle.otlp_json.specs.OutputLines.{output_lines}
 use Rattle.pipeline.specs.Entries.{record_with, text_of}
 use Rattle.pipeline.specs.Parts.{settings_of, network}
+use Rattle.pipeline.proofs.StateKinds.{kinds_kept, as_many}
 use Rattle.pipeline.proofs.Feeding.{record_none, record_one, one_fed}
 use Rattle.pipeline.proofs.Pipeline.feed_token.Goals as goal
 
@@ -35,3 +36,12 @@ returns-clause-fed c = λ path shared.
     one_fed settings net c.args.id path c.args.token.now record_of_it c.push.new.out.items _ _ _ _
     (record_one settings path records c.args.token.now some)
     (subst (λ i. Served net c.args.state.now.states.items [] (inputs net (i ∷ [])) c.push.new.states.items c.push.new.out.items) item pushed) refl lines written
+
+pub returns-clause-states : goal.returns-clause-states
+returns-clause-states c =
+    let nodes = c.args.self.now.graph in
+    let net = network c.args.self.now in
+    rw (c.in_ok-push.ensures.served.states) (kinds_kept nodes c.args.state.now.states.items (inputs net (c.new.result ∷ [])) c.requires.states)
+
+pub push-requires : goal.push-requires
+push-requires c = as_many c.args.self.now.graph c.args.state.now.states.items c.requires.states
