@@ -1,15 +1,14 @@
 -- A text of parts is read as them.
-use Rattle.std.proofs.Common.{◌≡◌, ◌≢◌, ◌∙◌, sym, ap, refl, ℕ, ◌+◌, min, List, [], ◌∷◌, ◌++◌, length, drop, false, nat_lt, if◌then◌else◌, Ok, Err, ℤ, ◌⊎◌, inl, inr, arith, zero-add, eq-eqb}
+use Rattle.std.proofs.Common.{◌≡◌, ◌≢◌, ◌∙◌, sym, ap, refl, ℕ, ◌+◌, min, List, [], ◌∷◌, ◌++◌, length, drop, false, Ok, ℤ, ◌⊎◌, inl, inr, arith, zero-add, eq-eqb}
 use Rattle.std.proofs.Math.ListN.{length-append}
 use Rattle.std.proofs.lemmas.Bool.{le-ltb, ne_eqb}
 use Rattle.case_table.specs.Tables.{month_table}
-use Rattle.time_layout.specs.declared.fault.TimeFault.TheVariants.{Mismatch}
 use Rattle.time_layout.specs.declared.parts.Part.{Part}
 use Rattle.time_layout.specs.declared.parts.Part.TheVariants.{Literal, Year, ShortYear, Month, MonthName, Day, PaddedDay, WeekdayName, Hour, TwelveHour, Meridiem, Minute, Second, Fraction, PointFraction, Zone}
 use Rattle.time_layout.specs.declared.parts.Said.{Said}
-use Rattle.time_layout.specs.Atoms.{Reading, and_then, optional_fraction, stands, fraction}
+use Rattle.time_layout.specs.Atoms.{Reading, and_then, optional_fraction, stands}
 use Rattle.time_layout.specs.Names.{weekday_table, meridiem_table}
-use Rattle.time_layout.specs.Parts.{part_read, parts_read, layout_read, nothing_said, whole, full_year, clock_of}
+use Rattle.time_layout.specs.Parts.{part_read, parts_read, layout_read, nothing_said, full_year, clock_of}
 use Rattle.time_layout.specs.Texts.{Spells, IsTextOf, IsFraction}
 use Rattle.time_layout.proofs.Completes.{stands_is, stands_nowhere, behind, behind_one, number_reads, fraction_reads, name_reads, padded_day_reads, zone_reads}
 

@@ -1,5 +1,5 @@
 -- A text of a part is read as it.
-use Rattle.std.proofs.Common.{◌≡◌, ◌≢◌, ◌∙◌, sym, ap, refl, ℕ, zero, suc, ◌+◌, ◌-◌, ◌*◌, ◌^◌, ◌<◌, ◌≤◌, min, List, [], ◌∷◌, ◌++◌, length, take, drop, get_or, Bool, true, false, cond, nat_lt, nat_le, ◌==◌, ◌&&◌, if◌then◌else◌, Option, Some, None, Ok, Err, Result, ℤ, pos, neg_ℤ, ◌⊎◌, inl, inr, arith, append_assoc, zero-add}
+use Rattle.std.proofs.Common.{◌≡◌, ◌∙◌, sym, ap, refl, ℕ, zero, suc, ◌+◌, ◌-◌, ◌≤◌, List, [], ◌∷◌, ◌++◌, length, take, drop, get_or, Bool, true, false, cond, nat_lt, nat_le, ◌==◌, ◌&&◌, Ok, Err, ℤ, ◌⊎◌, inl, inr, arith, append_assoc}
 use Rattle.std.proofs.lemmas.Bool.{lt-ltb, le-ltb, ne_eqb, false≢true}
 use Rattle.std.proofs.Math.Seq.{take-append_seam, drop-append_seam, take-append-add, drop-drop, get_or-drop}
 use Rattle.std.proofs.Math.ListN.{length-drop, length-append}
@@ -7,12 +7,11 @@ use Rattle.std.proofs.lemmas.List.Folds.{prefix_len-append}
 use Rattle.std.proofs.lemmas.Bool.Decides.{nat_tests}
 use Rattle.std.specs.Char.{is_ascii_digit}
 use Rattle.std.specs.List.{prefix_len}
-use Rattle.time_layout.specs.declared.fault.TimeFault.{TimeFault}
 use Rattle.time_layout.specs.declared.fault.TimeFault.TheVariants.{Mismatch}
-use Rattle.case_table.specs.Rows.{Named, first_code}
+use Rattle.case_table.specs.Rows.{Named}
 use Rattle.time_layout.specs.declared.parts.Colon.{Colon}
 use Rattle.time_layout.specs.declared.parts.Colon.TheVariants.{Optional, Required}
-use Rattle.time_layout.specs.Atoms.{Reading, value_of, stands, number, fraction, name_at, padded_day, minutes_behind, offset, zone}
+use Rattle.time_layout.specs.Atoms.{Reading, stands, number, fraction, name_at, padded_day, minutes_behind, offset, zone}
 use Rattle.time_layout.specs.Texts.{AreDigits, BeginsNoDigit, IsNumber, IsFraction, IsName, IsPaddedDay, AreMinutes, IsOffset, IsZone}
 
 -- at a place where a byte stands
@@ -35,7 +34,7 @@ behind at text own rest is = sym (drop-drop (length own) at text) ∙ ap (drop (
 pub behind_one : (at : ℕ) (text : List ℕ) (first : ℕ) (rest : List ℕ) → drop at text ≡ first ∷ rest → drop (at + 1) text ≡ rest
 behind_one at text first rest is = sym (drop-drop 1 at text) ∙ ap (drop 1) is
 
-front_whole : (own rest : List ℕ) (size : ℕ) → length own ≡ size → take size (own ++ rest) ≡ own
+pub front_whole : (own rest : List ℕ) (size : ℕ) → length own ≡ size → take size (own ++ rest) ≡ own
 front_whole own rest size is = ap (λ n. take n (own ++ rest)) (sym is) ∙ take-append_seam own rest
 
 number_of_digits : (digits low high at value : ℕ) → low ≤ value → value ≤ high

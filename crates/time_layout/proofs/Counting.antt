@@ -1,9 +1,9 @@
 -- Numbers of few digits, and names that a text begins with.
-use Rattle.std.proofs.Common.{◌≡◌, ◌+◌, ◌-◌, ◌*◌, ◌^◌, ◌<◌, ◌≤◌, ◌∙◌, ap, sym, ℕ, List, [], ◌∷◌, refl, length, fold, take, drop, get_or, true, false, arith}
+use Rattle.std.proofs.Common.{◌≡◌, ◌+◌, ◌-◌, ◌*◌, ◌^◌, ◌<◌, ◌≤◌, ◌∙◌, ap, ℕ, List, [], ◌∷◌, refl, length, fold, take, drop, get_or, false, arith}
 use Rattle.std.proofs.Math.Nat.{pow-le-pow_right, mul_assoc}
 use Rattle.std.proofs.lemmas.List.{drop_all, take-append-drop}
 use Rattle.std.proofs.lemmas.Grind.{common_steps}
-use Rattle.std.proofs.lemmas.List.Sums.{common_prefix_len-drop_no, common_prefix_len-drop_yes, fold_more, fold-append}
+use Rattle.std.proofs.lemmas.List.Sums.{common_prefix_len-drop_no, fold_more, fold-append}
 use Rattle.std.specs.Char.{eq_ignore_ascii_case}
 use Rattle.time_layout.specs.Atoms.{common_fold, value_of}
 

@@ -1,6 +1,10 @@
 pub mod CompleteParts
 pub mod Completes
 pub mod Counting
+pub mod DeadEnds
+pub mod DeadForms
+pub mod DeadNames
+pub mod DeadParts
 pub mod Instants
 pub mod Prints
 pub mod SoundParts

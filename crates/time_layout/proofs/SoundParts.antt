@@ -1,5 +1,5 @@
 -- What is read is a text of the parts.
-use Rattle.std.proofs.Common.{◌≡◌, ◌≢◌, ◌∙◌, sym, ap, refl, subst, ℕ, ◌+◌, min, List, [], ◌∷◌, ◌++◌, length, drop, Bool, true, false, cond, nat_lt, Ok, Err, ℤ, ◌⊎◌, ◌↔◌, inl, inr, arith, eq-eqb, append-nil}
+use Rattle.std.proofs.Common.{◌≡◌, ◌∙◌, sym, ap, refl, subst, ℕ, ◌+◌, min, List, [], ◌∷◌, length, drop, Bool, true, false, cond, nat_lt, Ok, Err, ℤ, ◌↔◌, inl, inr, arith}
 use Rattle.std.proofs.lemmas.List.{drop_all}
 use Rattle.std.proofs.lemmas.Bool.{ltb-false, false≢true}
 use Rattle.case_table.specs.Tables.{month_table}
@@ -13,7 +13,7 @@ use Rattle.time_layout.specs.Parts.{part_read, parts_read, layout_read, nothing_
 use Rattle.time_layout.specs.Texts.{Spells, IsTextOf, IsFraction}
 use Rattle.time_layout.proofs.CompleteParts.{layout_reads}
 use Rattle.time_layout.proofs.Completes.{stands_is}
-use Rattle.time_layout.proofs.Sounds.{Between, Opened, opened, same_value, same_next, standing, wider, weaker, number_sound, fraction_sound, name_sound, padded_day_sound, zone_sound}
+use Rattle.time_layout.proofs.Sounds.{Between, opened, same_value, same_next, standing, wider, weaker, number_sound, fraction_sound, name_sound, padded_day_sound, zone_sound}
 
 -- a part's text, by what its reader read
 spelled : {A : Type 0} (part : Part) (text : List ℕ) (at : ℕ) (before said : Said) (next : ℕ) (reading : Reading A) (say : A → Said)

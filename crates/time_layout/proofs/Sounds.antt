@@ -1,24 +1,20 @@
 -- What is read at a place is a text of the part.
-use Rattle.std.proofs.Common.{◌≡◌, ◌≢◌, ◌∙◌, sym, ap, refl, ℕ, zero, suc, ◌+◌, ◌-◌, ◌*◌, ◌^◌, ◌<◌, ◌≤◌, min, List, [], ◌∷◌, ◌++◌, length, take, drop, get_or, Bool, true, false, cond, nat_lt, nat_le, ◌==◌, ◌&&◌, Option, Some, None, Ok, Err, Result, ℤ, pos, neg_ℤ, ◌⊎◌, inl, inr, arith, append_assoc, eqb}
-use Rattle.std.proofs.Math.Seq.{drop-drop, get_or-drop, get_or-take, take-take}
-use Rattle.std.proofs.Math.ListN.{length-drop, length-append, length-take}
-use Rattle.std.proofs.lemmas.List.{take-append-drop, drop_more, drop_all}
+use Rattle.std.proofs.Common.{◌≡◌, ◌≢◌, ◌∙◌, sym, ap, refl, ℕ, ◌+◌, ◌-◌, ◌*◌, ◌^◌, ◌<◌, ◌≤◌, List, [], ◌∷◌, ◌++◌, length, take, drop, get_or, Bool, true, false, cond, nat_lt, nat_le, ◌==◌, ◌&&◌, Option, Some, None, Ok, Err, ℤ, pos, neg_ℤ, ◌⊎◌, inl, inr, arith, append_assoc}
+use Rattle.std.proofs.Math.Seq.{drop-drop, get_or-take, take-take}
+use Rattle.std.proofs.Math.ListN.{length-append, length-take}
+use Rattle.std.proofs.lemmas.List.{take-append-drop, drop_more}
 use Rattle.std.proofs.lemmas.List.Sums.{prefix_len-le-length, prefix_len_is, prefix_len_passes, prefix_len_stops, prefix_len-drop_no, prefix_len-drop_all}
 use Rattle.std.proofs.lemmas.List.Folds.{length-prefix_len}
-use Rattle.std.proofs.lemmas.Bool.{lt-ltb, le-ltb, ltb-true, ltb-false, leb-true, eqb-true, eqb-false, cases_lt, false≢true}
-use Rattle.std.proofs.lemmas.Bool.Decides.{nat_tests}
-use Rattle.std.proofs.lemmas.Grind.{common_steps}
+use Rattle.std.proofs.lemmas.Bool.{ltb-true, ltb-false, leb-true, eqb-true, eqb-false, cases_lt, false≢true}
 use Rattle.std.specs.Char.{is_ascii_digit}
 use Rattle.std.specs.List.{prefix_len}
 use Rattle.std.specs.Str.{str_eq_ignore_ascii_case}
 use Rattle.case_table.specs.Rows.{Named, first_code}
-use Rattle.time_layout.specs.declared.fault.TimeFault.{TimeFault}
 use Rattle.time_layout.specs.declared.fault.TimeFault.TheVariants.{Mismatch}
 use Rattle.time_layout.specs.declared.parts.Colon.{Colon}
 use Rattle.time_layout.specs.declared.parts.Colon.TheVariants.{Optional, Required}
 use Rattle.time_layout.specs.Atoms.{Reading, and_then, value_of, stands, number, fraction, code_at, named_or, name_at, reach, padded_day, minutes_behind, offset, zone}
 use Rattle.time_layout.specs.Texts.{AreDigits, BeginsNoDigit, IsNumber, IsFraction, IsName, IsPaddedDay, AreMinutes, IsOffset, IsZone}
-use Rattle.time_layout.proofs.Completes.{stands_is, stands_nowhere}
 
 -- a text between two places, of which something holds
 pub record Between (text : List ℕ) (at next : ℕ) (Holds : List ℕ → Type 0) : Type 0 where
@@ -44,7 +40,7 @@ pub same_next : {A : Type 0} (a b : A) (m n : ℕ) → ◌≡◌ {A = Reading A}
 unfolding next_or
 same_next {A} a b m n is = let f : Reading A → ℕ = next_or m in ap f is
 
-both : (a b : Bool) → a && b ≡ true → (a ≡ true) × (b ≡ true)
+pub both : (a b : Bool) → a && b ≡ true → (a ≡ true) × (b ≡ true)
 both true b is = (refl, is)
 both false b is = absurd (false≢true is)
 

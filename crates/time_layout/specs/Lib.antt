@@ -1,4 +1,5 @@
 pub mod Atoms
+pub mod DeadEnds
 pub mod Drafts
 pub mod Epoch
 pub mod Instant

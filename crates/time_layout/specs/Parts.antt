@@ -1,5 +1,5 @@
 -- The parts of a layout, one after another along a text.
-use Rattle.std.specs.Prelude.{ℕ, ◌+◌, min, List, [], ◌∷◌, length, ◌==◌, nat_lt, if◌then◌else◌, ℤ, Result, Ok, Err}
+use Rattle.std.specs.Prelude.{ℕ, ◌+◌, min, List, [], ◌∷◌, length, ◌==◌, nat_lt, if◌then◌else◌, ℤ, Ok, Err}
 use Rattle.case_table.specs.Tables.{month_table}
 use Rattle.time_layout.specs.declared.fault.TimeFault.TheVariants.{Mismatch}
 use Rattle.time_layout.specs.declared.parts.Part.{Part}

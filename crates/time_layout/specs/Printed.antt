@@ -1,5 +1,5 @@
 -- A time as a text of a layout.
-use Rattle.std.specs.Prelude.{◌≡◌, ◌≢◌, ℕ, zero, suc, ◌+◌, ◌/◌, ◌%◌, ◌<◌, ◌≤◌, List, [], ◌∷◌, ◌++◌, codes, ◌==◌, nat_lt, if◌then◌else◌, ℤ, pos, negsuc, nat_abs, ⊤}
+use Rattle.std.specs.Prelude.{◌≡◌, ◌≢◌, ℕ, zero, suc, ◌+◌, ◌/◌, ◌%◌, ◌<◌, ◌≤◌, List, [], ◌∷◌, ◌++◌, ◌==◌, nat_lt, if◌then◌else◌, ℤ, pos, negsuc, nat_abs, ⊤}
 use Rattle.case_table.specs.Rows.{Named}
 use Rattle.case_table.specs.Tables.{month_table}
 use Rattle.jiff_core.specs.Calendar.{days_from_civil, weekday_number}

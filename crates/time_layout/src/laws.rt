@@ -1,9 +1,11 @@
 // What the definitions imply.
-ghost use Rattle.std.specs.Prelude.{◌≡◌, ◌↔◌, ℕ, ℤ, List, length, Ok, Result};
+ghost use Rattle.std.specs.Prelude.{◌≡◌, ◌↔◌, ℕ, ℤ, List, length, Ok, Err, Result};
 ghost use Rattle.time_layout.specs.declared.parts.Part.{Part as part};
 ghost use Rattle.time_layout.specs.declared.parts.Said.{Said as saying};
 ghost use Rattle.time_layout.specs.declared.fault.TimeFault.{TimeFault};
+ghost use Rattle.time_layout.specs.declared.fault.TimeFault.TheVariants.{Mismatch};
 ghost use Rattle.time_layout.specs.Atoms.{Reading};
+ghost use Rattle.time_layout.specs.DeadEnds.{StopsAt};
 ghost use Rattle.time_layout.specs.Instant.{IsTimeOf};
 ghost use Rattle.time_layout.specs.Parts.{layout_read, nothing_said};
 ghost use Rattle.time_layout.specs.Printed.{CanTellBy, told_by, printed};
@@ -25,4 +27,12 @@ pub fn printed_texts_read_back()
     ensures { (parts : List part) (location : ℤ) (said : saying) → CanTellBy parts said
         → told_by parts said (nothing_said location) ≡ said
         → layout_read parts location (printed parts said) ≡ Ok (said, length (printed parts said)) }
+{}
+
+/// Where a text is refused it can't go on: no text that begins with its bytes up to and with that one is of the layout.
+/// Where that byte is a digit it may be the first of two that are no number of the part, and then no text that begins
+/// with both is.
+pub fn refused_texts_stop_there()
+    ensures { (parts : List part) (location : ℤ) (text : List ℕ) (at : ℕ) → layout_read parts location text ≡ Err (Mismatch at)
+        → StopsAt parts location text at }
 {}

@@ -1,4 +1,4 @@
-use Rattle.std.proofs.Common.{sym, ◌∙◌, arith}
+use Rattle.std.proofs.Common.{sym, ◌∙◌}
 use Rattle.time_layout.proofs.Counting.{parts_here, over_here}
 use Rattle.time_layout.proofs.atoms.common_length.Goals as goal
 use Rattle.time_layout.proofs.atoms.common_length.Goals.{then-i-text-via-then-i-text, then-i-text-via-else-i-text+then-not-eq_ignore_ascii_case}

@@ -1,4 +1,4 @@
-use Rattle.std.proofs.Common.{◌≡◌, ◌+◌, ◌-◌, ◌*◌, ap, subst, arith}
+use Rattle.std.proofs.Common.{arith}
 use Rattle.time_layout.proofs.Counting.{past_here}
 use Rattle.time_layout.proofs.epoch.count_of.Goals as goal
 
