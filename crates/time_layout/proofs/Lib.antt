@@ -6,6 +6,8 @@ pub mod DeadForms
 pub mod DeadNames
 pub mod DeadParts
 pub mod Instants
+pub mod Layouts
+pub mod Letters
 pub mod Prints
 pub mod SoundParts
 pub mod Sounds

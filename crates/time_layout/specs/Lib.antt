@@ -5,6 +5,7 @@ pub mod Epoch
 pub mod Instant
 pub mod Iso
 pub mod LayoutFaults
+pub mod LayoutGrammar
 pub mod LayoutText
 pub mod Meaning
 pub mod Names
