@@ -1,16 +1,16 @@
 -- The reader reads every text of the grammar.
-use Rattle.std.proofs.Common.{◌≡◌, ℕ, zero, suc, ◌+◌, ◌*◌, ◌==◌, List, [], ◌∷◌, ◌++◌, ◌∙◌, ap, sym, refl, subst, Option, None, Some, Bool, true, false, ◌&&◌, ◌||◌, cond, codes, append_assoc, eqb-true, arith}
+use Rattle.std.proofs.Common.{◌≡◌, ℕ, suc, ◌+◌, ◌*◌, ◌==◌, List, [], ◌∷◌, ◌++◌, ◌∙◌, ap, sym, refl, subst, Option, None, Some, Bool, true, false, ◌&&◌, ◌||◌, cond, append_assoc, eqb-true, arith}
 use Rattle.std.proofs.lemmas.Bool.Decides.{nat_tests}
 use Rattle.std.proofs.lemmas.List.{append-nil}
 use Rattle.std.specs.List.{list_all}
-use Rattle.entry_model.specs.Datum.{Datum, null, boolean, text, list, fields, items_of, members_of, no_items, no_members}
+use Rattle.entry_model.specs.Datum.{Datum, text, list, fields, items_of, members_of}
 use Rattle.json_text.specs.declared.content.Piece.{Piece}
 use Rattle.json_text.specs.declared.content.Piece.TheVariants as piece
 use Rattle.json_text.specs.declared.number.Part.{Part}
 use Rattle.json_text.specs.declared.number.Part.TheVariants as part
-use Rattle.json_text.specs.Bytes.{is_blank, is_digit, is_digit_from_one, is_power_mark, is_sign, is_plain, escaped, hex_value}
+use Rattle.json_text.specs.Bytes.{is_blank, is_digit, is_digit_from_one, is_power_mark, is_sign, is_plain, escaped}
 use Rattle.json_text.specs.Grammar.{IsUnit, no_digits, a_digit, IsContent, a_quote, a_plain, an_escape, a_unit, Member, put_all, IsValue, blank_value, is_null, is_true, is_false, is_number, is_text, is_list, is_map, IsFirstItem, blank_item, no_item, first_item, IsNextItem, blank_next, last_item, next_item, IsFirstMember, blank_first, no_member, first_member, IsMember, blank_name, a_name, IsNamed, blank_colon, a_colon, IsNextMember, blank_member, last_member, next_member, IsText}
-use Rattle.json_text.specs.Machine.{Content, no_content, with_piece, text_so_far, Role, a_value, a_key, Phase, wants_value, opened_list, opened_map, has_value, wants_name, has_name, in_word, in_number, in_text, in_escape, in_unit, Frame, in_list, in_map, State, state, Move, goes, stops, sinks, put, opens, next_part, can_end, number_step, value_step, list_step, name_step, map_step, colon_step, after_step, word_on, word_step, digits_step, text_read, text_step, meant_step, escape_step, unit_phase, hex_step, step_from, step, value_in, value_at, start}
+use Rattle.json_text.specs.Machine.{Content, no_content, with_piece, text_so_far, Role, a_value, a_key, wants_value, opened_list, opened_map, has_value, wants_name, has_name, in_number, in_text, in_escape, in_unit, Frame, in_list, in_map, State, state, Move, goes, stops, sinks, put, next_part, can_end, number_step, value_step, after_step, text_read, meant_step, unit_phase, hex_step, step, value_in, start}
 use Rattle.json_text.specs.Numbers.{IsPowerDigits, power_digit, power_ends, IsPowerValue, power_value, IsPower, power_sign, no_power_sign, IsExponent, exponent, no_exponent, IsFractionDigits, fraction_digit, fraction_ends, IsFractionValue, fraction_value, IsFraction, point, no_fraction, IsWholeDigits, whole_digit, whole_ends, IsUnsigned, from_zero, from_one, IsNumber, minus, unsigned, number_of}
 use Rattle.json_text.specs.Pieces.{text_of}
 use Rattle.json_text.proofs.Running.{run, moved}

@@ -1,17 +1,17 @@
 -- Each text has one value or one leftmost fault.
-use Rattle.std.proofs.Common.{◌≡◌, ◌≢◌, ℕ, zero, suc, ◌+◌, ◌<◌, ◌≤◌, ◌⊎◌, inl, inr, List, [], ◌∷◌, ◌++◌, ◌∙◌, ap, sym, refl, subst, Option, None, Some, length, take, drop, get_or, append_assoc, length-append, arith}
-use Rattle.std.proofs.lemmas.List.{append-nil, take_at, take-take, take-append-drop, get_or_at, length-take}
+use Rattle.std.proofs.Common.{◌≡◌, ◌≢◌, ℕ, ◌+◌, ◌<◌, ◌≤◌, ◌⊎◌, List, [], ◌∷◌, ◌++◌, ◌∙◌, ap, sym, refl, subst, Option, None, Some, length, take, drop, append_assoc, length-append, arith}
+use Rattle.std.proofs.lemmas.List.{append-nil, take_at, take-take, take-append-drop, get_or_at}
 use Rattle.entry_model.specs.Datum.{Datum}
 use Rattle.json_text.specs.declared.fault.JsonFault.{JsonFault}
 use Rattle.json_text.specs.declared.fault.JsonFault.TheVariants.{Syntax, TooDeep, Memory}
 use Rattle.json_text.specs.Fault.{IsSyntaxFault, IsDepthFault, IsFault}
 use Rattle.json_text.specs.Grammar.{IsText}
 use Rattle.json_text.specs.Leftmost.{Begins, IsLeftmostFault}
-use Rattle.json_text.specs.Machine.{State, Move, goes, stops, sinks, step, value_at, start, Outcome, reads, syntax_at, too_deep_at, outcome, followed, ended}
+use Rattle.json_text.specs.Machine.{State, Move, goes, stops, sinks, step, value_at, start, reads, syntax_at, too_deep_at, outcome, followed, ended}
 use Rattle.json_text.proofs.Complete.{complete_text}
 use Rattle.json_text.proofs.Running.{run, after, moved, run_past, read_is_run}
 use Rattle.json_text.proofs.Sound.{sound_text}
-use Rattle.json_text.proofs.Viable.{Viable, viable}
+use Rattle.json_text.proofs.Viable.{viable}
 use Rattle.json_text.proofs.Wider.{wider, step_stops, step_sinks, step_sinks_at, run_wider, after_wider}
 
 -- ---- one fault at most, whatever is spelled

@@ -9,3 +9,4 @@ pub mod Faults
 pub mod Places
 pub mod Steps
 pub mod Values
+pub mod ReadsBack

@@ -1,17 +1,16 @@
 -- Reading on from a place of a text.
-use Rattle.std.proofs.Common.{◌≡◌, ℕ, zero, suc, ◌+◌, ◌<◌, ◌≤◌, List, [], ◌∷◌, ◌++◌, ◌∙◌, ap, sym, refl, subst, Option, None, Some, Bool, true, false, ◌&&◌, cond, length, drop, get_or, take, take_while, slice_range, nat_lt, ◌-◌, ◌==◌, Result, Ok, Err, append_assoc, arith, ltb-true, ltb-false, eqb-true, lt-ltb}
+use Rattle.std.proofs.Common.{◌≡◌, ℕ, suc, ◌+◌, ◌<◌, ◌≤◌, List, [], ◌∷◌, ◌∙◌, ap, sym, refl, None, Bool, true, false, ◌&&◌, cond, length, drop, get_or, take, take_while, slice_range, nat_lt, ◌-◌, ◌==◌, Result, Ok, Err, append_assoc, arith, ltb-true, ltb-false, eqb-true, lt-ltb}
 use Rattle.std.proofs.lemmas.List.{drop_more, drop_all, drop-drop, get_or-drop, length-drop}
 use Rattle.std.proofs.lemmas.List.Folds.{length-prefix_len}
 use Rattle.std.proofs.lemmas.List.Sums.{prefix_len-le-length, prefix_len_stops}
 use Rattle.std.specs.List.{prefix_len}
-use Rattle.entry_model.specs.Datum.{Datum}
 use Rattle.json_text.specs.declared.content.Piece.TheVariants as piece
 use Rattle.json_text.specs.declared.fault.JsonFault.{JsonFault}
 use Rattle.json_text.specs.declared.fault.JsonFault.TheVariants.{Syntax, TooDeep, Memory}
 use Rattle.json_text.specs.Bytes.{is_blank, is_plain}
-use Rattle.json_text.specs.Machine.{State, state, Move, goes, stops, sinks, step, value_at, Outcome, reads, syntax_at, too_deep_at, outcome, followed, ended, Content, with_piece, with_run, text_so_far, Role, Frame, in_text}
+use Rattle.json_text.specs.Machine.{State, state, goes, stops, sinks, step, value_at, Outcome, syntax_at, too_deep_at, outcome, followed, ended, Content, with_piece, with_run, text_so_far, Role, Frame, in_text}
 use Rattle.json_text.specs.Reads.{Leads, Refuses, Reads, past_blanks, text_from}
-use Rattle.json_text.proofs.Complete.{if_true, if_false}
+use Rattle.json_text.proofs.Complete.{if_true}
 
 -- ---- one byte
 

@@ -1,7 +1,7 @@
 -- Values that are reached, whatever their places.
-use Rattle.std.proofs.Common.{◌≡◌, ℕ, ◌+◌, List, [], ◌∷◌, ◌++◌, ◌∙◌, ap, sym, refl, subst, Option, None, Some}
+use Rattle.std.proofs.Common.{◌≡◌, ℕ, ◌+◌, List, [], ◌∷◌, ◌++◌, ◌∙◌, ap, refl, Option, None, Some}
 use Rattle.entry_model.specs.Datum.{Datum}
-use Rattle.json_text.specs.Machine.{State, Move, goes, stops, sinks, step, value_at, Outcome, reads, syntax_at, too_deep_at, outcome, followed, ended}
+use Rattle.json_text.specs.Machine.{State, Move, goes, stops, sinks, step, value_at, reads, outcome, followed, ended}
 
 abbrev pub moved : {A : Type 0} → (State → Option A) → Move → Option A
 moved next (goes s) = next s

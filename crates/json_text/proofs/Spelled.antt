@@ -1,10 +1,10 @@
 -- Pieces that are read one by one spell what all of them spell.
-use Rattle.std.proofs.Common.{◌≡◌, ℕ, List, [], ◌∷◌, ◌++◌, ◌∙◌, ap, sym, refl, Option, None, Some, Bool, true, false, ◌&&◌, append_assoc, cond}
+use Rattle.std.proofs.Common.{◌≡◌, ℕ, List, [], ◌∷◌, ◌++◌, ◌∙◌, sym, refl, Option, None, Some, Bool, true, false, ◌&&◌, append_assoc, cond}
 use Rattle.std.proofs.lemmas.List.{append-nil}
 use Rattle.std.specs.Char.Utf16.{is_high_surrogate, is_low_surrogate}
 use Rattle.json_text.specs.declared.content.Piece.{Piece}
 use Rattle.json_text.specs.declared.content.Piece.TheVariants as piece
-use Rattle.json_text.specs.Machine.{Content, no_content, text_so_far, with_piece, with_unit}
+use Rattle.json_text.specs.Machine.{Content, no_content, text_so_far}
 use Rattle.json_text.specs.Pieces.{text_of, lone_unit, pair_of_units}
 use Rattle.json_text.proofs.Completions.{with_pieces}
 

@@ -1,28 +1,28 @@
 -- What single steps of the reader's functions do.
-use Rattle.std.proofs.Common.{◌≡◌, ℕ, ℤ, pos, negsuc, zero, suc, ◌+◌, ◌-◌, ◌*◌, ◌^◌, ◌<◌, ◌≤◌, ◌⊎◌, inl, inr, List, [], ◌∷◌, ◌++◌, ◌∙◌, ap, sym, refl, subst, Option, None, Some, Bool, true, false, ◌&&◌, cond, length, drop, take, get_or, nat_lt, nat_le, ◌==◌, Result, Ok, Err, arith, encode_utf8, SomeIff, MatchOption, IsSome, IsAscii, slice_range, IfOk, IfErr, lt-ltb, ltb-true, ltb-false, eq-eqb}
+use Rattle.std.proofs.Common.{◌≡◌, ℕ, ℤ, pos, negsuc, zero, suc, ◌+◌, ◌-◌, ◌*◌, ◌<◌, ◌≤◌, inl, inr, List, [], ◌∷◌, ◌++◌, ◌∙◌, ap, sym, refl, subst, Option, None, Some, Bool, true, false, ◌&&◌, cond, length, drop, take, get_or, nat_lt, nat_le, ◌==◌, arith, encode_utf8, SomeIff, MatchOption, IsSome, IsAscii, slice_range, lt-ltb, ltb-true, ltb-false, eq-eqb}
 use Rattle.std.proofs.lemmas.List.{drop_more, take_more, get_or-drop, get_or-take, length-drop}
 use Rattle.json_text.specs.declared.number.Part.{Part}
 use Rattle.json_text.specs.declared.number.Part.TheVariants as part
 use Rattle.std.proofs.lemmas.Bool.Decides.{nat_tests}
 use Rattle.std.proofs.lemmas.Str.Parse.{IsNumeralModel, numerals_by_value, tells_all_ascii_digits}
 use Rattle.std.specs.Char.{IsScalar, InScalarRange, OutOfScalarRange}
-use Rattle.std.specs.Char.Utf16.{is_high_surrogate, is_low_surrogate, surrogate_pair_char, lone_unit_char}
+use Rattle.std.specs.Char.Utf16.{is_high_surrogate, is_low_surrogate, surrogate_pair_char}
 use Rattle.std.specs.Option.{unwrap_or}
 use Rattle.std.specs.Str.{all_ascii_digits, IsUtf8, IsCharBoundary}
 use Rattle.std.specs.Char.{digit_value}
 use Rattle.std.proofs.lemmas.Str.{IsCharBoundary-before_ascii, IsCharBoundary-after_ascii, IsCharBoundary-end}
-use Rattle.std.specs.Str.Parse.{ParsesSigned, IsNumeral, without_leading_sign, signed_digits_value, digits_value}
+use Rattle.std.specs.Str.Parse.{IsNumeral, without_leading_sign, signed_digits_value, digits_value}
 use mir.Syntax.{w64}
 use mir.Val.{SFits}
 use Rattle.entry_model.specs.Datum.{Datum, int, text as text_datum}
 use Rattle.json_text.specs.Bytes.{is_blank, is_plain, hex_value, escaped}
 use Rattle.json_text.specs.declared.content.Piece.TheVariants as piece
 use Rattle.json_text.specs.Numbers.{is_whole, fits_64_bits, number_of}
-use Rattle.json_text.specs.Machine.{State, state, goes, stops, step, value_in, outcome, followed, ended, syntax_at, Content, no_content, text_so_far, with_run, unit_phase, hex_step, with_piece, meant_step, escape_step, in_escape, in_text, Frame, in_number, has_value, next_part, can_end, number_step, after_step}
+use Rattle.json_text.specs.Machine.{State, state, goes, stops, step, value_in, outcome, followed, ended, syntax_at, Content, no_content, text_so_far, with_run, unit_phase, hex_step, with_piece, meant_step, Frame, in_number, has_value, next_part, can_end, number_step, after_step}
 use Rattle.json_text.specs.Pieces.{lone_unit, pair_of_units}
-use Rattle.json_text.specs.Reads.{IsBehindAscii, text_read_as, Leads, Refuses, Reads, past_blanks, Wanting, AroundText, Around, text_from, piece_from, word_from, number_from, behind, part_at}
+use Rattle.json_text.specs.Reads.{IsBehindAscii, text_read_as, Leads, past_blanks, Wanting, AroundText, Around, text_from, piece_from, word_from, number_from, behind, part_at}
 use Rattle.json_text.proofs.Complete.{if_true, if_false}
-use Rattle.json_text.proofs.Places.{blanks_lead, plain_end, plain_leads, run_end, leads_byte, then_leads, then_refuses, refuses_here, stands_true, stands_false, run_stops, outcome_byte, outcome_goes, outcome_stops, outcome_over, outcome_unfinished, outcome_stuck}
+use Rattle.json_text.proofs.Places.{blanks_lead, plain_end, plain_leads, run_end, leads_byte, then_leads, refuses_here, stands_true, stands_false, run_stops, outcome_byte, outcome_goes, outcome_stops, outcome_over, outcome_unfinished, outcome_stuck}
 
 pub blanks_to : {Around : Type 0} (text : List ℕ) (at place : ℕ) (f : Around → State) → at ≤ length text → place ≡ past_blanks text at
     → ((around : Around) (byte : ℕ) → is_blank byte ≡ true → step (f around) byte ≡ goes (f around)) → Leads text at f place f
@@ -91,7 +91,7 @@ fits_test : (z : ℤ) → SFits w64 z → fits_64_bits z ≡ true
 fits_test (pos n) f = let l = f.sfits in grind (arith, nat_tests)
 fits_test (negsuc n) f = let l = f.sfits in grind (arith, nat_tests)
 
-fits_fact : (z : ℤ) → fits_64_bits z ≡ true → SFits w64 z
+pub fits_fact : (z : ℤ) → fits_64_bits z ≡ true → SFits w64 z
 fits_fact (pos n) e = record { sfits = grind (arith, nat_tests) }
 fits_fact (negsuc n) e = record { sfits = grind (arith, nat_tests) }
 

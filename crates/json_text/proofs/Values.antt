@@ -1,5 +1,5 @@
 -- Reading values, lists and objects on from a place.
-use Rattle.std.proofs.Common.{◌≡◌, ℕ, suc, ◌+◌, ◌<◌, ◌≤◌, List, [], ◌∷◌, ◌++◌, ◌∙◌, ap, sym, refl, subst, None, Some, Bool, true, false, ◌&&◌, length, drop, get_or, map, nat_lt, ◌==◌, ◌-◌, ◌≢◌, ◌⊎◌, inl, inr, arith, ltb-true, ltb-false, ne_eqb, Result, Ok, Err, Vec, Global}
+use Rattle.std.proofs.Common.{◌≡◌, ℕ, suc, ◌+◌, ◌<◌, ◌≤◌, List, [], ◌∷◌, ◌++◌, ◌∙◌, ap, sym, refl, subst, Bool, true, false, ◌&&◌, length, drop, get_or, map, nat_lt, ◌==◌, ◌-◌, ◌≢◌, ◌⊎◌, inl, inr, arith, ltb-true, ltb-false, ne_eqb, Result, Ok, Err, Vec, Global}
 use Rattle.std.proofs.lemmas.List.{map_push}
 use Rattle.std.proofs.lemmas.Str.{IsCharBoundary-after_ascii}
 use Rattle.std.specs.Str.{IsUtf8, IsCharBoundary}
@@ -23,10 +23,10 @@ use Rattle.json_text.specs.declared.fault.JsonFault.{JsonFault}
 use Rattle.json_text.specs.declared.fault.JsonFault.TheVariants.{Syntax, TooDeep, Memory}
 use Rattle.json_text.specs.Bytes.{is_blank}
 use Rattle.json_text.specs.Grammar.{Member}
-use Rattle.json_text.specs.Machine.{State, state, Move, goes, stops, step, value_at, outcome, followed, ended, syntax_at, too_deep_at, opens, Role, a_key, a_value, no_content, in_text, wants_value, opened_list, opened_map, has_value, wants_name, has_name, Frame, in_list, in_map, after_step, list_step, map_step, name_step, put}
+use Rattle.json_text.specs.Machine.{State, state, goes, step, value_at, outcome, followed, ended, syntax_at, too_deep_at, opens, a_key, a_value, no_content, in_text, wants_value, opened_list, opened_map, has_value, wants_name, has_name, Frame, in_list, in_map, after_step, put}
 use Rattle.json_text.specs.Reads.{Leads, Refuses, Reads, Wanting, Around, AroundMember, member_from, named_as, past_blanks, value_from, value_read_as, scalar_from, word_from, number_from, behind}
 use Rattle.json_text.proofs.Complete.{if_true, if_false}
-use Rattle.json_text.proofs.Places.{leads_same, leads_byte, then_leads, then_refuses, then_reads, refuses_here, outcome_byte, outcome_stops, outcome_over, outcome_sinks, outcome_unfinished, outcome_stuck, stands_true, stands_false}
+use Rattle.json_text.proofs.Places.{leads_same, leads_byte, then_leads, then_refuses, then_reads, outcome_byte, outcome_stops, outcome_over, outcome_sinks, outcome_unfinished, outcome_stuck, stands_true, stands_false}
 use Rattle.json_text.proofs.Steps.{blanks_to, not_blank_at}
 
 module _ {A B : Type 0} (bytes : List ℕ) (at : ℕ) where

@@ -1,12 +1,12 @@
 -- From each state some bytes lead to a value.
-use Rattle.std.proofs.Common.{◌≡◌, ℕ, zero, suc, ◌+◌, ◌*◌, ◌==◌, List, [], ◌∷◌, ◌++◌, ◌∙◌, ap, refl, Option, None, Some, Bool, true, eq-eqb}
+use Rattle.std.proofs.Common.{◌≡◌, ℕ, zero, suc, ◌+◌, ◌*◌, ◌==◌, List, [], ◌∷◌, ◌++◌, ◌∙◌, ap, refl, Some, true, eq-eqb}
 use Rattle.entry_model.specs.Datum.{Datum, null, text, list, fields, items_of, members_of, no_items, no_members}
 use Rattle.json_text.specs.declared.content.Piece.TheVariants as piece
 use Rattle.json_text.specs.declared.number.Part.{Part}
 use Rattle.json_text.specs.declared.number.Part.TheVariants as part
 use Rattle.json_text.specs.Bytes.{is_plain, escaped, hex_value}
 use Rattle.json_text.specs.Grammar.{Member}
-use Rattle.json_text.specs.Machine.{Content, no_content, with_piece, text_so_far, Role, a_value, a_key, Phase, wants_value, opened_list, opened_map, has_value, wants_name, has_name, in_word, in_number, in_text, in_escape, in_unit, Frame, in_list, in_map, State, state, goes, put, can_end, word_on}
+use Rattle.json_text.specs.Machine.{Content, no_content, with_piece, text_so_far, Role, a_value, a_key, Phase, wants_value, opened_list, opened_map, has_value, wants_name, has_name, in_word, in_number, in_text, in_escape, in_unit, Frame, in_list, in_map, State, state, put, can_end, word_on}
 use Rattle.json_text.specs.Numbers.{number_of}
 use Rattle.json_text.proofs.Running.{run, moved}
 use Rattle.json_text.proofs.Complete.{if_true, ends_run}

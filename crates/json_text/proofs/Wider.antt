@@ -1,11 +1,11 @@
 -- With more levels the reader goes through the same states, and further.
-use Rattle.std.proofs.Common.{◌≡◌, ℕ, zero, suc, ◌+◌, ◌==◌, ◌⊎◌, inl, inr, List, [], ◌∷◌, ◌++◌, ◌∙◌, ap, sym, refl, Option, None, Some, Bool, true, false, cond, arith, eqb-true}
+use Rattle.std.proofs.Common.{◌≡◌, ℕ, zero, suc, ◌+◌, ◌==◌, ◌⊎◌, inl, inr, List, [], ◌∷◌, ◌++◌, ◌∙◌, ap, refl, Option, None, Some, Bool, true, false, cond, arith, eqb-true}
 use Rattle.entry_model.specs.Datum.{Datum}
 use Rattle.json_text.specs.declared.number.Part.{Part}
 use Rattle.json_text.specs.declared.number.Part.TheVariants as part
 use Rattle.json_text.specs.Bytes.{is_blank, is_plain, escaped, hex_value}
 use Rattle.json_text.specs.Grammar.{Member}
-use Rattle.json_text.specs.Machine.{Content, Role, Phase, wants_value, opened_list, opened_map, has_value, wants_name, has_name, in_word, in_number, in_text, in_escape, in_unit, Frame, in_list, in_map, State, state, Move, goes, stops, sinks, opens, next_part, can_end, number_step, value_step, list_step, name_step, map_step, colon_step, after_step, word_step, digits_step, text_step, meant_step, escape_step, hex_step, step_from, step, value_at}
+use Rattle.json_text.specs.Machine.{Content, Role, Phase, wants_value, opened_list, opened_map, has_value, wants_name, has_name, in_word, in_number, in_text, in_escape, in_unit, Frame, in_list, in_map, State, state, Move, goes, stops, sinks, opens, next_part, can_end, number_step, value_step, name_step, after_step, meant_step, hex_step, step_from, step}
 use Rattle.json_text.specs.Numbers.{number_of}
 use Rattle.json_text.proofs.Running.{run, after, moved}
 

@@ -6,3 +6,4 @@ pub mod Leftmost
 pub mod Fault
 pub mod Machine
 pub mod Reads
+pub mod Printed

@@ -1,6 +1,6 @@
 -- What a part of the reader does: what comes of the text from a place on, in whatever surroundings, is what comes of it
 -- behind what was read.
-use Rattle.std.specs.Prelude.{◌≡◌, ℕ, ◌+◌, ◌-◌, ◌<◌, ◌≤◌, Bool, true, false, not, ◌||◌, ◌==◌, List, [], ◌∷◌, ◌++◌, length, drop, slice_index, nat_lt, if◌then◌else◌, Option, Some, None, Result, Ok, Err, ⊤}
+use Rattle.std.specs.Prelude.{◌≡◌, ℕ, ◌+◌, ◌-◌, ◌<◌, ◌≤◌, true, false, ◌==◌, List, ◌∷◌, length, drop, slice_index, nat_lt, if◌then◌else◌, Option, None, Result, Ok, Err, ⊤}
 use Rattle.std.specs.List.{take_while}
 use Rattle.entry_model.specs.declared.value.Value.{Value}
 use Rattle.entry_model.specs.Datum.{Datum, datum}
@@ -9,7 +9,7 @@ use Rattle.json_text.specs.declared.fault.JsonFault.TheVariants.{Syntax, TooDeep
 use Rattle.json_text.specs.declared.number.Part.{Part}
 use Rattle.json_text.specs.Bytes.{is_blank}
 use Rattle.json_text.specs.Grammar.{Member}
-use Rattle.json_text.specs.Machine.{State, state, Content, no_content, with_piece, text_so_far, Role, wants_value, opened_list, opened_map, has_value, wants_name, in_number, in_text, in_escape, text_read, word_on, unit_phase, next_part, Frame, in_list, in_map, goes, stops, step, value_at, Outcome, syntax_at, too_deep_at, outcome}
+use Rattle.json_text.specs.Machine.{State, state, Content, Role, wants_value, has_value, wants_name, in_number, in_text, in_escape, text_read, word_on, next_part, Frame, in_map, goes, stops, step, value_at, syntax_at, too_deep_at, outcome}
 
 module _ {Around : Type 0} where
   -- reading goes from the one place to the other

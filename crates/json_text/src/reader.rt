@@ -1,5 +1,8 @@
 // Values, lists and objects (RFC 8259, sections 2 to 5).
-ghost use Rattle.std.specs.Prelude.{ℕ, ◌≡◌, ◌≢◌, ◌≤◌, ◌<◌, suc, false, [], ◌∷◌, codes, length, slice_index, IfOk, IfErr};
+ghost use Rattle.std.specs.Prelude.{ℕ, ◌≡◌, ◌≢◌, ◌≤◌, ◌<◌, suc, false, [], ◌∷◌, codes, length, slice_index, IfOk, IfErr, OnOk};
+ghost use Rattle.std.specs.BTreeMap.{insert_entry};
+ghost use Rattle.std.specs.Cmp.Lexicographic.{slice_cmp};
+ghost use Rattle.std.specs.Ordering.{nat_cmp};
 ghost use Rattle.std.specs.Str.{IsCharBoundary};
 ghost use Rattle.entry_model.specs.Datum.{Datum, datum, null as no_value, boolean as truth};
 ghost use Rattle.json_text.specs.Bytes.{is_blank};
@@ -13,7 +16,7 @@ use crate::bytes::{byte_at, expect, skip_blanks, stands};
 use crate::number::number;
 use crate::strings::string;
 use entry_model::{Fields, Text, Value, Values};
-use std::alloc::Global;
+use std::alloc::{AllocError, Global};
 
 /// How many lists and objects may be open at once.
 const MAX_LEVELS: usize = 64;
@@ -191,7 +194,7 @@ fn members(alloc: Global, text: &str, at: usize, room: usize) -> Result<(Value, 
             Ok(read) => read,
             Err(fault) => return Err(fault),
         };
-        fields.insert(name, one)?;
+        put(&mut fields, name, one)?;
         let end = skip_blanks(text, next);
         if stands(text, end, b'}') {
             return Ok((Value::Map(fields), end + 1));
@@ -201,6 +204,14 @@ fn members(alloc: Global, text: &str, at: usize, room: usize) -> Result<(Value, 
         }
         place = end + 1;
     }
+}
+
+/// Puts a member into the object. The value of an earlier one of the name goes.
+fn put(fields: &mut Fields, name: Text, value: Value) -> Result<(), AllocError>
+    ensures { OnOk result (fields.new.entries ≡ insert_entry (slice_cmp nat_cmp) fields.old.entries name value) }
+{
+    fields.insert(name, value)?;
+    Ok(())
 }
 
 /// The name of a member with its colon, and the place behind them.

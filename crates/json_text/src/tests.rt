@@ -2,10 +2,11 @@
 use crate::{JsonFault, read};
 use entry_model::{Fields, Value, Values};
 use std::alloc::{AllocError, Global};
+use std::process::Abort;
 use std::test::Fail;
 
-/// Texts, and their values as [`write_value`] writes them.
-const VALUES: [(&str, &str); 76] = [
+// Texts, and their values as [`write_value`] writes them.
+const SCALARS: [(&str, &str); 28] = [
     ("null", "null"),
     ("true", "true"),
     ("false", "false"),
@@ -37,7 +38,9 @@ const VALUES: [(&str, &str); 76] = [
     ("0e0", "'0e0'"),
     ("-1.25E+10", "'-1.25E+10'"),
     ("1e400", "'1e400'"),
-    ("[1,2.0]", "[1;'2.0';]"),
+];
+
+const STRINGS: [(&str, &str); 29] = [
     ("\"\"", "''"),
     ("\"a\"", "'a'"),
     ("\"é€😀\"", "'é€😀'"),
@@ -67,6 +70,10 @@ const VALUES: [(&str, &str); 76] = [
     ("\"\\ud83d\\ud83d\\ude00\"", "'\u{fffd}😀'"),
     ("\"\\ud83d\\ude00\\ude00\"", "'😀\u{fffd}'"),
     ("\"\u{7f}\u{2028}\"", "'\u{7f}\u{2028}'"),
+];
+
+const LISTS_AND_OBJECTS: [(&str, &str); 19] = [
+    ("[1,2.0]", "[1;'2.0';]"),
     ("[]", "[]"),
     ("[ ]", "[]"),
     ("[null]", "[null;]"),
@@ -90,8 +97,8 @@ const VALUES: [(&str, &str); 76] = [
     ),
 ];
 
-/// Texts that are no JSON, and the first byte from which each can't go on.
-const FAULTS: [(&str, usize); 77] = [
+// Texts that are no JSON, and the first byte from which each can't go on.
+const BROKEN_SCALARS: [(&str, usize); 54] = [
     ("", 0),
     (" ", 1),
     ("\t\n", 2),
@@ -146,6 +153,9 @@ const FAULTS: [(&str, usize); 77] = [
     ("\"\u{1f}\"", 1),
     ("\"a\"b", 3),
     ("\"é\u{1}\"", 3),
+];
+
+const BROKEN_LISTS_AND_OBJECTS: [(&str, usize); 23] = [
     ("[", 1),
     ("[1,", 3),
     ("[1,]", 3),
@@ -175,21 +185,54 @@ const LONG: &str =
     " {\"a\" : [ 1 , -2.5e+3 , true , null ] , \"\\u00e9\\n\" : { \"b\" : \"x\\ud83d\\ude00y\" } , \"c\" : false }";
 
 #[test]
-fn reads_what_the_grammar_says(rt: HostRuntime) -> Result<(), Fail> {
-    let alloc = rt.alloc();
-    for (text, expected) in VALUES {
+fn reads_scalars(rt: HostRuntime) -> Result<(), Fail> {
+    check_values(&rt, rt.alloc(), &SCALARS)
+}
+
+#[test]
+fn reads_strings(rt: HostRuntime) -> Result<(), Fail> {
+    check_values(&rt, rt.alloc(), &STRINGS)
+}
+
+#[test]
+fn reads_lists_and_objects(rt: HostRuntime) -> Result<(), Fail> {
+    check_values(&rt, rt.alloc(), &LISTS_AND_OBJECTS)
+}
+
+fn check_values(rt: &impl Abort, alloc: Global, table: &[(&str, &str)]) -> Result<(), Fail> {
+    for (text, expected) in table {
         let mut written = String::new(alloc);
         let value = read(alloc, text)?;
         write_value(alloc, &value, &mut written)?;
-        assert_eq!(rt; written.as_str(), expected, "{text}");
+        assert_eq!(rt; written.as_str(), *expected, "{text}");
     }
-    for (text, at) in FAULTS {
+    Ok(())
+}
+
+#[test]
+fn names_faults_in_scalars(rt: HostRuntime) -> Result<(), Fail> {
+    check_faults(&rt, rt.alloc(), &BROKEN_SCALARS)
+}
+
+#[test]
+fn names_faults_in_lists_and_objects(rt: HostRuntime) -> Result<(), Fail> {
+    check_faults(&rt, rt.alloc(), &BROKEN_LISTS_AND_OBJECTS)
+}
+
+fn check_faults(rt: &impl Abort, alloc: Global, table: &[(&str, usize)]) -> Result<(), Fail> {
+    for (text, at) in table {
         assert_eq!(rt;
             fault_of(read(alloc, text)),
-            Some(JsonFault::Syntax { at }),
+            Some(JsonFault::Syntax { at: *at }),
             "{text}"
         );
     }
+    Ok(())
+}
+
+#[test]
+fn names_the_end_of_each_front(rt: HostRuntime) -> Result<(), Fail> {
+    let alloc = rt.alloc();
     for at in 0..LONG.len() {
         if let Some(front) = LONG.get(..at) {
             assert_eq!(rt;

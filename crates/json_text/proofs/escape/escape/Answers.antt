@@ -1,10 +1,9 @@
-use Rattle.std.proofs.Common.{◌≡◌, ◌+◌, ◌==◌, false, ne_eqb, arith}
-use Rattle.json_text.specs.declared.content.Piece.TheVariants as piece
+use Rattle.std.proofs.Common.{◌≡◌, ◌+◌, ne_eqb, arith}
 use Rattle.json_text.specs.Machine.{state, unit_phase, with_piece}
 use Rattle.json_text.specs.Reads.{AroundText, piece_from, text_from}
 use Rattle.json_text.proofs.Places.{then_reads}
 use Rattle.json_text.proofs.Steps.{escape_ends, escape_of_unit, escape_of_byte, escape_stops, escaped_low}
-use Rattle.std.proofs.Common.{sym, ◌∙◌, ◌-◌, Some, ◌<◌, get_or, subst, ℕ}
+use Rattle.std.proofs.Common.{sym, ◌∙◌, ◌-◌, ◌<◌, get_or, subst, ℕ}
 use Rattle.json_text.proofs.escape.escape.Goals as goal
 
 pub returns-in_default-clause-reads : goal.returns-in_default-clause-reads

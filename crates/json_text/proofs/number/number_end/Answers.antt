@@ -1,4 +1,4 @@
-use Rattle.std.proofs.Common.{◌≡◌, ◌∙◌, ◌+◌, sym, arith}
+use Rattle.std.proofs.Common.{◌∙◌, sym, arith}
 use Rattle.json_text.proofs.Steps.{number_goes, number_ends, number_stops}
 use Rattle.std.proofs.Common.{slice_range}
 use Rattle.json_text.proofs.number.number_end.Goals as goal

@@ -1,12 +1,12 @@
 use Rattle.std.proofs.Common.{ℕ, suc, ◌≡◌, ◌∙◌, ◌+◌, ◌-◌, ◌≤◌, ◌<◌, ◌∷◌, [], List, map, length, subst, sym, ap, inl, inr, false, rules, arith}
 use Rattle.std.proofs.lemmas.List.{map_push}
-use Rattle.entry_model.specs.Datum.{Datum, datum, list, fields, items_of, members_of, no_items, no_members}
+use Rattle.entry_model.specs.Datum.{Datum, datum}
 use Rattle.entry_model.specs.Seen.{seen}
-use Rattle.json_text.specs.Machine.{State, state, wants_value, wants_name, opened_list, opened_map, has_value, Frame, in_list, in_map, put}
+use Rattle.json_text.specs.Machine.{state, wants_value, wants_name, opened_list, opened_map, Frame, in_list, in_map}
 use Rattle.json_text.specs.Grammar.{Member}
-use Rattle.json_text.specs.Reads.{Leads, AroundMember, value_from, value_read_as, member_from, named_as}
-use Rattle.json_text.proofs.Places.{stands_true, then_leads, then_refuses, then_reads}
-use Rattle.json_text.proofs.Values.{leads_through, refuses_through, list_closed, list_goes_on, list_stops, map_closed, map_goes_on, map_stops, list_empty, map_empty, list_begun, map_begun, pushed, seen_put, map_put, no_items_in, no_members_in, reads_as, named, value_missing, value_too_deep, value_is_list, value_is_map, value_is_scalar}
+use Rattle.json_text.specs.Reads.{Leads, AroundMember, value_from, value_read_as, member_from}
+use Rattle.json_text.proofs.Places.{stands_true, then_refuses, then_reads}
+use Rattle.json_text.proofs.Values.{refuses_through, list_closed, list_goes_on, list_stops, map_closed, map_goes_on, map_stops, list_empty, map_empty, list_begun, map_begun, pushed, seen_put, map_put, no_items_in, no_members_in, reads_as, named, value_missing, value_too_deep, value_is_list, value_is_map, value_is_scalar}
 use Rattle.json_text.proofs.Steps.{not_blank_at}
 use Rattle.json_text.specs.Bytes.{is_blank}
 use Rattle.json_text.proofs.reader.+value.Goals as goal
@@ -78,7 +78,7 @@ members-returns-in-Err-value t c =
 pub members-returns-then-stands : goal.members-returns-then-stands
 members-returns-then-stands t c =
     reads_as c.args.text.now c.args.at (c.skip_blanks-end.result + 1) (suc c.args.room) (λ frames. state (wants_name []) frames c.args.room) _ _
-    (map_put c.insert.new.self c.loop-read.fields.entries c.in-Ok.read.0 c.in-Ok-value.read.0 c.in_ok-insert.ensures.entries)
+    (map_put c.put.new.fields c.loop-read.fields.entries c.in-Ok.read.0 c.in-Ok-value.read.0 c.in_ok-put.ensures)
     (map_closed c.args.text.now c.args.at c.in-Ok.read.1 c.in-Ok-value.read.1 c.skip_blanks-end.result c.args.room (datum c.in-Ok-value.read.0) (seen c.loop-read.fields.entries) c.in-Ok.read.0
     (λ frames. state (wants_name []) frames c.args.room)
     (named c.args.text.now c.args.at c.loop-read.place c.in-Ok.read.1 c.args.room (seen c.loop-read.fields.entries) c.in-Ok.read.0 c.loop-read.invariant.leads (c.in-Ok.ensures c.args.room))
@@ -113,7 +113,7 @@ members-loop-read-preserved t c =
     record {
       within = on.1;
       leads = subst (λ (l : List Member). Leads {Around = List Frame} c.args.text.now c.args.at (λ frames. state (wants_name []) frames c.args.room) (c.skip_blanks-end.result + 1) (λ frames. state (wants_name l) frames c.args.room))
-          (seen_put c.insert.new.self.entries c.loop-read.fields.entries c.in-Ok.read.0 c.in-Ok-value.read.0 c.in_ok-insert.ensures.entries) on;
+          (seen_put c.put.new.fields.entries c.loop-read.fields.entries c.in-Ok.read.0 c.in-Ok-value.read.0 c.in_ok-put.ensures) on;
     }
 
 pub value-returns-in_default : goal.value-returns-in_default

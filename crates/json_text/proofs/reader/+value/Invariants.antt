@@ -1,5 +1,5 @@
-use Rattle.std.proofs.Common.{◌≡◌, ℕ, ◌+◌, ◌*◌, ◌-◌, ◌≤◌, List, [], ◌∷◌, length, map}
-use Rattle.entry_model.specs.Datum.{Datum, datum}
+use Rattle.std.proofs.Common.{◌+◌, ◌*◌, ◌-◌, ◌≤◌, List, [], ◌∷◌, length, map}
+use Rattle.entry_model.specs.Datum.{datum}
 use Rattle.entry_model.specs.Seen.{seen}
 use Rattle.json_text.specs.Machine.{state, wants_value, wants_name, Frame, in_list}
 use Rattle.json_text.specs.Reads.{Leads}

@@ -2,7 +2,7 @@ use Rattle.std.proofs.Common.{sym}
 use Rattle.entry_model.proofs.Data.{datum_bool}
 use Rattle.entry_model.specs.declared.value.Value.TheVariants as value
 use Rattle.entry_model.specs.Datum.{boolean, datum}
-use Rattle.json_text.specs.Reads.{Around, word_from}
+use Rattle.json_text.specs.Reads.{word_from}
 use Rattle.json_text.proofs.Values.{behind_as}
 use Rattle.json_text.proofs.reader.boolean.Goals as goal
 

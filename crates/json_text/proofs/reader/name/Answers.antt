@@ -1,5 +1,5 @@
-use Rattle.std.proofs.Common.{◌≡◌, ◌+◌, ◌<◌, ◌∙◌, ap, sym, arith, List, ℕ}
-use Rattle.json_text.specs.Machine.{State, state, wants_name, has_name, in_text, a_key, no_content}
+use Rattle.std.proofs.Common.{arith, List, ℕ}
+use Rattle.json_text.specs.Machine.{State, state, has_name, in_text, a_key, no_content}
 use Rattle.json_text.specs.Reads.{AroundMember, AroundText, Wanting, text_from, member_from, named_as, text_read_as}
 use Rattle.json_text.proofs.Places.{then_leads, then_refuses}
 use Rattle.json_text.proofs.Steps.{behind_ascii}

@@ -1,4 +1,3 @@
-use Rattle.std.proofs.Common.{◌≡◌}
 use Rattle.entry_model.specs.Datum.{datum}
 use Rattle.json_text.proofs.Values.{whole_fault, whole_value, trailing}
 use Rattle.json_text.proofs.reader.read.Goals as goal

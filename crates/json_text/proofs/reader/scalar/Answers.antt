@@ -1,6 +1,5 @@
-use Rattle.std.proofs.Common.{◌≡◌, ◌∙◌, refl, codes, true, false, arith}
+use Rattle.std.proofs.Common.{◌∙◌, refl, codes, true, false, arith}
 use Rattle.entry_model.specs.Datum.{null, boolean}
-use Rattle.json_text.proofs.Steps.{behind_ascii}
 use Rattle.json_text.proofs.Values.{scalar_is_text, scalar_is_word, scalar_is_number, behind_byte}
 use Rattle.json_text.proofs.reader.scalar.Goals as goal
 

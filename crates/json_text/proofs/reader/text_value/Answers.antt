@@ -1,4 +1,4 @@
-use Rattle.std.proofs.Common.{◌≡◌, ◌∙◌, ap, sym, drop}
+use Rattle.std.proofs.Common.{◌∙◌, ap, sym, drop}
 use Rattle.entry_model.proofs.Data.{datum_text}
 use Rattle.entry_model.specs.Datum.{Datum}
 use Rattle.json_text.specs.Machine.{outcome, no_content, a_value}

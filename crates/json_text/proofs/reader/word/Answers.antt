@@ -1,4 +1,4 @@
-use Rattle.std.proofs.Common.{◌≡◌, ◌∙◌, ◌≤◌, List, ℕ, [], drop, sym, ap, refl}
+use Rattle.std.proofs.Common.{◌≡◌, ◌∙◌, List, ℕ, [], drop, sym, ap, refl}
 use Rattle.std.proofs.lemmas.List.{drop_all}
 use Rattle.json_text.specs.Machine.{outcome}
 use Rattle.json_text.specs.Reads.{word_from}

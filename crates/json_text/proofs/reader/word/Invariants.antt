@@ -1,6 +1,6 @@
-use Rattle.std.proofs.Common.{◌≡◌, ◌≤◌, ◌+◌, length, drop}
+use Rattle.std.proofs.Common.{drop}
 use Rattle.entry_model.specs.Datum.{Datum}
-use Rattle.json_text.specs.Reads.{Leads, behind, word_from, Around}
+use Rattle.json_text.specs.Reads.{Leads, word_from, Around}
 use Rattle.json_text.proofs.reader.word.Given as goal
 
 abbrev pub invariant-loop-wanted : goal.invariant-loop-wanted

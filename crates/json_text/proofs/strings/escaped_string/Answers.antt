@@ -1,5 +1,5 @@
-use Rattle.std.proofs.Common.{◌≡◌, ◌≤◌, ◌∙◌, ◌+◌, ◌-◌, ◌<◌, sym, refl, arith, subst, length}
-use Rattle.json_text.specs.Machine.{Content, no_content, with_piece}
+use Rattle.std.proofs.Common.{◌≤◌, ◌∙◌, ◌+◌, ◌-◌, ◌<◌, sym, arith, subst, length}
+use Rattle.json_text.specs.Machine.{Content, no_content}
 use Rattle.json_text.specs.Reads.{Leads, AroundText, text_from, piece_from}
 use Rattle.json_text.proofs.Places.{then_leads, then_refuses}
 use Rattle.json_text.proofs.Steps.{plain_end_boundary, behind_ascii, run_leads, text_ends, text_refused, escape_leads}
