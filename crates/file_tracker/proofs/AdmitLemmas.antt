@@ -1,12 +1,12 @@
 -- A front is admitted: its place is put where it stands, and whether it begins another or another begins it is known.
-use Rattle.std.proofs.Common.{◌≡◌, ◌≢◌, ℕ, ◌+◌, ◌-◌, ◌<◌, ◌≤◌, Bool, true, false, true≢false, List, [], ◌∷◌, ◌++◌, length, refl, sym, ap, subst, inl, inr, ◌⊎◌, ◌∙◌, arith, slice_index, get_or, if◌then◌else◌, nat_lt, MatchBool}
+use Rattle.std.proofs.Common.{◌≡◌, ℕ, ◌+◌, ◌-◌, ◌<◌, ◌≤◌, Bool, true, false, true≢false, List, [], ◌∷◌, ◌++◌, length, refl, sym, ap, inl, inr, ◌∙◌, arith, slice_index, if◌then◌else◌, nat_lt, MatchBool}
 use Rattle.std.proofs.lemmas.Bool.{cases_lt, cases_eq, lt-ltb, ltb-true}
 use Rattle.std.proofs.lemmas.Bool.Decides.{nat_tests}
 use Rattle.std.proofs.lemmas.List.{get_or_append_left, get_or_push, length_push}
 use Rattle.std.proofs.lemmas.List.Edits.{length-insert, get_or-insert_below, get_or-insert_at, get_or-insert_above}
 use Rattle.std.specs.List.{insert}
 use Rattle.file_tracker.specs.Fronts.{begins, front_at, ArePrefixFree}
-use Rattle.file_tracker.specs.Order.{IsAtMost, IsAbove, front_in, ArePlaces, Ascends, StandsBetween, IsIndex}
+use Rattle.file_tracker.specs.Order.{IsAtMost, front_in, ArePlaces, Ascends, StandsBetween, IsIndex}
 use Rattle.file_tracker.proofs.FrontLemmas.{above_is_over}
 use Rattle.file_tracker.proofs.FreeLemmas.{free_by_neighbours}
 use Rattle.file_tracker.proofs.OrderLemmas.{StandsAt, stands_at, places_inserted}

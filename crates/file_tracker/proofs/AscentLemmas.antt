@@ -1,15 +1,12 @@
 -- The fronts stay in order: with a place put in, with one that moves behind lesser fronts, and with a front that grows.
-use Rattle.std.proofs.Common.{◌≡◌, ◌≢◌, ℕ, ◌+◌, ◌-◌, ◌<◌, ◌≤◌, Bool, true, false, true≢false, List, [], ◌∷◌, ◌++◌, length, refl, sym, ap, subst, inl, inr, ◌⊎◌, ◌∙◌, arith, slice_index, set, get_or, get_or-set_same, get_or-set_other, length-append, if◌then◌else◌, nat_lt, ◌||◌, MatchBool}
+use Rattle.std.proofs.Common.{◌≡◌, ◌≢◌, ℕ, ◌+◌, ◌-◌, ◌<◌, ◌≤◌, true, true≢false, List, [], length, sym, ap, inl, inr, ◌∙◌, arith, slice_index, set, get_or-set_same, get_or-set_other}
 use Rattle.std.proofs.lemmas.Bool.{cases_lt, cases_eq}
-use Rattle.std.proofs.lemmas.Bool.Decides.{nat_tests}
-use Rattle.std.proofs.lemmas.List.{length-set, get_or_append_left, get_or_push}
-use Rattle.std.proofs.lemmas.List.Edits.{Swapped, swapped_from_swap, length-swap, length-insert, get_or-insert_below, get_or-insert_at, get_or-insert_above}
-use Rattle.std.specs.List.{swap, insert}
+use Rattle.std.proofs.lemmas.List.Edits.{swapped_from_swap, length-swap}
+use Rattle.std.specs.List.{swap}
 use Rattle.file_tracker.specs.Fronts.{begins, front_at, ArePrefixFree}
-use Rattle.file_tracker.specs.Order.{IsAtMost, IsAbove, front_in, ArePlaces, Ascends, AscendsBefore, StandsBetween, IsIndex}
+use Rattle.file_tracker.specs.Order.{IsAtMost, IsAbove, front_in, ArePlaces, Ascends, AscendsBefore}
 use Rattle.file_tracker.proofs.FrontLemmas.{between, begun_at_most, at_most_over, at_most_or_above, above_is_over}
-use Rattle.file_tracker.proofs.FreeLemmas.{fails, apart_any, begins_neighbour, free_by_neighbours}
-use Rattle.file_tracker.proofs.OrderLemmas.{StandsAt, stands_at, places_inserted}
+use Rattle.file_tracker.proofs.FreeLemmas.{apart_any}
 
 -- ---- a front that has grown moves behind lesser ones
 

@@ -1,5 +1,5 @@
 -- What halving costs: each comparison leaves at most half of the places.
-use Rattle.std.proofs.Common.{◌≡◌, ℕ, ◌+◌, ◌*◌, ◌-◌, ◌^◌, ◌<◌, ◌≤◌, suc, refl, sym, ap, arith, add-one}
+use Rattle.std.proofs.Common.{◌≡◌, ℕ, ◌+◌, ◌*◌, ◌-◌, ◌^◌, ◌<◌, ◌≤◌, suc, refl, arith}
 use Rattle.std.proofs.Math.Nat.{pow-succ', mul-le-mul_left}
 
 -- of `count` places `width` are left, and the steps went from `from` to `now`

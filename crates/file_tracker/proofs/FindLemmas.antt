@@ -1,11 +1,11 @@
 -- What the search by the order of the fronts finds, where no front is how another begins.
-use Rattle.std.proofs.Common.{◌≡◌, ◌≢◌, ℕ, ◌+◌, ◌-◌, ◌<◌, ◌≤◌, Bool, true, false, true≢false, List, [], ◌∷◌, length, map, get_or, Option, Some, None, refl, sym, ap, subst, inl, inr, ◌∙◌, arith, slice_index, if◌then◌else◌, nat_lt, MatchBool}
+use Rattle.std.proofs.Common.{◌≡◌, ℕ, ◌-◌, ◌<◌, Bool, true, false, true≢false, List, [], ◌∷◌, length, get_or, Some, None, sym, ap, subst, ◌∙◌, arith, slice_index, nat_lt}
 use Rattle.std.proofs.lemmas.List.{length-map, get_or-map}
-use Rattle.std.proofs.lemmas.Bool.{cases_lt, cases_eq, ltb-true, lt-ltb}
+use Rattle.std.proofs.lemmas.Bool.{ltb-true, lt-ltb}
 use Rattle.file_tracker.specs.declared.row.Row.{Row}
 use Rattle.file_tracker.specs.Fronts.{begins, front_of, fronts_of, front_at, ArePrefixFree}
 use Rattle.file_tracker.specs.Places.{place_of}
-use Rattle.file_tracker.specs.Order.{front_in, ArePlaces, StandsBetween, IsIndex}
+use Rattle.file_tracker.specs.Order.{front_in, StandsBetween, IsIndex}
 use Rattle.file_tracker.proofs.AdmitLemmas.{test_true}
 use Rattle.file_tracker.proofs.FreeLemmas.{fails, tested, only_one, begun_last}
 use Rattle.file_tracker.proofs.PlaceLemmas.{position_first, position_none}

@@ -1,10 +1,10 @@
 -- When no front is how another begins.
-use Rattle.std.proofs.Common.{◌≡◌, ◌≢◌, ℕ, ◌+◌, ◌-◌, ◌<◌, ◌≤◌, Bool, true, false, true≢false, List, [], ◌∷◌, ◌++◌, length, refl, sym, ap, subst, inl, inr, ◌∙◌, arith, if◌then◌else◌, slice_index, set, get_or, get_or-set_same, get_or-set_other}
+use Rattle.std.proofs.Common.{◌≡◌, ◌≢◌, ℕ, ◌+◌, ◌-◌, ◌<◌, Bool, true, false, true≢false, List, [], length, refl, sym, ap, inl, inr, ◌∙◌, arith, if◌then◌else◌, slice_index, set, get_or-set_same, get_or-set_other}
 use Rattle.std.proofs.lemmas.Bool.{cases_lt, cases_eq}
 use Rattle.std.proofs.lemmas.List.{length-set}
 use Rattle.file_tracker.specs.Fronts.{begins, front_at, ArePrefixFree}
-use Rattle.file_tracker.specs.Order.{IsAtMost, IsAbove, front_in, ArePlaces, Ascends, StandsBetween}
-use Rattle.file_tracker.proofs.FrontLemmas.{between, begun_at_most, begins_itself, begins_through, one_begins, at_most_itself, at_most_over, above_is_over}
+use Rattle.file_tracker.specs.Order.{IsAtMost, front_in, ArePlaces, Ascends, StandsBetween}
+use Rattle.file_tracker.proofs.FrontLemmas.{between, begun_at_most, begins_itself, begins_through, one_begins, at_most_itself, at_most_over}
 
 -- a test that would contradict does not pass
 pub fails : (b : Bool) → (b ≡ true → ⊥) → b ≡ false

@@ -1,12 +1,9 @@
 -- How the order of the places changes: by an insert, by two neighbours that change places, and by a front that grows.
-use Rattle.std.proofs.Common.{◌≡◌, ◌≢◌, ℕ, ◌+◌, ◌-◌, ◌<◌, ◌≤◌, Bool, true, false, true≢false, List, [], ◌∷◌, ◌++◌, length, refl, sym, ap, subst, inl, inr, ◌⊎◌, ◌∙◌, arith, slice_index, set, get_or, get_or-set_same, get_or-set_other, length-append}
+use Rattle.std.proofs.Common.{◌≡◌, ◌≢◌, ℕ, ◌+◌, ◌-◌, ◌<◌, ◌≤◌, List, length, refl, sym, ap, inl, inr, ◌⊎◌, ◌∙◌, arith, slice_index}
 use Rattle.std.proofs.lemmas.Bool.{cases_lt, cases_eq}
-use Rattle.std.proofs.lemmas.List.{length-set, get_or_append_left, get_or_push}
-use Rattle.std.proofs.lemmas.List.Edits.{Swapped, swapped_from_swap, length-swap, length-insert, get_or-insert_below, get_or-insert_at, get_or-insert_above}
+use Rattle.std.proofs.lemmas.List.Edits.{swapped_from_swap, length-swap, length-insert, get_or-insert_below, get_or-insert_at, get_or-insert_above}
 use Rattle.std.specs.List.{swap, insert}
-use Rattle.file_tracker.specs.Fronts.{begins, front_at, ArePrefixFree}
-use Rattle.file_tracker.specs.Order.{IsAtMost, IsAbove, front_in, ArePlaces, Ascends, AscendsBefore, StandsBetween}
-use Rattle.file_tracker.proofs.FrontLemmas.{between, begun_at_most, at_most_over, at_most_or_above, above_is_over}
+use Rattle.file_tracker.specs.Order.{ArePlaces}
 use Rattle.file_tracker.proofs.FreeLemmas.{apart_any}
 
 -- ---- two neighbours change places

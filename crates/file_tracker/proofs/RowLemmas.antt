@@ -1,5 +1,5 @@
 -- One row changes, or is put behind the others.
-use Rattle.std.proofs.Common.{◌≡◌, ℕ, ◌<◌, ◌≤◌, ◌+◌, Bool, true, false, List, [], ◌∷◌, ◌++◌, length, take, drop, set, get_or, Some, refl, sym, ap, subst, ◌∙◌, arith, slice_get, if◌then◌else◌, nat_lt, MatchBool}
+use Rattle.std.proofs.Common.{◌≡◌, ℕ, ◌<◌, Bool, true, false, List, [], ◌∷◌, ◌++◌, length, take, drop, set, get_or, Some, refl, ap, subst, ◌∙◌, arith, slice_get, if◌then◌else◌, nat_lt, MatchBool}
 use Rattle.std.proofs.lemmas.List.{length-set, length-map, length_push, map-set, map_push, set-get_or, take_at}
 use Rattle.std.proofs.lemmas.Option.{get_or_from_slice_get, slice_get_read}
 use Rattle.std.specs.List.{insert}

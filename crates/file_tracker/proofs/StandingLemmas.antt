@@ -1,12 +1,12 @@
 -- One step of the search by the order of the fronts.
-use Rattle.std.proofs.Common.{◌≡◌, ℕ, ◌+◌, ◌-◌, ◌<◌, ◌≤◌, Bool, true, false, List, [], length, take, refl, sym, ap, subst, inl, inr, ◌∙◌, arith, Ordering, slice_index}
+use Rattle.std.proofs.Common.{◌≡◌, ℕ, ◌+◌, ◌-◌, ◌<◌, ◌≤◌, Bool, true, false, List, length, take, refl, sym, ap, subst, inl, inr, ◌∙◌, arith, Ordering}
 use Rattle.std.specs.Cmp.Lexicographic.{slice_cmp}
 use Rattle.std.specs.Ordering.{nat_cmp, is_gt, is_eq}
 use Rattle.std.proofs.lemmas.Bool.{cases_lt}
 use Rattle.std.proofs.lemmas.Bool.Decides.{nat_tests}
 use Rattle.file_tracker.specs.Fronts.{begins}
 use Rattle.file_tracker.specs.Order.{IsAtMost, IsAbove, front_in, Ascends, StandsBetween}
-use Rattle.file_tracker.proofs.FrontLemmas.{shortened, tied, at_most_over, above_is_over, above_under}
+use Rattle.file_tracker.proofs.FrontLemmas.{shortened, tied, at_most_over, above_under}
 
 -- before any comparison
 pub stands_anywhere : (fronts : List (List ℕ)) (order text : List ℕ) → StandsBetween fronts order text 0 (length order) false

@@ -1,7 +1,7 @@
-use Rattle.std.proofs.Common.{◌≡◌, ◌≢◌, ℕ, ◌+◌, ◌-◌, ◌<◌, List, true, false, length, slice_index, get_or, sym, ap, subst, ◌∙◌, inl, inr, arith}
+use Rattle.std.proofs.Common.{◌≡◌, ℕ, ◌+◌, ◌-◌, List, length, slice_index, get_or, sym, subst, ◌∙◌, arith}
 use Rattle.std.specs.List.{swap}
 use Rattle.file_tracker.specs.declared.row.Row.{Row}
-use Rattle.file_tracker.specs.Fronts.{begins, front_of, fronts_of, front_at}
+use Rattle.file_tracker.specs.Fronts.{front_of, fronts_of, front_at}
 use Rattle.file_tracker.specs.Order.{IsAtMost, IsAbove, front_in, ArePlaces, AscendsBefore}
 use Rattle.file_tracker.proofs.FrontLemmas.{front_read}
 use Rattle.file_tracker.proofs.OrderLemmas.{places_swapped}

@@ -1,4 +1,4 @@
-use Rattle.std.proofs.Common.{◌≡◌, ◌+◌, ◌*◌, ◌-◌, ◌/◌, ◌<◌, ◌≤◌, ℕ, Bool, length, slice_index, sym, subst, ◌∙◌, arith}
+use Rattle.std.proofs.Common.{◌+◌, ◌-◌, ◌/◌, ◌<◌, ℕ, Bool, length, slice_index, sym, subst, ◌∙◌, arith}
 use Rattle.file_tracker.specs.Fronts.{fronts_of}
 use Rattle.file_tracker.specs.Order.{StandsBetween}
 use Rattle.file_tracker.proofs.FrontLemmas.{front_read}

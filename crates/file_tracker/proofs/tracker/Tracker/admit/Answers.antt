@@ -1,8 +1,8 @@
-use Rattle.std.proofs.Common.{◌≡◌, ◌<◌, ◌≤◌, ℕ, Bool, true, false, List, ◌∷◌, [], ◌++◌, length, sym, ap, subst, inl, inr, ◌⊎◌, ◌∙◌, arith, if◌then◌else◌, nat_lt, is_ok, not}
+use Rattle.std.proofs.Common.{◌≡◌, ℕ, Bool, true, false, List, ◌∷◌, [], ◌++◌, length, sym, ap, inl, inr, ◌⊎◌, ◌∙◌, arith, if◌then◌else◌, nat_lt, is_ok, not}
 use Rattle.std.specs.List.{insert}
 use Rattle.file_tracker.specs.declared.row.Row.{Row}
 use Rattle.file_tracker.specs.Fronts.{begins, front_of, fronts_of}
-use Rattle.file_tracker.specs.Order.{front_in, StandsBetween, IsKept}
+use Rattle.file_tracker.specs.Order.{front_in, StandsBetween}
 use Rattle.file_tracker.proofs.RowLemmas.{kept_more}
 use Rattle.file_tracker.proofs.tracker.Tracker.admit.Goals as goal
 use Rattle.file_tracker.proofs.tracker.Tracker.admit.Goals.{then-standing, else-standing, then-self, else-self}

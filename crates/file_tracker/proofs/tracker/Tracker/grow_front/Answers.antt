@@ -1,9 +1,8 @@
-use Rattle.std.proofs.Common.{◌≡◌, ◌<◌, ℕ, Bool, true, false, List, length, take, drop, ◌++◌, set, get_or, Some, sym, ap, subst, ◌∙◌, arith, slice_get, slice_set, IsTrue, refl}
-use Rattle.std.proofs.lemmas.List.{take_at, length-set, length-map}
+use Rattle.std.proofs.Common.{◌≡◌, ◌<◌, ℕ, Bool, true, List, length, set, get_or, Some, sym, ap, subst, ◌∙◌, slice_get}
 use Rattle.file_tracker.specs.declared.row.Row.{Row}
-use Rattle.file_tracker.specs.Fronts.{begins, front_of, fronts_of, front_at}
+use Rattle.file_tracker.specs.Fronts.{begins, fronts_of, front_at}
 use Rattle.file_tracker.specs.Places.{with_front}
-use Rattle.file_tracker.specs.Order.{IsKept, AscendsBefore, ArePlaces, Ascends}
+use Rattle.file_tracker.specs.Order.{IsKept, ArePlaces, Ascends}
 use Rattle.file_tracker.proofs.RowLemmas.{kept_grown, kept_settled, others_grown, grown_begins, row_read}
 use Rattle.file_tracker.proofs.tracker.Tracker.grow_front.Goals as goal
 

@@ -1,0 +1,12 @@
+pub mod Fronts
+pub mod TextLemmas
+pub mod Values
+pub mod Keys
+pub mod Counts
+pub mod PutLemmas
+pub mod Numbers
+pub mod ValueLaws
+pub mod AgainLaws
+pub mod EntryLaws
+pub mod GetLemmas
+pub mod Readers

@@ -1,0 +1,11 @@
+use Rattle.std.proofs.Common.{ℕ, ◌<◌, ◌^◌, List, length}
+use Rattle.std.specs.Int.{w32, w64, to_be_bytes}
+use Rattle.state_codec.specs.Spelling.{bytes_spelling, entry_spelling}
+use Rattle.state_codec.specs.Rules.{IsReadable}
+use Rattle.state_codec.specs.Reading.{number_at, bytes_at, entry_at}
+use Rattle.state_codec.proofs.GetLemmas.{told_apart}
+use Rattle.state_codec.proofs.Readers.{entry_reader}
+use Rattle.state_codec.proofs.laws.entries_are_told.Goals as goal
+
+pub returns : goal.returns
+returns c = told_apart entry_spelling IsReadable entry_at entry_reader
