@@ -1,4 +1,5 @@
-// What readers of a front answer: a value and the bytes behind it, or where it can't go on.
+//! What readers of a front answer: a value and the bytes behind it, or where it can't go on. Spellings that are built of
+//! numbers, bytes and texts are read by these, part after part.
 ghost use Rattle.std.specs.Prelude.{◌≡◌};
 ghost use Rattle.state_codec.specs.declared.cursor.Fault.TheVariants.{Memory};
 

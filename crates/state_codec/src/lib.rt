@@ -11,12 +11,12 @@
 //! attributes and resource, a severity byte, the severity text, and a byte 0, or a byte 1 and a u64 time.
 #![tactic(auto)]
 
-mod cursor;
+pub mod cursor;
 mod entry;
 mod get;
 pub mod laws;
 mod put;
-mod read;
+pub mod read;
 #[cfg(test)]
 mod tests;
 mod value;

@@ -1,4 +1,4 @@
-// Readers of the front of some bytes: numbers, bytes, texts, values and entries.
+//! Readers of what stands at the front of some bytes: numbers, bytes and texts.
 ghost use Rattle.std.specs.Prelude.{◌≡◌, ◌+◌, ◌-◌, ◌<◌, ◌≤◌, ℕ, length, drop, map, IfErr};
 ghost use Rattle.std.specs.Int.{w32, w64};
 ghost use Rattle.state_codec.specs.Gives.{Gives};
@@ -10,6 +10,7 @@ use crate::cursor::Fault;
 use entry_model::Text;
 use std::alloc::Global;
 
+/// A number of four bytes.
 #[tactic(auto, unfolding(crate::specs::Reading::number_at))]
 pub fn read_u32(bytes: &[u8]) -> Result<(u32, &[u8]), Fault>
     ensures exact { Gives (λ x. (x.0, x.1.now)) result (number_at w32 bytes.now) }
@@ -23,6 +24,7 @@ pub fn read_u32(bytes: &[u8]) -> Result<(u32, &[u8]), Fault>
     Ok((number, rest))
 }
 
+/// A number of eight bytes.
 #[tactic(auto, unfolding(crate::specs::Reading::number_at))]
 pub fn read_u64(bytes: &[u8]) -> Result<(u64, &[u8]), Fault>
     ensures exact { Gives (λ x. (x.0, x.1.now)) result (number_at w64 bytes.now) }
@@ -38,6 +40,7 @@ pub fn read_u64(bytes: &[u8]) -> Result<(u64, &[u8]), Fault>
     Ok((number, rest))
 }
 
+/// As many bytes as the number before them says.
 #[tactic(auto, unfolding(crate::specs::Reading::bytes_at))]
 pub fn read_bytes(alloc: Global, bytes: &[u8]) -> Result<(Vec<u8>, &[u8]), Fault>
     ensures { Gives (λ x. (x.0.items, x.1.now)) result (bytes_at bytes.now) }
