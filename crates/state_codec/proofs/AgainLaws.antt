@@ -1,13 +1,12 @@
 -- What is spelled is read again, whatever follows.
-use Rattle.std.proofs.Common.{◌≡◌, ◌≢◌, ℕ, zero, suc, ◌+◌, ◌-◌, ◌^◌, ◌<◌, ◌≤◌, max, Bool, true, false, cond, eqb, List, [], ◌∷◌, ◌++◌, length, Option, Some, None, Result, Ok, Err, refl, sym, ap, subst, ◌∙◌, append_assoc, arith, true≢false}
+use Rattle.std.proofs.Common.{◌≡◌, ℕ, suc, ◌-◌, ◌^◌, ◌<◌, ◌≤◌, true, false, List, [], ◌∷◌, ◌++◌, Option, Some, None, Ok, refl, ap, ◌∙◌, append_assoc, arith}
 use Rattle.std.specs.Int.{w32, w64, to_be_bytes, cast_signed, cast_unsigned}
-use Rattle.std.specs.Prelude.{FitsSigned}
 use Rattle.std.proofs.lemmas.Int.{to_z-of_z}
 use Rattle.std.proofs.Math.Facts.{Fits-of_z}
 use Rattle.entry_model.specs.Datum.{Datum, null, boolean, int, text, list, fields, Items, no_items, item, Members, no_members, member, items_of, members_of}
 use Rattle.state_codec.specs.Spelling.{bytes_spelling, value_spelling, items_spelling, members_spelling, item_count, member_count}
-use Rattle.state_codec.specs.Rules.{IsShortText, KeysAscend, IsLawful, AreLawful, AreLawfulMembers, nesting, items_nesting, members_nesting}
-use Rattle.state_codec.specs.Reading.{DatumReader, ◌>>=◌, number_at, text_at, items_at, members_at, is_behind, list_at, map_at, leaf_at, value_at, fields_at}
+use Rattle.state_codec.specs.Rules.{KeysAscend, IsLawful, AreLawful, AreLawfulMembers, nesting, items_nesting, members_nesting}
+use Rattle.state_codec.specs.Reading.{DatumReader, number_at, text_at, items_at, members_at, is_behind, list_at, map_at, leaf_at, value_at, fields_at}
 use Rattle.state_codec.proofs.Values.{value_of_list, value_of_map, value_of_other}
 use Rattle.state_codec.proofs.Numbers.{wide32, wide64, number_again, text_again}
 use Rattle.state_codec.proofs.ValueLaws.{test_from_behind}

@@ -1,18 +1,18 @@
 -- How many values and members there are, and in which order the keys stand.
-use Rattle.std.proofs.Common.{◌≡◌, ℕ, ◌+◌, List, [], ◌∷◌, length, map, Some, None, refl, sym, ap, ◌∙◌, arith}
+use Rattle.std.proofs.Common.{◌≡◌, ℕ, List, [], ◌∷◌, length, Some, None, refl, sym, arith}
 use Rattle.std.specs.List.{AllByRecursion}
 use Rattle.std.specs.List.Sorted.{IsStrictlySortedBy}
 use Rattle.std.specs.Map.{keys_of}
 use Rattle.std.proofs.lemmas.Map.Keys.{sorted_head, sorted_tail}
 use Rattle.std.specs.declared.cmp.Ordering.TheVariants.{Less}
-use Rattle.entry_model.specs.Datum.{Datum, datum, items_of, members_of, Items, no_items, item, Members, no_members, member, fields, is_map_datum, null, boolean, int, text, list}
+use Rattle.entry_model.specs.Datum.{Datum, items_of, members_of, fields, is_map_datum, null, boolean, int, text, list}
 use Rattle.entry_model.specs.LogRecord.{members_in}
 use Rattle.entry_model.specs.Seen.{seen}
 use Rattle.entry_model.specs.declared.value.Value.{Value}
 use Rattle.state_codec.specs.Spelling.{item_count, member_count}
 use Rattle.state_codec.specs.Rules.{KeysAscend}
 use Rattle.state_codec.proofs.Keys.{cmp}
-use Rattle.std.proofs.Common.{Bool, true, false, true≢false}
+use Rattle.std.proofs.Common.{true, true≢false}
 
 pub item_count-items_of : (ds : List Datum) → item_count (items_of ds) ≡ length ds
 item_count-items_of [] = refl

@@ -1,13 +1,13 @@
 -- An entry that is read is the one that is spelled there, and what is spelled is read again.
-use Rattle.std.proofs.Common.{◌≡◌, ℕ, zero, suc, ◌+◌, ◌-◌, ◌^◌, ◌<◌, ◌≤◌, Bool, true, false, cond, eqb, leb, List, [], ◌∷◌, ◌++◌, length, Option, Some, None, Result, Ok, Err, refl, sym, ap, subst, ◌∙◌, append_assoc, arith}
+use Rattle.std.proofs.Common.{◌≡◌, ℕ, zero, suc, ◌^◌, ◌<◌, ◌≤◌, eqb, leb, List, [], ◌∷◌, ◌++◌, length, Option, Some, None, Ok, Err, refl, ap, subst, ◌∙◌, append_assoc, arith}
 use Rattle.std.specs.Prelude.{IfSome}
-use Rattle.std.specs.Int.{w32, w64, to_be_bytes}
+use Rattle.std.specs.Int.{w64, to_be_bytes}
 use Rattle.std.proofs.lemmas.Bool.{eqb-true, ne_eqb, leb-true, le-leb}
-use Rattle.entry_model.specs.Datum.{Datum, fields, Members, members_of}
+use Rattle.entry_model.specs.Datum.{Datum, fields, members_of}
 use Rattle.entry_model.specs.LogRecord.{LogRecord}
 use Rattle.state_codec.specs.Spelling.{bytes_spelling, value_spelling, time_spelling, entry_spelling}
-use Rattle.state_codec.specs.Rules.{IsShortText, IsLawful, IsLawfulEntry, IsShallow, IsReadable, nesting}
-use Rattle.state_codec.specs.Reading.{Reading, ◌>>=◌, number_at, text_at, map_at, value_at, fields_at, severity_at, time_at, entry_within}
+use Rattle.state_codec.specs.Rules.{IsLawfulEntry, nesting}
+use Rattle.state_codec.specs.Reading.{number_at, text_at, map_at, value_at, fields_at, severity_at, time_at, entry_within}
 use Rattle.state_codec.proofs.Numbers.{IsBytes, bytes_behind, Takes, takes_both, takes_tag, err_or_ok, bind_ok, ok_is, test_ok, wide64, number_takes, number_again, text_takes, text_again}
 use Rattle.state_codec.proofs.ValueLaws.{TakesDatum, value_behind, value_takes, map_takes}
 use Rattle.state_codec.proofs.AgainLaws.{value_again, fields_again, pairs_of, members_of-pairs_of}

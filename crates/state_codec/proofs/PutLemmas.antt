@@ -1,5 +1,5 @@
 -- What the last call of a function has put, and what holds where it has.
-use Rattle.std.proofs.Common.{◌≡◌, ℕ, List, [], ◌∷◌, ◌++◌, Result, Ok, Err, OnOk, sym, ap, ◌∙◌, append_assoc}
+use Rattle.std.proofs.Common.{◌≡◌, ℕ, List, [], ◌∷◌, ◌++◌, Result, Ok, Err, OnOk, ap, ◌∙◌, append_assoc}
 
 -- behind a tag
 pub tagged : {E : Type 0} (r : Result (Unit {0}) E) (old mid new more : List ℕ) (tag : ℕ) → mid ≡ old ++ tag ∷ [] → OnOk r (new ≡ mid ++ more) → OnOk r (new ≡ old ++ tag ∷ more)

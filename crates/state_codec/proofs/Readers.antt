@@ -1,13 +1,13 @@
 -- The readers of numbers, bytes, texts and entries.
-use Rattle.std.proofs.Common.{◌≡◌, ℕ, ◌+◌, ◌^◌, ◌<◌, ◌≤◌, List, ◌∷◌, ◌++◌, length, Ok, refl, sym, ap, ◌∙◌, arith, length-append}
+use Rattle.std.proofs.Common.{ℕ, ◌^◌, ◌<◌, List, ◌∷◌, ◌++◌, length, arith, length-append}
 use Rattle.std.specs.Int.{w32, w64, to_be_bytes}
-use Rattle.entry_model.specs.Datum.{Datum, null, boolean, int, text, list, fields}
+use Rattle.entry_model.specs.Datum.{fields}
 use Rattle.entry_model.specs.LogRecord.{LogRecord}
 use Rattle.state_codec.specs.Spelling.{bytes_spelling, value_spelling, entry_spelling, time_spelling}
 use Rattle.state_codec.specs.Rules.{IsShortText, IsReadable}
 use Rattle.state_codec.specs.Reading.{number_at, bytes_at, text_at, entry_at}
 use Rattle.state_codec.proofs.Numbers.{wide32, wide64, number_takes, number_again, bytes_takes, bytes_again, text_takes, text_again}
-use Rattle.state_codec.proofs.EntryLaws.{IsEntryWithin, entry_takes, entry_again}
+use Rattle.state_codec.proofs.EntryLaws.{entry_takes, entry_again}
 use Rattle.state_codec.proofs.GetLemmas.{IsReader}
 
 pub u32_reader : IsReader (to_be_bytes w32) (λ n. n < 2 ^ 32) (number_at w32)

@@ -1,8 +1,8 @@
 -- What stands at the front of some bytes as a text, by whether the bytes that are there are UTF-8.
-use Rattle.std.proofs.Common.{◌≡◌, ◌≢◌, ℕ, ◌-◌, ◌<◌, ◌≤◌, Bool, true, false, List, length, take, drop, Ok, Err, refl, sym, ap, ◌∙◌, arith, eq-eqb}
+use Rattle.std.proofs.Common.{◌≡◌, ◌≢◌, ℕ, ◌-◌, ◌<◌, ◌≤◌, List, length, take, drop, Ok, Err, refl, ap, ◌∙◌, arith, eq-eqb}
 use Rattle.std.proofs.lemmas.Bool.{ne_eqb, le-leb}
 use Rattle.std.proofs.lemmas.List.{length-take, take_all}
-use Rattle.std.proofs.lemmas.Str.{utf8_valid_len_le, utf8_valid_len-IsUtf8}
+use Rattle.std.proofs.lemmas.Str.{utf8_valid_len-IsUtf8}
 use Rattle.std.specs.Int.{w32}
 use Rattle.std.specs.Str.{IsUtf8}
 use Rattle.std.specs.Str.Lossy.{utf8_valid_len}

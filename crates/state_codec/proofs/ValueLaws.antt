@@ -1,19 +1,17 @@
 -- A value that is read is the one that is spelled there, and what is spelled is read again.
-use Rattle.std.proofs.Common.{◌≡◌, ◌≢◌, ℕ, zero, suc, ◌+◌, ◌-◌, ◌^◌, ◌<◌, ◌≤◌, max, Bool, true, false, cond, eqb, List, [], ◌∷◌, ◌++◌, length, Option, Some, None, Result, Ok, Err, refl, sym, ap, subst, ◌∙◌, append_assoc, arith, inl, inr, ◌⊎◌, true≢false}
+use Rattle.std.proofs.Common.{◌≡◌, ℕ, zero, suc, ◌^◌, ◌≤◌, Bool, true, false, cond, eqb, List, [], ◌∷◌, ◌++◌, length, Option, Some, None, Result, Ok, Err, refl, sym, ap, subst, arith, inl, inr, ◌⊎◌}
 use Rattle.std.specs.Int.{w32, w64, to_be_bytes, cast_signed, cast_unsigned}
-use Rattle.std.specs.Prelude.{FitsSigned}
 use Rattle.std.specs.Ordering.{nat_cmp, is_lt}
 use Rattle.std.specs.Cmp.Lexicographic.{slice_cmp}
 use Rattle.std.proofs.lemmas.Bool.{eqb-true, ne_eqb}
-use Rattle.std.proofs.lemmas.Int.{to_z-of_z, of_z-to_z}
-use Rattle.std.proofs.Math.Facts.{sfits_to_z, Fits-of_z}
-use Rattle.entry_model.specs.Datum.{Datum, null, boolean, int, text, list, fields, Items, no_items, item, Members, no_members, member, items_of, members_of}
+use Rattle.std.proofs.lemmas.Int.{of_z-to_z}
+use Rattle.std.proofs.Math.Facts.{sfits_to_z}
+use Rattle.entry_model.specs.Datum.{Datum, null, boolean, int, text, list, fields, items_of, members_of}
 use Rattle.state_codec.specs.Spelling.{bytes_spelling, value_spelling, items_spelling, members_spelling, item_count, member_count}
-use Rattle.state_codec.specs.Rules.{IsShortText, IsBehind, KeysAscend, IsLawful, AreLawful, AreLawfulMembers, nesting, items_nesting, members_nesting}
-use Rattle.state_codec.specs.Reading.{Reading, DatumReader, ◌>>=◌, number_at, text_at, items_at, members_at, is_behind, list_at, map_at, leaf_at, value_at, fields_at}
+use Rattle.state_codec.specs.Rules.{IsBehind, KeysAscend, IsLawful, AreLawful, AreLawfulMembers, nesting, items_nesting, members_nesting}
+use Rattle.state_codec.specs.Reading.{DatumReader, ◌>>=◌, number_at, text_at, items_at, members_at, is_behind, list_at, map_at, leaf_at, value_at}
 use Rattle.state_codec.proofs.Keys.{less_from_test}
-use Rattle.state_codec.proofs.Values.{value_empty, value_leaf, value_of_list, value_of_map, value_of_other}
-use Rattle.state_codec.proofs.Numbers.{IsBytes, bytes_behind, Takes, takes_both, takes_tag, err_or_ok, bind_ok, ok_is, wide32, wide64, number_takes, number_again, text_takes, text_again}
+use Rattle.state_codec.proofs.Numbers.{IsBytes, bytes_behind, Takes, takes_both, takes_tag, err_or_ok, bind_ok, ok_is, wide32, wide64, number_takes, text_takes}
 
 -- what is read of a value is spelled, lawful, and nested no deeper than there is room
 pub record TakesDatum (room : ℕ) (bytes : List ℕ) (d : Datum) (rest : List ℕ) : Type 0 where

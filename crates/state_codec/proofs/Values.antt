@@ -1,5 +1,5 @@
 -- What stands at the front of some bytes as a value, by its tag and by how many lists and maps may still be opened.
-use Rattle.std.proofs.Common.{◌≡◌, ◌≢◌, ℕ, zero, suc, ◌-◌, ◌<◌, List, [], ◌∷◌, Ok, Err, refl, sym, ap, ◌∙◌, arith}
+use Rattle.std.proofs.Common.{◌≡◌, ◌≢◌, ℕ, zero, suc, ◌-◌, ◌<◌, List, [], ◌∷◌, Ok, Err, refl, arith}
 use Rattle.std.proofs.lemmas.Bool.{ne_eqb}
 use Rattle.entry_model.specs.Datum.{list, fields, items_of, members_of}
 use Rattle.state_codec.specs.Reading.{◌>>=◌, value_at, list_at, map_at, leaf_at}

@@ -1,5 +1,5 @@
 -- What a reader of the code answers, against what stands in the bytes.
-use Rattle.std.specs.Prelude.{◌≡◌, ℕ, ◌-◌, List, Result, Ok, Err}
+use Rattle.std.specs.Prelude.{◌≡◌, ℕ, ◌-◌, Result, Ok, Err}
 use Rattle.state_codec.specs.declared.CodecFault.{CodecFault}
 use Rattle.state_codec.specs.declared.CodecFault.TheVariants as outside
 use Rattle.state_codec.specs.declared.cursor.Fault.{Fault}

@@ -1,11 +1,11 @@
 -- What stands at the front of some bytes: a value with the bytes behind it, or where it can't go on. The place of a
 -- fault is told by the number of bytes that are left from there on.
-use Rattle.std.specs.Prelude.{◌≡◌, ℕ, zero, suc, ◌+◌, ◌-◌, Bool, true, false, if◌then◌else◌, List, [], ◌∷◌, ◌++◌, length, take, drop, slice_index, slice_get, option_map, nat_lt, nat_le, ◌==◌, Option, None, Some, Result, Ok, Err, ◌&&◌}
+use Rattle.std.specs.Prelude.{ℕ, zero, suc, ◌+◌, ◌-◌, Bool, true, false, if◌then◌else◌, List, [], ◌∷◌, length, take, drop, slice_index, slice_get, option_map, nat_lt, nat_le, ◌==◌, Option, None, Some, Result, Ok, Err}
 use Rattle.std.specs.Int.{Width, w32, w64, byte_len, from_be_bytes, cast_signed}
 use Rattle.std.specs.Str.Lossy.{utf8_valid_len, utf8_error_len}
 use Rattle.std.specs.Ordering.{nat_cmp, is_lt}
 use Rattle.std.specs.Cmp.Lexicographic.{slice_cmp}
-use Rattle.entry_model.specs.Datum.{Datum, null, boolean, int, text, list, fields, items_of, members_of, Members}
+use Rattle.entry_model.specs.Datum.{Datum, null, boolean, int, text, list, fields, items_of, members_of}
 use Rattle.entry_model.specs.LogRecord.{LogRecord}
 use Rattle.state_codec.specs.declared.TheConstants.{LEVELS}
 

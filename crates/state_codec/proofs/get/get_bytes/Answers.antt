@@ -1,9 +1,6 @@
-use Rattle.std.proofs.Common.{Vec, Global, ◌≡◌, ◌^◌, ◌<◌, ◌-◌, ℕ, List, length, drop, Ok, Err, sym, ap, subst, ◌∙◌, arith}
-use Rattle.entry_model.specs.LogRecord.{log_record}
+use Rattle.std.proofs.Common.{Vec, Global, ◌^◌, ◌<◌, ℕ, List, length, arith}
 use Rattle.state_codec.specs.Spelling.{bytes_spelling}
-use Rattle.state_codec.specs.Rules.{IsShortText, IsReadable}
 use Rattle.state_codec.specs.Reading.{bytes_at}
-use Rattle.state_codec.specs.Gives.{FailsAs}
 use Rattle.state_codec.proofs.GetLemmas.{reads_ok, reads_told}
 use Rattle.state_codec.proofs.Readers.{bytes_reader}
 use Rattle.state_codec.proofs.get.get_bytes.Goals as goal

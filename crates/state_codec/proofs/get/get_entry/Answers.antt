@@ -1,9 +1,8 @@
-use Rattle.std.proofs.Common.{◌≡◌, ◌^◌, ◌<◌, ◌-◌, ℕ, List, length, drop, Ok, Err, sym, ap, subst, ◌∙◌, arith}
+use Rattle.std.proofs.Common.{arith}
 use Rattle.entry_model.specs.LogRecord.{log_record}
 use Rattle.state_codec.specs.Spelling.{entry_spelling}
-use Rattle.state_codec.specs.Rules.{IsShortText, IsReadable}
+use Rattle.state_codec.specs.Rules.{IsReadable}
 use Rattle.state_codec.specs.Reading.{entry_at}
-use Rattle.state_codec.specs.Gives.{FailsAs}
 use Rattle.state_codec.proofs.GetLemmas.{reads_ok, reads_told}
 use Rattle.state_codec.proofs.Readers.{entry_reader}
 use Rattle.state_codec.proofs.get.get_entry.Goals as goal

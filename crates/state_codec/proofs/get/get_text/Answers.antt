@@ -1,9 +1,7 @@
-use Rattle.std.proofs.Common.{◌≡◌, ◌^◌, ◌<◌, ◌-◌, ℕ, List, length, drop, Ok, Err, sym, ap, subst, ◌∙◌, arith}
-use Rattle.entry_model.specs.LogRecord.{log_record}
+use Rattle.std.proofs.Common.{ℕ, List, arith}
 use Rattle.state_codec.specs.Spelling.{bytes_spelling}
-use Rattle.state_codec.specs.Rules.{IsShortText, IsReadable}
+use Rattle.state_codec.specs.Rules.{IsShortText}
 use Rattle.state_codec.specs.Reading.{text_at}
-use Rattle.state_codec.specs.Gives.{FailsAs}
 use Rattle.state_codec.proofs.GetLemmas.{reads_ok, reads_told}
 use Rattle.state_codec.proofs.Readers.{text_reader}
 use Rattle.state_codec.proofs.get.get_text.Goals as goal

@@ -1,4 +1,4 @@
-use Rattle.std.proofs.Common.{◌≡◌, ◌^◌, ◌<◌, ◌-◌, ℕ, List, length, drop, Ok, Err, sym, ap, subst, ◌∙◌, arith}
+use Rattle.std.proofs.Common.{◌^◌, ◌<◌, length, arith}
 use Rattle.std.specs.Int.{w64, to_be_bytes}
 use Rattle.state_codec.specs.Reading.{number_at}
 use Rattle.state_codec.proofs.GetLemmas.{reads_ok, reads_err}

@@ -1,8 +1,6 @@
 use Rattle.std.proofs.Common.{ℕ, ◌<◌, ◌^◌, List, length}
-use Rattle.std.specs.Int.{w32, w64, to_be_bytes}
-use Rattle.state_codec.specs.Spelling.{bytes_spelling, entry_spelling}
-use Rattle.state_codec.specs.Rules.{IsReadable}
-use Rattle.state_codec.specs.Reading.{number_at, bytes_at, entry_at}
+use Rattle.state_codec.specs.Spelling.{bytes_spelling}
+use Rattle.state_codec.specs.Reading.{bytes_at}
 use Rattle.state_codec.proofs.GetLemmas.{told_apart}
 use Rattle.state_codec.proofs.Readers.{bytes_reader}
 use Rattle.state_codec.proofs.laws.bytes_are_told.Goals as goal

@@ -1,8 +1,6 @@
-use Rattle.std.proofs.Common.{ℕ, ◌<◌, ◌^◌, List, length}
-use Rattle.std.specs.Int.{w32, w64, to_be_bytes}
-use Rattle.state_codec.specs.Spelling.{bytes_spelling, entry_spelling}
+use Rattle.state_codec.specs.Spelling.{entry_spelling}
 use Rattle.state_codec.specs.Rules.{IsReadable}
-use Rattle.state_codec.specs.Reading.{number_at, bytes_at, entry_at}
+use Rattle.state_codec.specs.Reading.{entry_at}
 use Rattle.state_codec.proofs.GetLemmas.{told_apart}
 use Rattle.state_codec.proofs.Readers.{entry_reader}
 use Rattle.state_codec.proofs.laws.entries_are_told.Goals as goal

@@ -1,10 +1,8 @@
-use Rattle.std.proofs.Common.{◌≡◌, ◌<◌, ◌^◌, ◌++◌, ◌∷◌, ℕ, List, length, map, None, OnOk, sym, ap, subst, ◌∙◌}
+use Rattle.std.proofs.Common.{◌<◌, ◌^◌, List, length, map, None}
 use Rattle.std.proofs.lemmas.List.{length-map}
-use Rattle.std.specs.Int.{w32, to_be_bytes}
 use Rattle.entry_model.specs.Datum.{Datum, datum, items_of, members_of}
 use Rattle.entry_model.specs.Seen.{seen}
 use Rattle.entry_model.proofs.Data.{datum_list, datum_map}
-use Rattle.state_codec.specs.Spelling.{items_spelling, members_spelling}
 use Rattle.state_codec.specs.Rules.{AreLawful, AreLawfulMembers, KeysAscend}
 use Rattle.state_codec.proofs.Counts.{keys_ascend, item_count-items_of, member_count-members_of, length-seen}
 use Rattle.state_codec.proofs.PutLemmas.{tagged, both_on_ok}

@@ -1,5 +1,4 @@
-use Rattle.std.proofs.Common.{◌≡◌, ◌++◌, drop, map, length}
-use Rattle.std.specs.Int.{w32, to_be_bytes}
+use Rattle.std.proofs.Common.{◌≡◌, ◌++◌, drop, map}
 use Rattle.entry_model.specs.Datum.{datum, items_of, members_of}
 use Rattle.entry_model.specs.Seen.{seen}
 use Rattle.state_codec.specs.Spelling.{items_spelling, members_spelling}

@@ -1,4 +1,4 @@
-use Rattle.std.proofs.Common.{◌≡◌, sym, subst, rules}
+use Rattle.std.proofs.Common.{subst}
 use Rattle.std.proofs.lemmas.Result.{on_ok_weaker}
 use Rattle.entry_model.specs.Datum.{Datum, datum}
 use Rattle.state_codec.specs.Rules.{IsLawful}

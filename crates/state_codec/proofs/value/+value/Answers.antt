@@ -1,4 +1,4 @@
-use Rattle.std.proofs.Common.{◌≡◌, ◌+◌, ◌-◌, ◌<◌, ℕ, suc, true, List, ◌∷◌, [], ◌++◌, map, Some, Ok, sym, ap, subst, ◌∙◌, arith}
+use Rattle.std.proofs.Common.{◌≡◌, ◌+◌, ◌-◌, ℕ, suc, true, List, ◌∷◌, [], ◌++◌, map, Ok, sym, ap, ◌∙◌, arith}
 use Rattle.std.proofs.lemmas.List.{map_push, nil_from_length}
 use Rattle.std.proofs.lemmas.Result.{err_from_is_err_and}
 use Rattle.entry_model.specs.Datum.{Datum, datum, list, fields, items_of, members_of}
@@ -6,7 +6,7 @@ use Rattle.entry_model.specs.Seen.{seen}
 use Rattle.entry_model.specs.declared.value.Value.{Value}
 use Rattle.entry_model.proofs.Data.{datum_list, datum_map}
 use Rattle.state_codec.specs.declared.cursor.Fault.{Fault}
-use Rattle.state_codec.specs.Reading.{value_at, list_at, map_at, items_at, members_at, last_key, text_at, ◌>>=◌}
+use Rattle.state_codec.specs.Reading.{value_at, list_at, map_at, items_at, members_at, last_key}
 use Rattle.state_codec.proofs.Fronts.{with_front, fails_through, fails_at, items_step, items_fail, members_step, inserted_last, seen_push, last_key_push}
 use Rattle.state_codec.proofs.Keys.{from_on_true}
 use Rattle.state_codec.proofs.Values.{value_empty, value_leaf, value_of_list, value_of_map, value_of_other}

@@ -1,4 +1,4 @@
-use Rattle.std.proofs.Common.{◌≡◌, sym, ◌∙◌}
+use Rattle.std.proofs.Common.{sym, ◌∙◌}
 use Rattle.std.specs.BTreeMap.{keys}
 use Rattle.state_codec.proofs.Keys.{on_true, above_last}
 use Rattle.state_codec.proofs.value.is_last.Goals as goal
