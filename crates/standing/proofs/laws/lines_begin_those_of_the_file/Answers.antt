@@ -1,0 +1,8 @@
+use Rattle.standing.proofs.TellLemmas.{lines_begin, reached_has_all}
+use Rattle.standing.proofs.laws.lines_begin_those_of_the_file.Goals as goal
+
+pub returns-clause-begin : goal.returns-clause-begin
+returns-clause-begin c = λ rules history row lines stands laws. lines_begin rules laws history row lines stands
+
+pub returns-clause-all : goal.returns-clause-all
+returns-clause-all c = λ rules history row lines place stands laws reached. reached_has_all rules laws history row lines place stands reached

@@ -1,0 +1,37 @@
+-- The looks of a poll in turn. The newest comes first.
+use Rattle.std.specs.Prelude.{ℕ, ◌+◌, List, [], ◌∷◌, Bool, All, IsTrue, if◌then◌else◌, ⊤}
+use Rattle.std.specs.Cmp.Lexicographic.{slice_cmp}
+use Rattle.std.specs.Ordering.{nat_cmp, is_lt}
+use Rattle.outside.specs.World.{History}
+use Rattle.standing.specs.Look.{Look, Outcome, Progress, ComesAt, ReadsOn, outcome, progress_after}
+use Rattle.standing.specs.Moments.{IsLater}
+use Rattle.standing.specs.Rules.{Rules}
+
+abbrev pub progress_by : Rules → Bool → List Look → Progress → Progress
+progress_by rules first [] start = start
+progress_by rules first (here ∷ earlier) start =
+    progress_after rules first here (progress_by rules first earlier start) (outcome rules (progress_by rules first earlier start).rows here)
+
+-- what the newest look finds after the earlier ones
+abbrev pub outcome_after : Rules → Bool → List Look → Progress → Look → Outcome
+outcome_after rules first earlier start here = outcome rules (progress_by rules first earlier start).rows here
+
+-- each look comes in its turn between the two moments
+abbrev pub Come : Rules → List Look → History → History → Type 0
+Come rules [] old new = IsLater old new
+Come rules (here ∷ earlier) old new = Come rules earlier old here.moment × ComesAt rules here new
+
+abbrev pub ReadOn : Rules → Bool → List Look → Progress → Type 0
+ReadOn rules first [] start = ⊤
+ReadOn rules first (here ∷ earlier) start = ReadOn rules first earlier start × ReadsOn rules first here (outcome_after rules first earlier start here)
+
+-- the paths ascend in byte order, each once
+abbrev pub Ascend : List Look → Type 0
+Ascend [] = ⊤
+Ascend (here ∷ earlier) = All (λ (before : Look). IsTrue (is_lt (slice_cmp nat_cmp before.path here.path))) earlier × Ascend earlier
+
+-- how many of the looks pass, each with what it finds
+abbrev pub count_of : Rules → Bool → (Look → Outcome → Bool) → List Look → Progress → ℕ
+count_of rules first test [] start = 0
+count_of rules first test (here ∷ earlier) start =
+    count_of rules first test earlier start + (if test here (outcome_after rules first earlier start here) then 1 else 0)

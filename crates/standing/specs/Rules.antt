@@ -1,0 +1,38 @@
+-- The settings as rules: all that the promises on polls need to know of them.
+use Rattle.std.specs.Prelude.{ℕ, List, Bool, flat_map}
+use Rattle.entry_model.specs.LogRecord.{LogRecord}
+use Rattle.line_splitter.specs.Cuts.{Cut}
+use Rattle.standing.specs.Marks.{Mark}
+
+pub record Rules : Type 0 where
+  -- the text of the settings
+  pub settings : List ℕ
+  -- the tokens of bytes, from the front, each with how many bytes it uses
+  pub cuts : List ℕ → List Cut
+  -- What the operators emit for tokens of the file that has this path. So many tokens stand before them, which left this
+  -- state. A state is the text that spells it.
+  pub made : List ℕ → ℕ → List ℕ → List (List ℕ) → List LogRecord
+  -- the state that those tokens leave
+  pub state_after : List ℕ → ℕ → List ℕ → List (List ℕ) → List ℕ
+  -- the state in which no group is open
+  pub fresh : List ℕ
+  -- the text spells a state of these operators
+  pub is_state : List ℕ → Bool
+  -- the line in the output, with its LF
+  pub line : Mark → List ℕ
+  -- the line tells what it was made of
+  pub fits : Mark → Bool
+  -- the path is one of those to be read
+  pub includes : List ℕ → Bool
+  -- how many of a file's first bytes tell it from others
+  pub front_size : ℕ
+  -- a file that the first poll finds begins at its end
+  pub from_end : Bool
+
+-- the output that has these lines
+abbrev pub output_text : Rules → List Mark → List ℕ
+output_text rules marks = flat_map rules.line marks
+
+-- what comes out for all tokens of a file from its start
+abbrev pub entries_of : Rules → List ℕ → List (List ℕ) → List LogRecord
+entries_of rules path tokens = rules.made path 0 rules.fresh tokens
