@@ -18,3 +18,6 @@ pub mod CompleteLemmas
 pub mod ShrinkLemmas
 pub mod RefusalLemmas
 pub mod ExampleLemmas
+pub mod FindLemmas
+pub mod RotatedLemmas
+pub mod PolledLemmas

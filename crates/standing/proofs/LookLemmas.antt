@@ -26,9 +26,6 @@ use Rattle.standing.proofs.StepLemmas.{OtherFront, step_stands}
 use Rattle.standing.proofs.TokenLemmas.{up_to_none}
 use Rattle.standing.proofs.MarkLemmas.{of_id-none}
 
-abbrev after_look : Look → History
-after_look here = look here.file ∷ here.moment
-
 -- of a file that isn't empty something is seen
 seen_filled : (rules : Rules) (here : Look) → AreRules rules → 0 < size here → 0 < length (front rules here)
 seen_filled rules here laws filled = omega (arith, laws.front_size, filled, length-take rules.front_size (content here))

@@ -6,6 +6,7 @@ use Rattle.line_splitter.specs.LineTokens.{line_cuts}
 use Rattle.outside.specs.World.{create, append, rename, look, History}
 use Rattle.standing.specs.Look.{Look}
 use Rattle.standing.specs.Marks.{Mark}
+use Rattle.standing.specs.Pass.{Stretch}
 use Rattle.standing.specs.Prefixes.{begins}
 use Rattle.standing.specs.Rows.{Row, Checkpoint}
 use Rattle.standing.specs.Rules.{Rules}
@@ -98,3 +99,9 @@ first_lines = mark_of 1 1 (codes "one") ∷ []
 
 abbrev pub second_lines : List Mark
 second_lines = mark_of 2 1 (codes "three") ∷ mark_of 1 2 (codes "two") ∷ []
+
+abbrev pub first_stretch : Stretch
+first_stretch = record { old = begun; new = polled; faults_before = 0; faults_after = 0 }
+
+abbrev pub second_stretch : Stretch
+second_stretch = record { old = rotated; new = polled_again; faults_before = 0; faults_after = 0 }

@@ -126,6 +126,9 @@ progress_after rules first here before (finds_row place row) = record {
   added = before.added ++ lines_added rules here row;
 }
 
+abbrev pub after_look : Rules → Bool → Look → Progress → Progress
+after_look rules first here before = progress_after rules first here before (outcome rules before.rows here)
+
 -- the offset of the file's row at the look, where it has one
 abbrev pub offset_found : Rules → Bool → Look → Outcome → Option ℕ
 offset_found rules first here skips = None

@@ -3,14 +3,14 @@ use Rattle.std.specs.Prelude.{ℕ, ◌+◌, List, [], ◌∷◌, Bool, All, IsTr
 use Rattle.std.specs.Cmp.Lexicographic.{slice_cmp}
 use Rattle.std.specs.Ordering.{nat_cmp, is_lt}
 use Rattle.outside.specs.World.{History}
-use Rattle.standing.specs.Look.{Look, Outcome, Progress, ComesAt, ReadsOn, outcome, progress_after}
+use Rattle.standing.specs.Look.{Look, Outcome, Progress, ComesAt, ReadsOn, outcome, after_look}
 use Rattle.standing.specs.Moments.{IsLater}
 use Rattle.standing.specs.Rules.{Rules}
 
+-- what the looks make of the rows, one after another
 abbrev pub progress_by : Rules → Bool → List Look → Progress → Progress
 progress_by rules first [] start = start
-progress_by rules first (here ∷ earlier) start =
-    progress_after rules first here (progress_by rules first earlier start) (outcome rules (progress_by rules first earlier start).rows here)
+progress_by rules first (here ∷ earlier) start = after_look rules first here (progress_by rules first earlier start)
 
 -- what the newest look finds after the earlier ones
 abbrev pub outcome_after : Rules → Bool → List Look → Progress → Look → Outcome
@@ -21,6 +21,7 @@ abbrev pub Come : Rules → List Look → History → History → Type 0
 Come rules [] old new = IsLater old new
 Come rules (here ∷ earlier) old new = Come rules earlier old here.moment × ComesAt rules here new
 
+-- each look that comes to its row's offset could read up to there
 abbrev pub ReadOn : Rules → Bool → List Look → Progress → Type 0
 ReadOn rules first [] start = ⊤
 ReadOn rules first (here ∷ earlier) start = ReadOn rules first earlier start × ReadsOn rules first here (outcome_after rules first earlier start here)

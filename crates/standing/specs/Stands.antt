@@ -26,6 +26,7 @@ AreFrontsApart rows = (place other : ℕ) (row other_row : Row) → IsRowAt rows
 abbrev pub IsIdOf : List Row → ℕ → Type 0
 IsIdOf rows id = (place : ℕ) × (row : Row) × IsRowAt rows place row × (row.id ≡ id)
 
+-- Each line is of some row, and each row's lines are those that it stands for.
 pub record LinesStand (rules : Rules) (history : History) (rows : List Row) (next_id : ℕ) (marks : List Mark) : Type 0 where
   pub ids : AreNumbered rows next_id
   pub each_row : (place : ℕ) (row : Row) → IsRowAt rows place row → RowStands rules history row (of_id row.id marks)

@@ -1,11 +1,12 @@
 //! Two worked histories: a file that is renamed while it is read, and a stop between a poll's writes and its checkpoint.
 ghost use Rattle.std.specs.Prelude.{◌≡◌, [], ◌∷◌, ◌++◌, false, true, codes};
 ghost use Rattle.standing.specs.AreRules.{AreRules};
-ghost use Rattle.standing.specs.Example.{each_line, first_checkpoint, first_lines, first_looks, second_checkpoint, second_lines, second_looks};
-ghost use Rattle.standing.specs.Pass.{LeadsTo};
+ghost use Rattle.standing.specs.Example.{each_line, first_checkpoint, first_lines, first_looks, first_stretch, polled_again, second_checkpoint, second_lines, second_looks, second_stretch};
+ghost use Rattle.standing.specs.Pass.{Pass};
 ghost use Rattle.standing.specs.Rows.{no_checkpoint};
 ghost use Rattle.standing.specs.Rules.{output_text};
 ghost use Rattle.standing.specs.Standing.{found, kept};
+ghost use Rattle.standing.specs.Stands.{CheckpointStands};
 
 /// The rules of the worked histories are rules.
 pub fn lines_give_rules()
@@ -15,10 +16,12 @@ pub fn lines_give_rules()
 /// A first poll reads a line and a part of one. Then the file is renamed and goes on, and another takes its name. The next
 /// poll finds the first by its front, and reads on where it stopped.
 pub fn a_renamed_file_is_read_on()
-    ensures first { LeadsTo each_line true first_looks (no_checkpoint each_line) first_checkpoint first_lines }
-    ensures second { LeadsTo each_line false second_looks first_checkpoint second_checkpoint second_lines }
+    ensures first { Pass each_line true first_stretch first_looks (no_checkpoint each_line) first_checkpoint first_lines }
+    ensures second { Pass each_line false second_stretch second_looks first_checkpoint second_checkpoint second_lines }
     ensures output { output_text each_line (first_lines ++ second_lines)
         ≡ codes "1 1 one\n2 1 three\n1 2 two\n" }
+    ensures stands { CheckpointStands each_line polled_again second_checkpoint
+        (codes "1 1 one\n2 1 three\n1 2 two\n") }
 {}
 
 /// After a stop between a poll's writes and its checkpoint only what the checkpoint keeps counts, and the poll after the

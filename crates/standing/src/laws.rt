@@ -4,17 +4,18 @@ ghost use Rattle.outside.specs.Lawful.{IsLawful};
 ghost use Rattle.outside.specs.World.{History, bytes, look};
 ghost use Rattle.standing.specs.Apart.{Apart};
 ghost use Rattle.standing.specs.AreRules.{AreRules};
-ghost use Rattle.standing.specs.Look.{ComesAt, Look, Progress, outcome, progress_after, size};
+ghost use Rattle.standing.specs.Look.{ComesAt, Look, Progress, after_look, fed, size};
 ghost use Rattle.standing.specs.Marks.{Mark, numbered};
 ghost use Rattle.standing.specs.Moments.{IsLater, IsNamed, KeepsNames};
 ghost use Rattle.standing.specs.Owner.{IsOwner};
+ghost use Rattle.standing.specs.Part.{HasTaken, Part, part_output};
 ghost use Rattle.standing.specs.Pass.{IsReachable, Pass, Stretch};
 ghost use Rattle.standing.specs.Prefixes.{IsPrefix};
 ghost use Rattle.standing.specs.Reached.{Reached};
 ghost use Rattle.standing.specs.Rows.{Checkpoint, IsRowAt, Row, no_checkpoint};
 ghost use Rattle.standing.specs.Rules.{Rules, entries_of, output_text};
 ghost use Rattle.standing.specs.Standing.{Found, Lengthens, Sound, Standing, checkpoint_of, found, kept};
-ghost use Rattle.standing.specs.Stands.{CheckpointStands, LinesStand, RowStands, Stands};
+ghost use Rattle.standing.specs.Stands.{CheckpointStands, IsSound, LinesStand, RowStands, Stands};
 ghost use Rattle.standing.specs.Sums.{AreSums, IsReached, Sums, TellNothingLeft};
 ghost use Rattle.standing.specs.Tokens.{UpTo, tokens_of};
 
@@ -29,6 +30,33 @@ pub fn standing_lasts()
         → CheckpointStands rules history (no_checkpoint rules) file }
 {}
 
+/// What is kept of the output file decides: the bytes past it may be any.
+pub fn only_what_is_kept_counts()
+    ensures stands { (rules : Rules) (history : History) (checkpoint : Checkpoint) (file other : List ℕ)
+        → checkpoint.output_length ≤ length other
+        → take checkpoint.output_length other ≡ take checkpoint.output_length file
+        → CheckpointStands rules history checkpoint file → CheckpointStands rules history checkpoint other }
+    ensures sound { (rules : Rules) (checkpoint : Checkpoint) (file other : List ℕ)
+        → checkpoint.output_length ≤ length other
+        → IsSound rules checkpoint file → IsSound rules checkpoint other }
+{}
+
+/// What a row has taken of a part of a file, which may begin anywhere, it has taken too when the file has grown; and a row
+/// that takes the tokens of a piece at its offset has taken those of before and these, with the entries of all of them.
+pub fn parts_go_on()
+    ensures grown { (rules : Rules) (part : Part) (content more : List ℕ) (tokens : List (List ℕ)) (row : Row)
+        → AreRules rules → HasTaken rules part content tokens row
+        → HasTaken rules part (content ++ more) tokens row }
+    ensures taken { (rules : Rules) (part : Part) (content piece behind : List ℕ) (tokens : List (List ℕ)) (row : Row)
+        → AreRules rules → IsTrue (rules.is_state part.state) → drop row.offset content ≡ piece ++ behind
+        → HasTaken rules part content tokens row
+        → HasTaken rules part content (tokens ++ tokens_of rules piece) (fed rules piece row) }
+    ensures entries { (rules : Rules) (part : Part) (content : List ℕ) (tokens more : List (List ℕ)) (row : Row)
+        → AreRules rules → IsTrue (rules.is_state part.state) → HasTaken rules part content tokens row
+        → part_output rules part row.path (tokens ++ more)
+        ≡ part_output rules part row.path tokens ++ rules.made row.path row.records row.state more }
+{}
+
 /// Whatever a look finds and makes of the rows, they stand afterwards, with the output longer by the lines that it added,
 /// where files can be told apart in the history that ends with the look.
 pub fn a_look_keeps_standing()
@@ -36,7 +64,7 @@ pub fn a_look_keeps_standing()
         (output : List ℕ) → AreRules rules → ComesAt rules here history
         → Apart rules.front_size (look here.file ∷ here.moment) → Stands rules here.moment rows next_id output
         → let start : Progress = record { rows = rows; next_id = next_id; added = [] } in
-        let after = progress_after rules first here start (outcome rules rows here) in
+        let after = after_look rules first here start in
         Stands rules (look here.file ∷ here.moment) after.rows after.next_id (output ++ output_text rules after.added) }
 {}
 

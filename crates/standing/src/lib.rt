@@ -15,4 +15,5 @@
 
 pub mod examples;
 pub mod laws;
+pub mod looks;
 pub mod refusals;

@@ -1,18 +1,18 @@
 use Rattle.std.proofs.Common.{refl}
-use Rattle.line_splitter.specs.Cuts.{cuts_within, cuts}
-use Rattle.line_splitter.specs.LineTokens.{line_end, first_cut}
 use Rattle.standing.specs.Example.{line_text}
-use Rattle.standing.specs.Look.{outcome, row_after, lines_added}
+use Rattle.standing.proofs.PolledLemmas.{first_poll, second_poll}
+use Rattle.standing.proofs.RotatedLemmas.{second_stands}
 use Rattle.standing.proofs.examples.a_renamed_file_is_read_on.Goals as goal
 
 pub returns-clause-first : goal.returns-clause-first
-unfolding outcome row_after lines_added cuts cuts_within first_cut line_end line_text
-returns-clause-first c = record { settings = refl; rows = refl; next_id = refl; lines = refl; output_length = refl }
+returns-clause-first c = first_poll
 
 pub returns-clause-second : goal.returns-clause-second
-unfolding outcome row_after lines_added cuts cuts_within first_cut line_end line_text
-returns-clause-second c = record { settings = refl; rows = refl; next_id = refl; lines = refl; output_length = refl }
+returns-clause-second c = second_poll
 
 pub returns-clause-output : goal.returns-clause-output
 unfolding line_text
 returns-clause-output c = refl
+
+pub returns-clause-stands : goal.returns-clause-stands
+returns-clause-stands c = second_stands
