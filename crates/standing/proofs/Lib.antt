@@ -21,3 +21,4 @@ pub mod ExampleLemmas
 pub mod FindLemmas
 pub mod RotatedLemmas
 pub mod PolledLemmas
+pub mod ApartLemmas

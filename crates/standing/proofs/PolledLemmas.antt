@@ -1,17 +1,15 @@
 -- The two polls of the worked history.
-use Rattle.std.proofs.Common.{◌≡◌, ◌⊎◌, ℕ, ◌+◌, ◌≤◌, List, [], ◌∷◌, ◌++◌, length, get_or, Bool, true, false, cond, IsTrue, refl, sym, ap, ◌∙◌, inl, inr, arith}
+use Rattle.std.proofs.Common.{◌≡◌, ℕ, List, [], ◌∷◌, Bool, true, false, cond, IsTrue, refl, sym, inl, arith}
 use Rattle.std.specs.Cmp.Lexicographic.{slice_cmp, same_text}
-use Rattle.std.specs.List.{Contains, find}
 use Rattle.std.specs.Ordering.{nat_cmp, is_lt}
 use Rattle.std.specs.Prelude.{Option, None, Some, codes, option_map}
 use Rattle.std.specs.Str.{bytes_eq}
 use Rattle.std.proofs.lemmas.List.Elements.{All-nil, All-cons}
 use Rattle.line_splitter.specs.Cuts.{cuts_within, cuts}
 use Rattle.line_splitter.specs.LineTokens.{line_end, first_cut}
-use Rattle.outside.specs.World.{look, History, names, file_at}
+use Rattle.outside.specs.World.{look, names, file_at}
 use Rattle.standing.specs.Example.{each_line, line_text, begun, polled, rotated, polled_again, first_stretch, second_stretch, first_looks, second_looks, first_checkpoint, second_checkpoint, first_lines, second_lines, look_at}
 use Rattle.standing.specs.Look.{Look, outcome, row_after, lines_added}
-use Rattle.standing.specs.Moments.{IsLater}
 use Rattle.standing.specs.Pass.{Pass, WasLookedAt}
 use Rattle.standing.specs.Rows.{no_checkpoint}
 use Rattle.standing.proofs.MomentLemmas.{later_none, at_look, later_then}

@@ -1,5 +1,6 @@
 use Rattle.std.proofs.Common.{refl}
 use Rattle.standing.specs.Example.{line_text}
+use Rattle.standing.proofs.ApartLemmas.{told_apart}
 use Rattle.standing.proofs.PolledLemmas.{first_poll, second_poll}
 use Rattle.standing.proofs.RotatedLemmas.{second_stands}
 use Rattle.standing.proofs.examples.a_renamed_file_is_read_on.Goals as goal
@@ -16,3 +17,6 @@ returns-clause-output c = refl
 
 pub returns-clause-stands : goal.returns-clause-stands
 returns-clause-stands c = second_stands
+
+pub returns-clause-apart : goal.returns-clause-apart
+returns-clause-apart c = told_apart

@@ -1,8 +1,7 @@
-use Rattle.std.proofs.Common.{◌≡◌, []}
+use Rattle.std.proofs.Common.{[]}
 use Rattle.std.specs.Prelude.{nat_lt}
 use Rattle.std.proofs.lemmas.Bool.{cond-true, lt-ltb}
-use Rattle.standing.specs.Look.{Look, front, size, piece, fed, lines_of, row_after, lines_added}
-use Rattle.standing.specs.Rows.{Row}
+use Rattle.standing.specs.Look.{front, size, piece, fed, lines_of, row_after, lines_added}
 use Rattle.standing.proofs.ReadLemmas.{row_after-read, lines_added-read, with_front}
 use Rattle.standing.proofs.looks.rows_take_pieces.Goals as goal
 
