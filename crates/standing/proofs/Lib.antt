@@ -22,3 +22,4 @@ pub mod FindLemmas
 pub mod RotatedLemmas
 pub mod PolledLemmas
 pub mod ApartLemmas
+pub mod NameLemmas

@@ -1,6 +1,6 @@
 -- Moments of a history, and what was so at them. A moment is the history up to it.
-use Rattle.std.specs.Prelude.{◌≡◌, ℕ, List, ◌∷◌, ◌++◌, Some}
-use Rattle.outside.specs.World.{Event, look, History, names, file_at}
+use Rattle.std.specs.Prelude.{◌≡◌, ℕ, List, [], ◌∷◌, ◌++◌, Some, ⊤}
+use Rattle.outside.specs.World.{Event, create, append, rename, remove, look, miss, unlisted, History, names, file_at}
 
 -- the history goes on, by steps of others or by events of the agent's own
 pub record IsLater (old new : History) : Type 0 where
@@ -22,3 +22,14 @@ NamesThroughout old new path file = (moment : History) → IsLater old moment �
 -- no name is given or taken from the first of these moments to the second
 abbrev pub KeepsNames : History → History → Type 0
 KeepsNames old new = (moment : History) → IsLater old moment → IsLater moment new → names moment ≡ names old
+
+-- none of the events gives a name or takes one
+abbrev pub LeaveNames : List Event → Type 0
+LeaveNames [] = ⊤
+LeaveNames (create _ _ ∷ before) = ⊥
+LeaveNames (append _ _ ∷ before) = LeaveNames before
+LeaveNames (rename _ _ ∷ before) = ⊥
+LeaveNames (remove _ ∷ before) = ⊥
+LeaveNames (look _ ∷ before) = LeaveNames before
+LeaveNames (miss _ ∷ before) = LeaveNames before
+LeaveNames (unlisted _ ∷ before) = LeaveNames before

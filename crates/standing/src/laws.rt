@@ -1,12 +1,12 @@
 //! What the definitions imply. The functions do nothing; their clauses are the laws.
 ghost use Rattle.std.specs.Prelude.{◌≡◌, ◌≢◌, ℕ, ◌+◌, ◌-◌, ◌<◌, ◌≤◌, All, Bool, Contains, IsTrue, List, [], ◌∷◌, ◌++◌, drop, length, take};
 ghost use Rattle.outside.specs.Lawful.{IsLawful};
-ghost use Rattle.outside.specs.World.{History, bytes, look};
+ghost use Rattle.outside.specs.World.{Event, History, bytes, look};
 ghost use Rattle.standing.specs.Apart.{Apart};
 ghost use Rattle.standing.specs.AreRules.{AreRules};
 ghost use Rattle.standing.specs.Look.{ComesAt, Look, Progress, after_look, fed, size};
 ghost use Rattle.standing.specs.Marks.{Mark, numbered};
-ghost use Rattle.standing.specs.Moments.{IsLater, IsNamed, KeepsNames};
+ghost use Rattle.standing.specs.Moments.{IsLater, IsNamed, KeepsNames, LeaveNames};
 ghost use Rattle.standing.specs.Owner.{IsOwner};
 ghost use Rattle.standing.specs.Part.{HasTaken, Part, part_output};
 ghost use Rattle.standing.specs.Pass.{IsReachable, Pass, Stretch};
@@ -93,6 +93,11 @@ pub fn a_pass_keeps_soundness()
         → Sound rules there file → Sound rules (found after) file_after }
     ensures kept { (rules : Rules) (before : List ℕ) (after : Checkpoint) (added : List Mark) (file_after : List ℕ)
         → Lengthens rules before after added file_after → IsPrefix before (kept (found after) file_after) }
+{}
+
+/// Where no event of a stretch gives a name or takes one, no name changes in it.
+pub fn names_are_kept()
+    ensures { (old : History) (events : List Event) → LeaveNames events → KeepsNames old (events ++ old) }
 {}
 
 /// After a poll whose numbers tell that nothing was left, and in which no name was given or taken, each file that has a
