@@ -1,0 +1,10 @@
+mod Complete
+mod Ends
+mod Faults
+mod Folders
+mod Marks
+mod Places
+mod Rows
+mod Searching
+mod Sound
+mod Walks

@@ -1,0 +1,18 @@
+// What the definitions imply.
+ghost use Rattle.std.specs.Prelude.{◌≡◌, ◌≢◌, ◌∷◌, ◌++◌, [], ℕ, List};
+ghost use Rattle.glob_match.specs.GlobMatch.{MatchesPath, ListsFolder, root};
+ghost use Rattle.glob_match.specs.GlobText.{IsGlobText};
+ghost use Rattle.glob_match.specs.Pattern.{Pattern};
+
+/// A text spells one pattern at most.
+pub fn text_spells_one_pattern()
+    ensures { (text : List ℕ) (pattern other : Pattern) → IsGlobText text pattern → IsGlobText text other → pattern ≡ other }
+{}
+
+/// Each folder on a path that a glob matches may hold a match: the working folder or the root, and what stands before a
+/// slash of the path.
+pub fn folders_on_a_match_are_listed()
+    ensures root { (pattern : Pattern) → ListsFolder pattern (root pattern) }
+    ensures leading { (text : List ℕ) (pattern : Pattern) (folder rest : List ℕ) → IsGlobText text pattern → folder ≢ []
+        → MatchesPath pattern (folder ++ 47 ∷ rest) → ListsFolder pattern folder }
+{}
