@@ -23,3 +23,4 @@ pub mod RotatedLemmas
 pub mod PolledLemmas
 pub mod ApartLemmas
 pub mod NameLemmas
+pub mod AllLines

@@ -2,7 +2,7 @@
 use Rattle.std.proofs.Common.{◌≡◌, List, [], ◌∷◌, ◌++◌, refl, sym, ap, subst, ◌∙◌, append_assoc}
 use Rattle.std.proofs.lemmas.List.{append_cancel_right}
 use Rattle.outside.specs.World.{Event, create, append, rename, remove, look, miss, unlisted, History, names}
-use Rattle.standing.specs.Moments.{IsLater, KeepsNames, LeaveNames}
+use Rattle.standing.specs.Moments.{KeepsNames, LeaveNames}
 
 leave_behind : (later earlier : List Event) → LeaveNames (later ++ earlier) → LeaveNames earlier
 leave_behind [] earlier leave = leave

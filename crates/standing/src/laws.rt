@@ -5,7 +5,7 @@ ghost use Rattle.outside.specs.World.{Event, History, bytes, look};
 ghost use Rattle.standing.specs.Apart.{Apart};
 ghost use Rattle.standing.specs.AreRules.{AreRules};
 ghost use Rattle.standing.specs.Look.{ComesAt, Look, Progress, after_look, fed, size};
-ghost use Rattle.standing.specs.Marks.{Mark, numbered};
+ghost use Rattle.standing.specs.Marks.{Mark, numbered, of_id};
 ghost use Rattle.standing.specs.Moments.{IsLater, IsNamed, KeepsNames, LeaveNames};
 ghost use Rattle.standing.specs.Owner.{IsOwner};
 ghost use Rattle.standing.specs.Part.{HasTaken, Part, part_output};
@@ -135,7 +135,8 @@ pub fn rows_are_of_different_files()
 {}
 
 /// The lines of a row that stands are the first of those that all bytes of its file give. Those of a row that has reached
-/// a place are all that the bytes up to there give.
+/// a place are all that the bytes up to there give; so where files can be told apart, an output that stands has all lines
+/// of a file that was reached.
 pub fn lines_begin_those_of_the_file()
     ensures begin { (rules : Rules) (history : History) (row : Row) (lines : List Mark)
         (stands : RowStands rules history row lines) → AreRules rules
@@ -146,6 +147,12 @@ pub fn lines_begin_those_of_the_file()
         → Reached rules (bytes history stands.file) row place
         → let content = take (place - row.start) (drop row.start (bytes history stands.file)) in
         lines ≡ numbered row.id 1 (entries_of rules row.path (tokens_of rules content)) }
+    ensures reached { (rules : Rules) (history : History) (rows : List Row) (next_id : ℕ) (output : List ℕ)
+        (stands : Stands rules history rows next_id output) (here : Look)
+        (reached : IsReached rules history rows here) → AreRules rules → Apart rules.front_size history
+        → let row = reached.row in
+        let content = take (size here - row.start) (drop row.start (bytes history here.file)) in
+        of_id row.id stands.marks ≡ numbered row.id 1 (entries_of rules row.path (tokens_of rules content)) }
 {}
 
 /// An output tells its lines, where they fit, and a bound of bytes tells the tokens up to it.

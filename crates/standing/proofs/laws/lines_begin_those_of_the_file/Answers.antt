@@ -1,3 +1,4 @@
+use Rattle.standing.proofs.AllLines.{output_has_all}
 use Rattle.standing.proofs.TellLemmas.{lines_begin, reached_has_all}
 use Rattle.standing.proofs.laws.lines_begin_those_of_the_file.Goals as goal
 
@@ -6,3 +7,6 @@ returns-clause-begin c = λ rules history row lines stands laws. lines_begin rul
 
 pub returns-clause-all : goal.returns-clause-all
 returns-clause-all c = λ rules history row lines place stands laws reached. reached_has_all rules laws history row lines place stands reached
+
+pub returns-clause-reached : goal.returns-clause-reached
+returns-clause-reached c = λ rules history rows next_id output stands here reached laws apart. output_has_all rules laws history rows next_id output stands here reached apart
