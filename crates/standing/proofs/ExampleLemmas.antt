@@ -7,9 +7,9 @@ use Rattle.std.proofs.lemmas.List.{drop-drop, map-append}
 use Rattle.std.proofs.lemmas.List.Elements.{All-nil, All-cons}
 use Rattle.std.proofs.lemmas.List.Sums.{sum_by-cons}
 use Rattle.entry_model.specs.LogRecord.{of_text}
-use Rattle.line_splitter.specs.Cuts.{Cut, cuts_within, cuts}
+use Rattle.line_splitter.specs.Cuts.{Cut, cuts_within, cuts, IsCutRule}
 use Rattle.line_splitter.specs.LineTokens.{first_cut}
-use Rattle.line_splitter.proofs.CutLemmas.{IsCutRule, option_tells, rule_used, cuts-none, cuts-some, used_by-cuts, cuts-append}
+use Rattle.line_splitter.proofs.CutLemmas.{option_tells, rule_used, cuts-none, cuts-some, used_by-cuts, cuts-append}
 use Rattle.line_splitter.proofs.LineLemmas.{first_cut-is_rule}
 use Rattle.standing.specs.AreRules.{AreRules}
 use Rattle.standing.specs.Example.{is_empty, line_text, each_line}
