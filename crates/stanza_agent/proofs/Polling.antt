@@ -1,6 +1,8 @@
 -- What was taken of the log file, as the poll tells it.
 use Rattle.std.proofs.Common.{◌≡◌, ◌⊎◌, ℕ, List, [], ◌∷◌, ◌++◌, take, Bool, IsTrue, inl, inr, sym, ◌∙◌, ap, subst, append_assoc, length, ◌≤◌, refl, arith}
 use Rattle.std.specs.Prelude.{Option, Some, None, Result, Ok, Err, IfErr}
+use Rattle.outside.specs.TreeMeaning.{TreeMeaning}
+use Rattle.outside.specs.DiskMeaning.{DiskMeaning}
 use Rattle.outside.specs.World.{Event, look, History, World, Told}
 use Rattle.outside.specs.Moment.{AtOneMoment}
 use Rattle.outside.proofs.Moving.{at_one_moment_weaker}
@@ -9,7 +11,7 @@ use Rattle.outside.specs.declared.disk.DiskFile.{DiskFile}
 use Rattle.outside.proofs.Telling.{told_weaker}
 use Rattle.entry_model.specs.LogRecord.{LogRecord}
 use Rattle.graph_core.specs.Traces.{Network}
-use Rattle.op_kinds.specs.declared.state.OpState.{OpState}
+use Rattle.op_kinds.specs.Kept.{Kept}
 use Rattle.pipeline.specs.BuildFaults.{IsBuildFault}
 use Rattle.pipeline.specs.Wired.{IsNetwork}
 use Rattle.pipeline.specs.declared.fault.BuildFault.{BuildFault}
@@ -35,11 +37,11 @@ takes_content path content counts old new (inr (inr own)) = inr (inr (own.1.noth
 pub takes_content_told : (path content : List ℕ) (counts : Counts) (old new : Option World) → Told (TakesLog path content counts) old new → Told (TakesContent path content) old new
 takes_content_told path content counts old new = told_weaker _ _ old new (takes_content path content counts)
 
-counts_same : {D : Type 0} {may_leave : D → Image DiskFile → Type 0} {task : Task} {log : LogFile} {disk : D} {summary : Summary} → Appended may_leave task log disk summary → summary_counts summary ≡ log_counts log
+counts_same : {D : Type 0} {disks : DiskMeaning D} {task : Task} {log : LogFile} {disk : D} {summary : Summary} → Appended disks task log disk summary → summary_counts summary ≡ log_counts log
 counts_same appended = cc (appended.files, appended.gone, appended.failed, appended.shrunk)
 
-pub takes_counted : {D : Type 0} {may_leave : D → Image DiskFile → Type 0} {task : Task} {log : LogFile} {disk : D} {summary : Summary} (path : List ℕ) (old new : Option World) → Appended may_leave task log disk summary → Told (TakesLog path log.bytes.items (log_counts log)) old new → Told (TakesLog path log.bytes.items (summary_counts summary)) old new
-takes_counted {D} {may_leave} {task} {log} {disk} {summary} path old new appended told =
+pub takes_counted : {D : Type 0} {disks : DiskMeaning D} {task : Task} {log : LogFile} {disk : D} {summary : Summary} (path : List ℕ) (old new : Option World) → Appended disks task log disk summary → Told (TakesLog path log.bytes.items (log_counts log)) old new → Told (TakesLog path log.bytes.items (summary_counts summary)) old new
+takes_counted {D} {disks} {task} {log} {disk} {summary} path old new appended told =
     let P : Counts → Type 0 = λ counts. Told (TakesLog path log.bytes.items counts) old new in subst P (sym (counts_same appended)) told
 
 -- at one moment of a stretch in which the file has the log file's name, it has it
@@ -64,37 +66,37 @@ sees_log path content counts old new (inr (inr own)) other file throughout = abs
 pub sees_log_told : (path content : List ℕ) (counts : Counts) (old new : Option World) → Told (TakesLog path content counts) old new → Told (SeesLog path) old new
 sees_log_told path content counts old new = told_weaker _ _ old new (sees_log path content counts)
 
-module _ {T D : Type 0} (world : T → Option World) (tree_faults : T → ℕ) (tells : D → Bool) (seen : D → Image DiskFile) (tree tree_after : T) (disk : D) (said : SettingsData) (path : List ℕ) (asked : IsTrue (tells disk) → IsAsked (seen disk) said path) where
+module _ {T D : Type 0} (trees : TreeMeaning T) (disks : DiskMeaning D) (tree tree_after : T) (disk : D) (said : SettingsData) (path : List ℕ) (asked : IsTrue (disks.images.tells disk) → IsAsked (disks.images.seen disk) said path) where
   -- what reading the log file fails with
-  pub log_fault : (fault : Fault) → (fault ≡ Memory) ⊎ (fault ≡ NotBuilt) → (fault ≡ NotBuilt → Stood (tree_faults tree) (tree_faults tree_after) → Told (FindsLongLog path) (world tree) (world tree_after)) → IsPollFault world tree_faults tells seen tree tree_after disk fault
-  log_fault fault (inl memory) found = subst (IsPollFault world tree_faults tells seen tree tree_after disk) (sym memory) tt
+  pub log_fault : (fault : Fault) → (fault ≡ Memory) ⊎ (fault ≡ NotBuilt) → (fault ≡ NotBuilt → Stood (trees.faults tree) (trees.faults tree_after) → Told (FindsLongLog path) (trees.world tree) (trees.world tree_after)) → IsPollFault trees disks tree tree_after disk fault
+  log_fault fault (inl memory) found = subst (IsPollFault trees disks tree tree_after disk) (sym memory) tt
   log_fault fault (inr other) found =
-      subst (IsPollFault world tree_faults tells seen tree tree_after disk) (sym other)
-      (λ told stood. inr (record { said = said; path = path; asked = asked told; found = told_weaker _ _ (world tree) (world tree_after) (λ old new long. inl long) (found other stood) }))
+      subst (IsPollFault trees disks tree tree_after disk) (sym other)
+      (λ told stood. inr (record { said = said; path = path; asked = asked told; found = told_weaker _ _ (trees.world tree) (trees.world tree_after) (λ old new long. inl long) (found other stood) }))
 
   compressed_taken : (content : List ℕ) (counts : Counts) (old new : World) → IsCompressed content → TakesLog path content counts old new → FindsOtherLog path old new
   compressed_taken content counts old new compressed (inl opened) = inr (content, compressed, opened.0)
   compressed_taken content counts old new compressed (inr (inl absent)) = absurd (omega (arith, ap length (sym compressed ∙ ap (take 2) absent.1.nothing)))
   compressed_taken content counts old new compressed (inr (inr own)) = absurd (omega (arith, ap length (sym compressed ∙ ap (take 2) own.1.nothing)))
 
-  pub compressed_fault : (content : List ℕ) (counts : Counts) → IsCompressed content → (Stood (tree_faults tree) (tree_faults tree_after) → Told (TakesLog path content counts) (world tree) (world tree_after)) → IsPollFault world tree_faults tells seen tree tree_after disk NotBuilt
+  pub compressed_fault : (content : List ℕ) (counts : Counts) → IsCompressed content → (Stood (trees.faults tree) (trees.faults tree_after) → Told (TakesLog path content counts) (trees.world tree) (trees.world tree_after)) → IsPollFault trees disks tree tree_after disk NotBuilt
   compressed_fault content counts compressed takes told stood =
-      inr (record { said = said; path = path; asked = asked told; found = told_weaker _ _ (world tree) (world tree_after) (λ old new. compressed_taken content counts old new compressed) (takes stood) })
+      inr (record { said = said; path = path; asked = asked told; found = told_weaker _ _ (trees.world tree) (trees.world tree_after) (λ old new. compressed_taken content counts old new compressed) (takes stood) })
 
-  pub build_refused : (content : List ℕ) → (IsCompressed content → ⊥) → length content ≤ 16777216 → (Stood (tree_faults tree) (tree_faults tree_after) → Told (TakesContent path content) (world tree) (world tree_after)) → (fault : BuildFault) → IsBuildFault said.operators fault → IsPollFault world tree_faults tells seen tree tree_after disk (build_fault fault)
+  pub build_refused : (content : List ℕ) → (IsCompressed content → ⊥) → length content ≤ 16777216 → (Stood (trees.faults tree) (trees.faults tree_after) → Told (TakesContent path content) (trees.world tree) (trees.world tree_after)) → (fault : BuildFault) → IsBuildFault said.operators fault → IsPollFault trees disks tree tree_after disk (build_fault fault)
   build_refused content plain short taken (build.SameId place) cause = record { said = said; path = path; asked = asked; content = content; plain = plain; short = short; taken = taken; cause = cause }
   build_refused content plain short taken (build.Operator place found) cause = record { said = said; path = path; asked = asked; content = content; plain = plain; short = short; taken = taken; cause = cause }
   build_refused content plain short taken (build.Graph fault) cause = record { said = said; path = path; asked = asked; content = content; plain = plain; short = short; taken = taken; cause = cause }
   build_refused content plain short taken build.Memory cause = tt
 
-  pub write_fault : (task : Task) (content : List ℕ) → (IsTrue (tells disk) → IsTask (seen disk) task) → (Stood (tree_faults tree) (tree_faults tree_after) → Told (TakesContent task.path content) (world tree) (world tree_after)) → (fault : Fault) → (fault ≡ Memory) ⊎ (fault ≡ Disk) ⊎ ((size : ℕ) × (fault ≡ OutputFull size)) → ((size : ℕ) → fault ≡ OutputFull size → PassesLimit task content size) → IsPollFault world tree_faults tells seen tree tree_after disk fault
-  write_fault task content is takes fault (inl memory) full = subst (IsPollFault world tree_faults tells seen tree tree_after disk) (sym memory) tt
-  write_fault task content is takes fault (inr (inl failed)) full = subst (IsPollFault world tree_faults tells seen tree tree_after disk) (sym failed) tt
+  pub write_fault : (task : Task) (content : List ℕ) → (IsTrue (disks.images.tells disk) → IsTask (disks.images.seen disk) task) → (Stood (trees.faults tree) (trees.faults tree_after) → Told (TakesContent task.path content) (trees.world tree) (trees.world tree_after)) → (fault : Fault) → (fault ≡ Memory) ⊎ (fault ≡ Disk) ⊎ ((size : ℕ) × (fault ≡ OutputFull size)) → ((size : ℕ) → fault ≡ OutputFull size → PassesLimit task content size) → IsPollFault trees disks tree tree_after disk fault
+  write_fault task content is takes fault (inl memory) full = subst (IsPollFault trees disks tree tree_after disk) (sym memory) tt
+  write_fault task content is takes fault (inr (inl failed)) full = subst (IsPollFault trees disks tree tree_after disk) (sym failed) tt
   write_fault task content is takes fault (inr (inr other)) full =
-      subst (IsPollFault world tree_faults tells seen tree tree_after disk) (sym other.1) (record { task = task; asked = is; content = content; limit = full other.0 other.1; taken = takes })
+      subst (IsPollFault trees disks tree tree_after disk) (sym other.1) (record { task = task; asked = is; content = content; limit = full other.0 other.1; taken = takes })
 
 -- the task of a pipeline that was built of settings
-pub task_asked : (tells : Bool) (seen : Image DiskFile) (said other : SettingsData) (path : List ℕ) (network : Network OpState LogRecord) → other ≡ said → (IsTrue tells → IsAsked seen said path) → IsNetwork said.operators network → IsTrue tells → IsTask seen (record { said = other; path = path; network = network })
+pub task_asked : (tells : Bool) (seen : Image DiskFile) (said other : SettingsData) (path : List ℕ) (network : Network Kept LogRecord) → other ≡ said → (IsTrue tells → IsAsked seen said path) → IsNetwork said.operators network → IsTrue tells → IsTask seen (record { said = other; path = path; network = network })
 task_asked tells seen said other path network same asked built told = record {
   asked = subst (λ s. IsAsked seen s path) (sym same) (asked told);
   network = subst (λ s. IsNetwork s.operators network) (sym same) built;

@@ -1,5 +1,6 @@
 -- The lines of what was taken are in the output, on the disk.
 use Rattle.std.specs.Prelude.{◌≡◌, ◌≤◌, length}
+use Rattle.outside.specs.DiskMeaning.{DiskMeaning}
 use Rattle.outside.specs.Image.{Image}
 use Rattle.outside.specs.declared.disk.DiskFile.{DiskFile}
 use Rattle.outside.specs.declared.disk.DiskFile.TheVariants.{Output}
@@ -9,8 +10,8 @@ use Rattle.stanza_agent.specs.Progress.{max_output}
 use Rattle.stanza_agent.specs.declared.log_file.LogFile.{LogFile}
 use Rattle.stanza_agent.specs.declared.summary.Summary.{Summary}
 
-pub record Appended {D : Type 0} (may_leave : D → Image DiskFile → Type 0) (task : Task) (log : LogFile) (disk : D) (summary : Summary) : Type 0 where
-  pub durable : (image : Image DiskFile) → may_leave disk image → image Output ≡ output_of task log.bytes.items
+pub record Appended {D : Type 0} (disks : DiskMeaning D) (task : Task) (log : LogFile) (disk : D) (summary : Summary) : Type 0 where
+  pub durable : (image : Image DiskFile) → disks.images.may_leave disk image → image Output ≡ output_of task log.bytes.items
   pub lines : summary.lines ≡ length (records task log.bytes.items)
   pub output : summary.output ≡ length (output_of task log.bytes.items)
   pub within : summary.output ≤ max_output

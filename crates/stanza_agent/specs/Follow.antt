@@ -1,5 +1,8 @@
 -- How the command `follow` ends.
 use Rattle.std.specs.Prelude.{◌≡◌, ◌≢◌, ◌⊎◌, ℕ, List, Bool, Option, Result, Ok, Err}
+use Rattle.outside.specs.TreeMeaning.{TreeMeaning}
+use Rattle.outside.specs.DiskMeaning.{DiskMeaning}
+use Rattle.outside.specs.StreamMeaning.{SourceMeaning, SinkMeaning}
 use Rattle.outside.specs.Image.{Image}
 use Rattle.outside.specs.World.{World, Told}
 use Rattle.outside.specs.declared.disk.DiskFile.{DiskFile}
@@ -31,25 +34,25 @@ pub record StopsFirst {T D : Type 0} (tree tree_after : T) (disk disk_after : D)
   pub same_disk : disk_after ≡ disk
 
 -- A poll was asked for first, and ended the command.
-pub record StopsInPoll {T D K : Type 0} (world : T → Option World) (tree_faults : T → ℕ) (tells : D → Bool) (seen : D → Image DiskFile) (may_leave : D → Image DiskFile → Type 0) (moment : D → ℕ) (left_since : D → ℕ → Image DiskFile → Type 0) (written : K → Option (List ℕ)) (tree tree_after : T) (disk disk_after : D) (rest rest_after : Option (List ℕ)) (report report_after : K) (status : ℕ) : Type 0 where
+pub record StopsInPoll {T D K : Type 0} (trees : TreeMeaning T) (disks : DiskMeaning D) (sinks : SinkMeaning K) (tree tree_after : T) (disk disk_after : D) (rest rest_after : Option (List ℕ)) (report report_after : K) (status : ℕ) : Type 0 where
   pub not_ended : status ≢ 0
   pub asked : Told (Asks max_control (Ok Poll)) rest rest_after
-  pub poll : OnceEnds world tree_faults tells seen may_leave moment left_since tree tree_after disk disk_after (written report) (written report_after) status
+  pub poll : OnceEnds trees disks tree tree_after disk disk_after (sinks.written report) (sinks.written report_after) status
 
 -- A poll was asked for first, and went through. Then the second request was served.
-pub record StopsSecond {T D K : Type 0} (world : T → Option World) (tree_faults : T → ℕ) (tells : D → Bool) (seen : D → Image DiskFile) (may_leave : D → Image DiskFile → Type 0) (moment : D → ℕ) (left_since : D → ℕ → Image DiskFile → Type 0) (written : K → Option (List ℕ)) (tree tree_after : T) (disk disk_after : D) (rest rest_after : Option (List ℕ)) (report report_after : K) (status : ℕ) : Type 0 where
+pub record StopsSecond {T D K : Type 0} (trees : TreeMeaning T) (disks : DiskMeaning D) (sinks : SinkMeaning K) (tree tree_after : T) (disk disk_after : D) (rest rest_after : Option (List ℕ)) (report report_after : K) (status : ℕ) : Type 0 where
   pub rest_between : Option (List ℕ)
   pub left_between : ℕ
   pub first_asked : Told (Asks max_control (Ok Poll)) rest rest_between
   pub first_spent : Told (Spends max_control left_between) rest rest_between
   pub report_between : K
-  pub poll : OnceEnds world tree_faults tells seen may_leave moment left_since tree tree_after disk disk_after (written report) (written report_between) 0
+  pub poll : OnceEnds trees disks tree tree_after disk disk_after (sinks.written report) (sinks.written report_between) 0
   pub request : Result Request Failed
   pub asked : Told (Asks left_between request) rest_between rest_after
-  pub stops : StopsAt request 2 status (written report_between) (written report_after)
+  pub stops : StopsAt request 2 status (sinks.written report_between) (sinks.written report_after)
 
-abbrev pub FollowEnds : {T D S K : Type 0} (world : T → Option World) (tree_faults : T → ℕ) (tells : D → Bool) (seen : D → Image DiskFile) (may_leave : D → Image DiskFile → Type 0) (moment : D → ℕ) (left_since : D → ℕ → Image DiskFile → Type 0) (rest : S → Option (List ℕ)) (written : K → Option (List ℕ)) (tree tree_after : T) (disk disk_after : D) (control control_after : S) (report report_after : K) (status : ℕ) → Type 0
-FollowEnds world tree_faults tells seen may_leave moment left_since rest written tree tree_after disk disk_after control control_after report report_after status =
-    StopsFirst tree tree_after disk disk_after (rest control) (rest control_after) (written report) (written report_after) status
-    ⊎ StopsInPoll world tree_faults tells seen may_leave moment left_since written tree tree_after disk disk_after (rest control) (rest control_after) report report_after status
-    ⊎ StopsSecond world tree_faults tells seen may_leave moment left_since written tree tree_after disk disk_after (rest control) (rest control_after) report report_after status
+abbrev pub FollowEnds : {T D S K : Type 0} (trees : TreeMeaning T) (disks : DiskMeaning D) (sources : SourceMeaning S) (sinks : SinkMeaning K) (tree tree_after : T) (disk disk_after : D) (control control_after : S) (report report_after : K) (status : ℕ) → Type 0
+FollowEnds trees disks sources sinks tree tree_after disk disk_after control control_after report report_after status =
+    StopsFirst tree tree_after disk disk_after (sources.rest control) (sources.rest control_after) (sinks.written report) (sinks.written report_after) status
+    ⊎ StopsInPoll trees disks sinks tree tree_after disk disk_after (sources.rest control) (sources.rest control_after) report report_after status
+    ⊎ StopsSecond trees disks sinks tree tree_after disk disk_after (sources.rest control) (sources.rest control_after) report report_after status

@@ -1,5 +1,7 @@
 -- Why a poll doesn't go through.
 use Rattle.std.specs.Prelude.{◌≡◌, ◌⊎◌, ⊤, ℕ, ◌≤◌, List, length, Bool, IsTrue, Option, Err}
+use Rattle.outside.specs.TreeMeaning.{TreeMeaning}
+use Rattle.outside.specs.DiskMeaning.{DiskMeaning}
 use Rattle.outside.specs.Image.{Image}
 use Rattle.outside.specs.World.{World, Told}
 use Rattle.outside.specs.declared.disk.DiskFile.{DiskFile}
@@ -15,14 +17,14 @@ use Rattle.stanza_agent.specs.declared.fault.Fault.{Fault}
 use Rattle.stanza_agent.specs.declared.fault.Fault.TheVariants.{Usage, Settings, Build, Disk, Control, Memory, OutputFull, ControlLine, NotBuilt, ControlLong}
 
 -- The folder asks for one log file, what was taken of it is none that the agent can't take yet, and the operators can't be built.
-pub record IsRefused {T D : Type 0} (world : T → Option World) (tree_faults : T → ℕ) (tells : D → Bool) (seen : D → Image DiskFile) (tree tree_after : T) (disk : D) (fault : BuildFault) : Type 0 where
+pub record IsRefused {T D : Type 0} (trees : TreeMeaning T) (disks : DiskMeaning D) (tree tree_after : T) (disk : D) (fault : BuildFault) : Type 0 where
   pub said : SettingsData
   pub path : List ℕ
-  pub asked : IsTrue (tells disk) → IsAsked (seen disk) said path
+  pub asked : IsTrue (disks.images.tells disk) → IsAsked (disks.images.seen disk) said path
   pub content : List ℕ
   pub plain : IsCompressed content → ⊥
   pub short : length content ≤ 16777216
-  pub taken : Stood (tree_faults tree) (tree_faults tree_after) → Told (TakesContent path content) (world tree) (world tree_after)
+  pub taken : Stood (trees.faults tree) (trees.faults tree_after) → Told (TakesContent path content) (trees.world tree) (trees.world tree_after)
   pub cause : IsBuildFault said.operators fault
 
 -- the folder asks for one log file, and that is one that the agent can't take yet
@@ -33,17 +35,17 @@ pub record FindsOther (seen : Image DiskFile) (old new : Option World) : Type 0 
   pub found : Told (FindsOtherLog path) old new
 
 -- Want of memory is free, and a fault of the disk has its own clause.
-abbrev pub IsPollFault : {T D : Type 0} (world : T → Option World) (tree_faults : T → ℕ) (tells : D → Bool) (seen : D → Image DiskFile) (tree tree_after : T) (disk : D) → Fault → Type 0
-IsPollFault world tree_faults tells seen tree tree_after disk (Settings fault) = IsTrue (tells disk) → grammar.settings (seen disk file.Settings) ≡ Err fault
-IsPollFault world tree_faults tells seen tree tree_after disk (Build fault) = IsRefused world tree_faults tells seen tree tree_after disk fault
-IsPollFault world tree_faults tells seen tree tree_after disk NotBuilt = IsTrue (tells disk) → Stood (tree_faults tree) (tree_faults tree_after) → IsOtherFolder (seen disk) ⊎ FindsOther (seen disk) (world tree) (world tree_after)
-IsPollFault world tree_faults tells seen tree tree_after disk (OutputFull size) = OverFull world tree_faults tells seen tree tree_after disk size
-IsPollFault world tree_faults tells seen tree tree_after disk Disk = ⊤
-IsPollFault world tree_faults tells seen tree tree_after disk Memory = ⊤
-IsPollFault world tree_faults tells seen tree tree_after disk Usage = ⊥
-IsPollFault world tree_faults tells seen tree tree_after disk Control = ⊥
-IsPollFault world tree_faults tells seen tree tree_after disk (ControlLine number) = ⊥
-IsPollFault world tree_faults tells seen tree tree_after disk ControlLong = ⊥
+abbrev pub IsPollFault : {T D : Type 0} (trees : TreeMeaning T) (disks : DiskMeaning D) (tree tree_after : T) (disk : D) → Fault → Type 0
+IsPollFault trees disks tree tree_after disk (Settings fault) = IsTrue (disks.images.tells disk) → grammar.settings (disks.images.seen disk file.Settings) ≡ Err fault
+IsPollFault trees disks tree tree_after disk (Build fault) = IsRefused trees disks tree tree_after disk fault
+IsPollFault trees disks tree tree_after disk NotBuilt = IsTrue (disks.images.tells disk) → Stood (trees.faults tree) (trees.faults tree_after) → IsOtherFolder (disks.images.seen disk) ⊎ FindsOther (disks.images.seen disk) (trees.world tree) (trees.world tree_after)
+IsPollFault trees disks tree tree_after disk (OutputFull size) = OverFull trees disks tree tree_after disk size
+IsPollFault trees disks tree tree_after disk Disk = ⊤
+IsPollFault trees disks tree tree_after disk Memory = ⊤
+IsPollFault trees disks tree tree_after disk Usage = ⊥
+IsPollFault trees disks tree tree_after disk Control = ⊥
+IsPollFault trees disks tree tree_after disk (ControlLine number) = ⊥
+IsPollFault trees disks tree tree_after disk ControlLong = ⊥
 
 -- the faults that come before anything is written
 abbrev pub ComesFirst : Fault → Type 0

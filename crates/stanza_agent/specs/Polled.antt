@@ -1,5 +1,7 @@
 -- What a poll of the one log file does.
 use Rattle.std.specs.Prelude.{◌≡◌, ◌⊎◌, ℕ, ◌≤◌, List, [], ◌∷◌, ◌++◌, length, take, Option, Bool, IsTrue}
+use Rattle.outside.specs.TreeMeaning.{TreeMeaning}
+use Rattle.outside.specs.DiskMeaning.{DiskMeaning}
 use Rattle.outside.specs.Image.{Image, AtFile, Torn}
 use Rattle.outside.specs.Crash.{Passes}
 use Rattle.outside.specs.World.{look, History, World, Told}
@@ -35,11 +37,11 @@ abbrev pub summary_counts : Summary → Counts
 summary_counts summary = record { files = summary.files; gone = summary.gone; failed = summary.failed; shrunk = summary.shrunk }
 
 -- The poll went through: the output is the lines of the content, whatever a crash does now, and the summary tells it.
-pub record Polled {T D : Type 0} (world : T → Option World) (tree_faults : T → ℕ) (tells : D → Bool) (seen : D → Image DiskFile) (may_leave : D → Image DiskFile → Type 0) (tree tree_after : T) (disk disk_after : D) (summary : Summary) : Type 0 where
+pub record Polled {T D : Type 0} (trees : TreeMeaning T) (disks : DiskMeaning D) (tree tree_after : T) (disk disk_after : D) (summary : Summary) : Type 0 where
   pub task : Task
-  pub asked : IsTrue (tells disk) → IsTask (seen disk) task
+  pub asked : IsTrue (disks.images.tells disk) → IsTask (disks.images.seen disk) task
   pub content : List ℕ
-  pub durable : (image : Image DiskFile) → may_leave disk_after image → image Output ≡ output_of task content
+  pub durable : (image : Image DiskFile) → disks.images.may_leave disk_after image → image Output ≡ output_of task content
   pub lines : summary.lines ≡ length (records task content)
   pub output : summary.output ≡ length (output_of task content)
   pub within : summary.output ≤ max_output
@@ -49,24 +51,24 @@ pub record Polled {T D : Type 0} (world : T → Option World) (tree_faults : T �
   pub deep_none : summary.deep ≡ 0
   pub plain : IsCompressed content → ⊥
   -- from a tree whose count of faults stood
-  pub taken : Stood (tree_faults tree) (tree_faults tree_after) → Told (TakesLog task.path content (summary_counts summary)) (world tree) (world tree_after)
+  pub taken : Stood (trees.faults tree) (trees.faults tree_after) → Told (TakesLog task.path content (summary_counts summary)) (trees.world tree) (trees.world tree_after)
 
 -- With its next line the output would have this length, which is too much.
-pub record OverFull {T D : Type 0} (world : T → Option World) (tree_faults : T → ℕ) (tells : D → Bool) (seen : D → Image DiskFile) (tree tree_after : T) (disk : D) (size : ℕ) : Type 0 where
+pub record OverFull {T D : Type 0} (trees : TreeMeaning T) (disks : DiskMeaning D) (tree tree_after : T) (disk : D) (size : ℕ) : Type 0 where
   pub task : Task
-  pub asked : IsTrue (tells disk) → IsTask (seen disk) task
+  pub asked : IsTrue (disks.images.tells disk) → IsTask (disks.images.seen disk) task
   pub content : List ℕ
   pub limit : PassesLimit task content size
-  pub taken : Stood (tree_faults tree) (tree_faults tree_after) → Told (TakesContent task.path content) (world tree) (world tree_after)
+  pub taken : Stood (trees.faults tree) (trees.faults tree_after) → Told (TakesContent task.path content) (trees.world tree) (trees.world tree_after)
 
 -- At each moment a crash leaves all files as they were, but for the output: that may have any bytes, and is no longer
--- than the lines of what was taken.
-pub record Begins {T D : Type 0} (world : T → Option World) (tree_faults : T → ℕ) (tells : D → Bool) (seen : D → Image DiskFile) (may_leave : D → Image DiskFile → Type 0) (moment : D → ℕ) (left_since : D → ℕ → Image DiskFile → Type 0) (tree tree_after : T) (disk disk_after : D) : Type 0 where
+-- than the longer of what it was and the lines of what was taken.
+pub record Begins {T D : Type 0} (trees : TreeMeaning T) (disks : DiskMeaning D) (tree tree_after : T) (disk disk_after : D) : Type 0 where
   pub task : Task
-  pub asked : IsTrue (tells disk) → IsTask (seen disk) task
+  pub asked : IsTrue (disks.images.tells disk) → IsTask (disks.images.seen disk) task
   pub content : List ℕ
-  pub crash : Passes may_leave moment left_since (AtFile Output (Torn 0 (length (output_of task content)))) disk disk_after
-  pub taken : Stood (tree_faults tree) (tree_faults tree_after) → Told (TakesContent task.path content) (world tree) (world tree_after)
+  pub crash : Passes disks.images (AtFile Output (Torn 0 (length (output_of task content)))) disk disk_after
+  pub taken : Stood (trees.faults tree) (trees.faults tree_after) → Told (TakesContent task.path content) (trees.world tree) (trees.world tree_after)
 
 -- This file has the log file's name from the first history to the last.
 abbrev pub NamesLogThroughout : List ℕ → ℕ → History → History → Type 0

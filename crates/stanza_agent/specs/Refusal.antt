@@ -2,8 +2,8 @@
 use Rattle.std.specs.Prelude.{ℕ, List, ◌++◌, codes, decimal}
 use Rattle.graph_core.specs.declared.GraphFault.{GraphFault}
 use Rattle.graph_core.specs.declared.GraphFault.TheVariants as graph
-use Rattle.op_kinds.specs.declared.compiling.OpCause.{OpCause}
-use Rattle.op_kinds.specs.declared.compiling.OpCause.TheVariants as cause
+use Rattle.op_kinds.specs.declared.cause.OpCause.{OpCause}
+use Rattle.op_kinds.specs.declared.cause.OpCause.TheVariants as cause
 use Rattle.pipeline.specs.declared.fault.BuildFault.{BuildFault}
 use Rattle.pipeline.specs.declared.fault.BuildFault.TheVariants as build
 use Rattle.settings_text.specs.declared.fault.SettingsFault.{SettingsFault}

@@ -4,7 +4,7 @@ use Rattle.std.specs.List.{list_any}
 use Rattle.std.specs.Str.{bytes_eq}
 use Rattle.entry_model.specs.LogRecord.{LogRecord}
 use Rattle.graph_core.specs.Traces.{Network}
-use Rattle.op_kinds.specs.declared.state.OpState.{OpState}
+use Rattle.op_kinds.specs.Kept.{Kept}
 use Rattle.outside.specs.Image.{Image}
 use Rattle.outside.specs.declared.disk.DiskFile.{DiskFile}
 use Rattle.outside.specs.declared.disk.DiskFile.TheVariants.{Settings, Output}
@@ -34,7 +34,7 @@ AsksForOther said = (path : List ℕ) → AsksForOne said path → ⊥
 pub record Task : Type 0 where
   pub said : SettingsData
   pub path : List ℕ
-  pub network : Network OpState LogRecord
+  pub network : Network Kept LogRecord
 
 -- the folder asks for the task, and has no output yet
 pub record IsAsked (seen : Image DiskFile) (said : SettingsData) (path : List ℕ) : Type 0 where

@@ -34,32 +34,32 @@ pub fn run_agent<T: Tree, D: Disk, S: Source, K: Sink>(
 
     // One poll: its course, status by status.
     ensures once { IsTrue (is_once words.now)
-        → OnceEnds T.world T.faults D.tells D.seen D.may_leave D.moment D.left_since tree.old tree.new disk.old disk.new (K.written report.old) (K.written report.new) result }
+        → OnceEnds T.meaning D.meaning tree.old tree.new disk.old disk.new (K.meaning.written report.old) (K.meaning.written report.new) result }
 
     // Polls as control lines ask for them.
     ensures follow { IsTrue (is_follow words.now)
-        → FollowEnds T.world T.faults D.tells D.seen D.may_leave D.moment D.left_since S.rest K.written tree.old tree.new disk.old disk.new control.old control.new report.old report.new result }
+        → FollowEnds T.meaning D.meaning S.meaning K.meaning tree.old tree.new disk.old disk.new control.old control.new report.old report.new result }
 
     // 2: the words are no command.
     ensures usage { (result ≡ 2) ↔ ((is_once words.now ≡ false) × (is_follow words.now ≡ false)) }
-    ensures usage_told { result ≡ 2 → Told (GrowsByPart (fault_line Fault.Usage)) (K.written report.old) (K.written report.new) }
-    ensures untouched { result ≡ 2 → Passes D.may_leave D.moment D.left_since Same disk.old disk.new }
+    ensures usage_told { result ≡ 2 → Told (GrowsByPart (fault_line Fault.Usage)) (K.meaning.written report.old) (K.meaning.written report.new) }
+    ensures untouched { result ≡ 2 → Passes D.meaning.images Same disk.old disk.new }
 
     // 7, 8 and 9: the disk, the control input or the report failed.
-    ensures disk_failed { result ≡ 7 → Rose (D.faults disk.old) (D.faults disk.new) }
-    ensures disk_stood { result ≢ 7 → D.faults disk.new ≡ D.faults disk.old }
-    ensures control_failed { result ≡ 8 → Rose (S.faults control.old) (S.faults control.new) }
-    ensures control_stood { result ≢ 8 → S.faults control.new ≡ S.faults control.old }
+    ensures disk_failed { result ≡ 7 → Rose (D.meaning.faults disk.old) (D.meaning.faults disk.new) }
+    ensures disk_stood { result ≢ 7 → D.meaning.faults disk.new ≡ D.meaning.faults disk.old }
+    ensures control_failed { result ≡ 8 → Rose (S.meaning.faults control.old) (S.meaning.faults control.new) }
+    ensures control_stood { result ≢ 8 → S.meaning.faults control.new ≡ S.meaning.faults control.old }
     // 15: so many control bytes were taken as may be, which are never passed.
-    ensures control_long { result ≡ 15 → Told (TakesExactly max_control) (S.rest control.old) (S.rest control.new) }
-    ensures control_taken { Told (TakesAtMost max_control) (S.rest control.old) (S.rest control.new) }
+    ensures control_long { result ≡ 15 → Told (TakesExactly max_control) (S.meaning.rest control.old) (S.meaning.rest control.new) }
+    ensures control_taken { Told (TakesAtMost max_control) (S.meaning.rest control.old) (S.meaning.rest control.new) }
     ensures control_untouched { is_follow words.now ≡ false → control.new ≡ control.old }
-    ensures report_failed { result ≡ 9 → Rose (K.faults report.old) (K.faults report.new) }
-    ensures report_stood { result ≡ 0 → K.faults report.new ≡ K.faults report.old }
+    ensures report_failed { result ≡ 9 → Rose (K.meaning.faults report.old) (K.meaning.faults report.new) }
+    ensures report_stood { result ≡ 0 → K.meaning.faults report.new ≡ K.meaning.faults report.old }
 
     // At each moment only the output may be others than it was.
-    ensures begun { Passes D.may_leave D.moment D.left_since Same disk.old disk.new
-        ⊎ Begins T.world T.faults D.tells D.seen D.may_leave D.moment D.left_since tree.old tree.new disk.old disk.new }
+    ensures begun { Passes D.meaning.images Same disk.old disk.new
+        ⊎ Begins T.meaning D.meaning tree.old tree.new disk.old disk.new }
 {
     match command_of(words) {
         Some(Command::Once) => once(alloc, tree, disk, report),

@@ -33,9 +33,9 @@ pub fn a_line_asks_one_thing()
 ///
 /// `left` is the number of bytes that may be taken, from which those that are taken go off.
 pub fn next_request<S: Source>(control: &mut S, left: &mut u64) -> Result<Request, Failed>
-    ensures asks { Told (Asks left.old result) (S.rest control.old) (S.rest control.new) }
-    ensures spends { Told (Spends left.old left.new) (S.rest control.old) (S.rest control.new) }
-    ensures cause { HasOneCause result (S.faults control.old) (S.faults control.new) }
+    ensures asks { Told (Asks left.old result) (S.meaning.rest control.old) (S.meaning.rest control.new) }
+    ensures spends { Told (Spends left.old left.new) (S.meaning.rest control.old) (S.meaning.rest control.new) }
+    ensures cause { HasOneCause result (S.meaning.faults control.old) (S.meaning.faults control.new) }
 {
     a_line_asks_one_thing();
     let mut line = [0; MAX_LINE];
@@ -58,8 +58,8 @@ pub fn next_request<S: Source>(control: &mut S, left: &mut u64) -> Result<Reques
 }
 
 fn next_byte<S: Source>(control: &mut S) -> Result<Option<u8>, Failed>
-    ensures byte { Told (GivesByte result) (S.rest control.old) (S.rest control.new) }
-    ensures cause { HasOneCause result (S.faults control.old) (S.faults control.new) }
+    ensures byte { Told (GivesByte result) (S.meaning.rest control.old) (S.meaning.rest control.new) }
+    ensures cause { HasOneCause result (S.meaning.faults control.old) (S.meaning.faults control.new) }
 {
     let mut byte = [0];
     if control.read(&mut byte)? == 0 {

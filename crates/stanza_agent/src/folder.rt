@@ -29,12 +29,12 @@ pub struct Folder {
 
 /// Looks at the settings file and the output. A file that isn't there has length 0.
 pub fn read_folder<D: Disk>(alloc: Global, disk: &mut D) -> Result<Folder, Fault>
-    ensures ok { IfOk result (λ folder. IsTrue (D.tells disk.old) → Holds folder (D.seen disk.old)) }
+    ensures ok { IfOk result (λ folder. IsTrue (D.meaning.images.tells disk.old) → Holds folder (D.meaning.images.seen disk.old)) }
     ensures faults { IfErr result (λ fault. (fault ≡ Fault.Disk) ⊎ (fault ≡ Fault.Memory)) }
-    ensures cause { HasDiskCause result (D.faults disk.old) (D.faults disk.new) }
-    ensures seen { D.seen disk.new ≡ D.seen disk.old }
-    ensures tells { D.tells disk.new ≡ D.tells disk.old }
-    ensures crash { Passes D.may_leave D.moment D.left_since Same disk.old disk.new }
+    ensures cause { HasDiskCause result (D.meaning.faults disk.old) (D.meaning.faults disk.new) }
+    ensures seen { D.meaning.images.seen disk.new ≡ D.meaning.images.seen disk.old }
+    ensures tells { D.meaning.images.tells disk.new ≡ D.meaning.images.tells disk.old }
+    ensures crash { Passes D.meaning.images Same disk.old disk.new }
 {
     let settings_length = disk.length(DiskFile::Settings)?;
     let output_length = disk.length(DiskFile::Output)?;
@@ -76,12 +76,12 @@ impl Folder {
 // Fills `buf` from the front of the file, as far as the file goes.
 fn fill<D: Disk>(disk: &mut D, file: DiskFile, buf: &mut [u8]) -> Result<usize, Failed>
     ensures within { IfOk result (λ count. count ≤ length buf.new) }
-    ensures bytes { IfOk result (λ count. IsTrue (D.tells disk.old)
-        → take count buf.new ≡ take (length buf.new) (D.seen disk.old file)) }
-    ensures cause { HasOneCause result (D.faults disk.old) (D.faults disk.new) }
-    ensures seen { D.seen disk.new ≡ D.seen disk.old }
-    ensures tells { D.tells disk.new ≡ D.tells disk.old }
-    ensures crash { Passes D.may_leave D.moment D.left_since Same disk.old disk.new }
+    ensures bytes { IfOk result (λ count. IsTrue (D.meaning.images.tells disk.old)
+        → take count buf.new ≡ take (length buf.new) (D.meaning.images.seen disk.old file)) }
+    ensures cause { HasOneCause result (D.meaning.faults disk.old) (D.meaning.faults disk.new) }
+    ensures seen { D.meaning.images.seen disk.new ≡ D.meaning.images.seen disk.old }
+    ensures tells { D.meaning.images.tells disk.new ≡ D.meaning.images.tells disk.old }
+    ensures crash { Passes D.meaning.images Same disk.old disk.new }
 {
     let mut filled = 0;
     while filled < buf.len() {

@@ -27,18 +27,18 @@ pub fn follow<T: Tree, D: Disk, S: Source, K: Sink>(
     control: &mut S,
     report: &mut K,
 ) -> u8
-    ensures course { FollowEnds T.world T.faults D.tells D.seen D.may_leave D.moment D.left_since S.rest K.written tree.old tree.new disk.old disk.new control.old control.new report.old report.new result }
-    ensures control_failed { result ≡ 8 → Rose (S.faults control.old) (S.faults control.new) }
-    ensures control_stood { result ≢ 8 → S.faults control.new ≡ S.faults control.old }
-    ensures disk_failed { result ≡ 7 → Rose (D.faults disk.old) (D.faults disk.new) }
-    ensures disk_stood { result ≢ 7 → D.faults disk.new ≡ D.faults disk.old }
-    ensures report_failed { result ≡ 9 → Rose (K.faults report.old) (K.faults report.new) }
-    ensures report_stood { result ≡ 0 → K.faults report.new ≡ K.faults report.old }
+    ensures course { FollowEnds T.meaning D.meaning S.meaning K.meaning tree.old tree.new disk.old disk.new control.old control.new report.old report.new result }
+    ensures control_failed { result ≡ 8 → Rose (S.meaning.faults control.old) (S.meaning.faults control.new) }
+    ensures control_stood { result ≢ 8 → S.meaning.faults control.new ≡ S.meaning.faults control.old }
+    ensures disk_failed { result ≡ 7 → Rose (D.meaning.faults disk.old) (D.meaning.faults disk.new) }
+    ensures disk_stood { result ≢ 7 → D.meaning.faults disk.new ≡ D.meaning.faults disk.old }
+    ensures report_failed { result ≡ 9 → Rose (K.meaning.faults report.old) (K.meaning.faults report.new) }
+    ensures report_stood { result ≡ 0 → K.meaning.faults report.new ≡ K.meaning.faults report.old }
     ensures answers { (result ≡ 8) ⊎ (result ≡ 12) ⊎ (result ≡ 15) ⊎ IsOnceStatus result }
-    ensures taken { Told (TakesAtMost max_control) (S.rest control.old) (S.rest control.new) }
-    ensures control_long { result ≡ 15 → Told (TakesExactly max_control) (S.rest control.old) (S.rest control.new) }
-    ensures begun { Passes D.may_leave D.moment D.left_since Same disk.old disk.new
-        ⊎ Begins T.world T.faults D.tells D.seen D.may_leave D.moment D.left_since tree.old tree.new disk.old disk.new }
+    ensures taken { Told (TakesAtMost max_control) (S.meaning.rest control.old) (S.meaning.rest control.new) }
+    ensures control_long { result ≡ 15 → Told (TakesExactly max_control) (S.meaning.rest control.old) (S.meaning.rest control.new) }
+    ensures begun { Passes D.meaning.images Same disk.old disk.new
+        ⊎ Begins T.meaning D.meaning tree.old tree.new disk.old disk.new }
 {
     let mut left = MAX_CONTROL;
     let first = next_request(control, &mut left);
@@ -61,7 +61,7 @@ fn is_poll(request: Result<Request, Failed>) -> bool
 
 // Ends the command at this request, which it can't serve or which ends it.
 fn stop<K: Sink>(alloc: Global, request: Result<Request, Failed>, number: u64, report: &mut K) -> u8
-    ensures stops { StopsAt request number result (K.written report.old) (K.written report.new) }
+    ensures stops { StopsAt request number result (K.meaning.written report.old) (K.meaning.written report.new) }
     ensures stood { result ≡ 0 → report.new ≡ report.old }
 {
     match request {

@@ -42,13 +42,13 @@ enum Ending {
 /// it has when it is opened. The agent's own files are passed over. Fails with `NotBuilt` where that is more than `MAX_LOG_BYTES`.
 pub fn read_log<T: Tree>(alloc: Global, tree: &mut T, path: &str) -> Result<LogFile, Fault>
     requires { IsTrue (is_plain_name path.now) }
-    ensures ok { IfOk result (λ log. Stood (T.faults tree.old) (T.faults tree.new)
-        → Told (TakesLog path.now log.bytes.items (log_counts log)) (T.world tree.old) (T.world tree.new)) }
+    ensures ok { IfOk result (λ log. Stood (T.meaning.faults tree.old) (T.meaning.faults tree.new)
+        → Told (TakesLog path.now log.bytes.items (log_counts log)) (T.meaning.world tree.old) (T.meaning.world tree.new)) }
     ensures within { IfOk result (λ log. length log.bytes.items ≤ 16777216) }
-    ensures too_long { result ≡ Err Fault.NotBuilt → Stood (T.faults tree.old) (T.faults tree.new)
-        → Told (FindsLongLog path.now) (T.world tree.old) (T.world tree.new) }
+    ensures too_long { result ≡ Err Fault.NotBuilt → Stood (T.meaning.faults tree.old) (T.meaning.faults tree.new)
+        → Told (FindsLongLog path.now) (T.meaning.world tree.old) (T.meaning.world tree.new) }
     ensures faults { IfErr result (λ fault. (fault ≡ Fault.Memory) ⊎ (fault ≡ Fault.NotBuilt)) }
-    ensures count { NeverFalls (T.faults tree.old) (T.faults tree.new) }
+    ensures count { NeverFalls (T.meaning.faults tree.old) (T.meaning.faults tree.new) }
 {
     if is_own_name(path) {
         return Ok(no_log(alloc, 0, 0));
@@ -65,10 +65,10 @@ pub fn read_log<T: Tree>(alloc: Global, tree: &mut T, path: &str) -> Result<LogF
 // Whether the working folder has the log file as a plain file, and how many calls and names failed.
 fn find_log<T: Tree>(alloc: Global, tree: &mut T, path: &str) -> Result<(bool, u32), Fault>
     requires { IsTrue (is_plain_name path.now) }
-    ensures ok { IfOk result (λ found. Stood (T.faults tree.old) (T.faults tree.new)
-        → Told (FindsLog path.now found.0 found.1) (T.world tree.old) (T.world tree.new)) }
+    ensures ok { IfOk result (λ found. Stood (T.meaning.faults tree.old) (T.meaning.faults tree.new)
+        → Told (FindsLog path.now found.0 found.1) (T.meaning.world tree.old) (T.meaning.world tree.new)) }
     ensures faults { IfErr result (λ fault. fault ≡ Fault.Memory) }
-    ensures count { NeverFalls (T.faults tree.old) (T.faults tree.new) }
+    ensures count { NeverFalls (T.meaning.faults tree.old) (T.meaning.faults tree.new) }
 {
     match tree.list(alloc, "") {
         Ok(Listed::Items { items, unnamed }) => Ok((has_log(&items, path), unnamed)),
@@ -85,13 +85,13 @@ fn has_log(items: &[Item], path: &str) -> bool
 }
 
 fn open_log<T: Tree>(alloc: Global, tree: &mut T, path: &str) -> Result<LogFile, Fault>
-    ensures ok { IfOk result (λ log. Stood (T.faults tree.old) (T.faults tree.new)
-        → Told (TakesLog path.now log.bytes.items (log_counts log)) (T.world tree.old) (T.world tree.new)) }
+    ensures ok { IfOk result (λ log. Stood (T.meaning.faults tree.old) (T.meaning.faults tree.new)
+        → Told (TakesLog path.now log.bytes.items (log_counts log)) (T.meaning.world tree.old) (T.meaning.world tree.new)) }
     ensures within { IfOk result (λ log. length log.bytes.items ≤ 16777216) }
-    ensures too_long { result ≡ Err Fault.NotBuilt → Stood (T.faults tree.old) (T.faults tree.new)
-        → Told (FindsLongLog path.now) (T.world tree.old) (T.world tree.new) }
+    ensures too_long { result ≡ Err Fault.NotBuilt → Stood (T.meaning.faults tree.old) (T.meaning.faults tree.new)
+        → Told (FindsLongLog path.now) (T.meaning.world tree.old) (T.meaning.world tree.new) }
     ensures faults { IfErr result (λ fault. (fault ≡ Fault.Memory) ⊎ (fault ≡ Fault.NotBuilt)) }
-    ensures count { NeverFalls (T.faults tree.old) (T.faults tree.new) }
+    ensures count { NeverFalls (T.meaning.faults tree.old) (T.meaning.faults tree.new) }
 {
     let (gone, failed) = match tree.open_file(alloc, path) {
         Ok(Opened::File { handle, size }) => {
@@ -127,13 +127,13 @@ fn take_opened<T: Tree>(
     handle: Handle,
     size: u64,
 ) -> Result<LogFile, Fault>
-    ensures ok { IfOk result (λ log. Stood (T.faults tree.old) (T.faults tree.new)
-        → Told (TakesOpened handle.0 size log) (T.world tree.old) (T.world tree.new)) }
+    ensures ok { IfOk result (λ log. Stood (T.meaning.faults tree.old) (T.meaning.faults tree.new)
+        → Told (TakesOpened handle.0 size log) (T.meaning.world tree.old) (T.meaning.world tree.new)) }
     ensures within { IfOk result (λ log. length log.bytes.items ≤ 16777216) }
     ensures size { IfOk result (λ log. size ≤ MAX_LOG_BYTES) }
     ensures too_long { result ≡ Err Fault.NotBuilt → (MAX_LOG_BYTES < size) × (tree.new ≡ tree.old) }
     ensures faults { IfErr result (λ fault. (fault ≡ Fault.Memory) ⊎ (fault ≡ Fault.NotBuilt)) }
-    ensures count { NeverFalls (T.faults tree.old) (T.faults tree.new) }
+    ensures count { NeverFalls (T.meaning.faults tree.old) (T.meaning.faults tree.new) }
 {
     if size > MAX_LOG_BYTES {
         return Err(Fault::NotBuilt);
@@ -153,8 +153,8 @@ fn take_opened<T: Tree>(
 // Fills the buffer from the front of an open file, and answers how far it came.
 fn read_bytes<T: Tree>(tree: &mut T, handle: Handle, buffer: &mut [u8]) -> (usize, Ending)
     ensures within { result.0 ≤ length buffer.new }
-    ensures world { Told (ReadsFront handle.0 buffer.new result.0 result.1) (T.world tree.old) (T.world tree.new) }
-    ensures cause { HasEndCause result.1 (T.faults tree.old) (T.faults tree.new) }
+    ensures world { Told (ReadsFront handle.0 buffer.new result.0 result.1) (T.meaning.world tree.old) (T.meaning.world tree.new) }
+    ensures cause { HasEndCause result.1 (T.meaning.faults tree.old) (T.meaning.faults tree.new) }
 {
     let mut filled = 0;
     while filled < buffer.len() {

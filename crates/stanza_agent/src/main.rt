@@ -24,6 +24,7 @@ mod tests;
 use agent::run_agent;
 use real::{RealDisk, RealSink, RealSource, RealTree};
 use std::alloc::Global;
+use std::io::ErrorKind;
 use std::process::ExitCode;
 use std::{env, io};
 
@@ -41,10 +42,15 @@ fn main(rt: HostRuntime) -> io::Result<ExitCode> {
     Ok(ExitCode::from(status))
 }
 
-// The words after the program's name.
+// The words after the program's name. Where a word isn't UTF-8, they are no command, and none are answered.
 fn words(rt: &HostRuntime, alloc: Global) -> io::Result<Vec<String>> {
     let mut words = Vec::new(alloc);
-    for word in env::args(rt)?.skip(1) {
+    let given = match env::args(rt) {
+        Ok(given) => given,
+        Err(e) if e.kind() == ErrorKind::InvalidData => return Ok(words),
+        Err(e) => return Err(e),
+    };
+    for word in given.skip(1) {
         words.push(word)?;
     }
     Ok(words)

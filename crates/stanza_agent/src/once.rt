@@ -25,14 +25,14 @@ pub fn once<T: Tree, D: Disk, K: Sink>(
     report: &mut K,
 ) -> u8
     ensures answers { IsOnceStatus result }
-    ensures ends { OnceEnds T.world T.faults D.tells D.seen D.may_leave D.moment D.left_since tree.old tree.new disk.old disk.new (K.written report.old) (K.written report.new) result }
-    ensures disk_failed { result ≡ 7 → Rose (D.faults disk.old) (D.faults disk.new) }
-    ensures disk_stood { result ≢ 7 → D.faults disk.new ≡ D.faults disk.old }
-    ensures report_failed { result ≡ 9 → Rose (K.faults report.old) (K.faults report.new) }
-    ensures report_stood { result ≡ 0 → K.faults report.new ≡ K.faults report.old }
+    ensures ends { OnceEnds T.meaning D.meaning tree.old tree.new disk.old disk.new (K.meaning.written report.old) (K.meaning.written report.new) result }
+    ensures disk_failed { result ≡ 7 → Rose (D.meaning.faults disk.old) (D.meaning.faults disk.new) }
+    ensures disk_stood { result ≢ 7 → D.meaning.faults disk.new ≡ D.meaning.faults disk.old }
+    ensures report_failed { result ≡ 9 → Rose (K.meaning.faults report.old) (K.meaning.faults report.new) }
+    ensures report_stood { result ≡ 0 → K.meaning.faults report.new ≡ K.meaning.faults report.old }
     // At each moment only the output may be others than it was.
-    ensures begun { Passes D.may_leave D.moment D.left_since Same disk.old disk.new
-        ⊎ Begins T.world T.faults D.tells D.seen D.may_leave D.moment D.left_since tree.old tree.new disk.old disk.new }
+    ensures begun { Passes D.meaning.images Same disk.old disk.new
+        ⊎ Begins T.meaning D.meaning tree.old tree.new disk.old disk.new }
 {
     match poll_line(alloc, tree, disk) {
         Ok(line) => match report_line(alloc, line.as_str(), report) {
@@ -47,12 +47,12 @@ pub fn once<T: Tree, D: Disk, K: Sink>(
 // Makes one poll, and answers the line that reports it.
 fn poll_line<T: Tree, D: Disk>(alloc: Global, tree: &mut T, disk: &mut D) -> Result<String, Fault>
     ensures ok { IfOk result (λ line. (summary : Summary) × (string_bytes line ≡ summary_line summary)
-        × Polled T.world T.faults D.tells D.seen D.may_leave tree.old tree.new disk.old disk.new summary) }
-    ensures fault { IfErr result (IsPollFault T.world T.faults D.tells D.seen tree.old tree.new disk.old) }
-    ensures untouched { IfErr result (λ fault. ComesFirst fault → Passes D.may_leave D.moment D.left_since Same disk.old disk.new) }
-    ensures cause { HasDiskCause result (D.faults disk.old) (D.faults disk.new) }
-    ensures begun { Passes D.may_leave D.moment D.left_since Same disk.old disk.new
-        ⊎ Begins T.world T.faults D.tells D.seen D.may_leave D.moment D.left_since tree.old tree.new disk.old disk.new }
+        × Polled T.meaning D.meaning tree.old tree.new disk.old disk.new summary) }
+    ensures fault { IfErr result (IsPollFault T.meaning D.meaning tree.old tree.new disk.old) }
+    ensures untouched { IfErr result (λ fault. ComesFirst fault → Passes D.meaning.images Same disk.old disk.new) }
+    ensures cause { HasDiskCause result (D.meaning.faults disk.old) (D.meaning.faults disk.new) }
+    ensures begun { Passes D.meaning.images Same disk.old disk.new
+        ⊎ Begins T.meaning D.meaning tree.old tree.new disk.old disk.new }
 {
     let summary = poll_once(alloc, tree, disk)?;
     Ok(summary.line(alloc)?)

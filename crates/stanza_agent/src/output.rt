@@ -39,16 +39,16 @@ pub fn write_lines<D: Disk>(
     path: &str,
     bytes: &[u8],
 ) -> Result<Written, Fault>
-    requires empty { IsTrue (D.tells disk.old) → D.seen disk.old DiskFile.Output ≡ [] }
+    requires empty { IsTrue (D.meaning.images.tells disk.old) → D.meaning.images.seen disk.old DiskFile.Output ≡ [] }
     requires few { length bytes.now ≤ 16777216 }
     ensures ok { IfOk result (λ written. IsOutputOf record { said = settings_of pipeline.now; path = path.now; network = network pipeline.now } bytes.now
-        written (D.tells disk.old) (D.seen disk.new DiskFile.Output)) }
+        written (D.meaning.images.tells disk.old) (D.meaning.images.seen disk.new DiskFile.Output)) }
     ensures full { (size : ℕ) → result ≡ Err (Fault.OutputFull size)
         → PassesLimit record { said = settings_of pipeline.now; path = path.now; network = network pipeline.now } bytes.now size }
     ensures faults { IfErr result (λ fault. (fault ≡ Fault.Memory) ⊎ (fault ≡ Fault.Disk) ⊎ ((size : ℕ) × (fault ≡ Fault.OutputFull size))) }
-    ensures cause { HasDiskCause result (D.faults disk.old) (D.faults disk.new) }
-    ensures tells { D.tells disk.new ≡ D.tells disk.old }
-    ensures crash { Passes D.may_leave D.moment D.left_since
+    ensures cause { HasDiskCause result (D.meaning.faults disk.old) (D.meaning.faults disk.new) }
+    ensures tells { D.meaning.images.tells disk.new ≡ D.meaning.images.tells disk.old }
+    ensures crash { Passes D.meaning.images
         (AtFile DiskFile.Output (Torn 0 (length (output_of record { said = settings_of pipeline.now; path = path.now; network = network pipeline.now } bytes.now)))) disk.old disk.new }
     ensures unwritten { (size : ℕ) → result ≡ Err (Fault.OutputFull size) → disk.new ≡ disk.old }
 {

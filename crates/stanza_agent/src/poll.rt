@@ -34,13 +34,13 @@ pub fn poll_once<T: Tree, D: Disk>(
     tree: &mut T,
     disk: &mut D,
 ) -> Result<Summary, Fault>
-    ensures ok { IfOk result (Polled T.world T.faults D.tells D.seen D.may_leave tree.old tree.new disk.old disk.new) }
-    ensures fault { IfErr result (IsPollFault T.world T.faults D.tells D.seen tree.old tree.new disk.old) }
-    ensures untouched { IfErr result (λ fault. ComesFirst fault → Passes D.may_leave D.moment D.left_since Same disk.old disk.new) }
-    ensures cause { HasDiskCause result (D.faults disk.old) (D.faults disk.new) }
-    ensures count { NeverFalls (T.faults tree.old) (T.faults tree.new) }
-    ensures begun { Passes D.may_leave D.moment D.left_since Same disk.old disk.new
-        ⊎ Begins T.world T.faults D.tells D.seen D.may_leave D.moment D.left_since tree.old tree.new disk.old disk.new }
+    ensures ok { IfOk result (Polled T.meaning D.meaning tree.old tree.new disk.old disk.new) }
+    ensures fault { IfErr result (IsPollFault T.meaning D.meaning tree.old tree.new disk.old) }
+    ensures untouched { IfErr result (λ fault. ComesFirst fault → Passes D.meaning.images Same disk.old disk.new) }
+    ensures cause { HasDiskCause result (D.meaning.faults disk.old) (D.meaning.faults disk.new) }
+    ensures count { NeverFalls (T.meaning.faults tree.old) (T.meaning.faults tree.new) }
+    ensures begun { Passes D.meaning.images Same disk.old disk.new
+        ⊎ Begins T.meaning D.meaning tree.old tree.new disk.old disk.new }
 {
     let job = read_job(alloc, disk)?;
     let log = read_log(alloc, tree, job.path.as_str())?;
@@ -63,12 +63,12 @@ struct Job {
 }
 
 fn read_job<D: Disk>(alloc: Global, disk: &mut D) -> Result<Job, Fault>
-    ensures ok { IfOk result (λ job. IsTrue (D.tells disk.old) → IsAsked (D.seen disk.old) (settings_data job.settings) job.path) }
-    ensures fault { IfErr result (IsJobFault (D.tells disk.old) (D.seen disk.old)) }
-    ensures cause { HasDiskCause result (D.faults disk.old) (D.faults disk.new) }
-    ensures seen { D.seen disk.new ≡ D.seen disk.old }
-    ensures tells { D.tells disk.new ≡ D.tells disk.old }
-    ensures crash { Passes D.may_leave D.moment D.left_since Same disk.old disk.new }
+    ensures ok { IfOk result (λ job. IsTrue (D.meaning.images.tells disk.old) → IsAsked (D.meaning.images.seen disk.old) (settings_data job.settings) job.path) }
+    ensures fault { IfErr result (IsJobFault (D.meaning.images.tells disk.old) (D.meaning.images.seen disk.old)) }
+    ensures cause { HasDiskCause result (D.meaning.faults disk.old) (D.meaning.faults disk.new) }
+    ensures seen { D.meaning.images.seen disk.new ≡ D.meaning.images.seen disk.old }
+    ensures tells { D.meaning.images.tells disk.new ≡ D.meaning.images.tells disk.old }
+    ensures crash { Passes D.meaning.images Same disk.old disk.new }
 {
     let folder = read_folder(alloc, disk)?;
     let settings = folder.settings(alloc)?;
@@ -97,15 +97,15 @@ fn append_log<D: Disk>(
     path: &str,
     log: &LogFile,
 ) -> Result<Summary, Fault>
-    requires empty { IsTrue (D.tells disk.old) → D.seen disk.old DiskFile.Output ≡ [] }
+    requires empty { IsTrue (D.meaning.images.tells disk.old) → D.meaning.images.seen disk.old DiskFile.Output ≡ [] }
     requires few { length log.now.bytes.items ≤ 16777216 }
-    ensures ok { IfOk result (Appended D.may_leave record { said = settings_of pipeline.now; path = path.now; network = network pipeline.now } log.now disk.new) }
+    ensures ok { IfOk result (Appended D.meaning record { said = settings_of pipeline.now; path = path.now; network = network pipeline.now } log.now disk.new) }
     ensures full { (size : ℕ) → result ≡ Err (Fault.OutputFull size)
         → PassesLimit record { said = settings_of pipeline.now; path = path.now; network = network pipeline.now } log.now.bytes.items size }
     ensures unwritten { (size : ℕ) → result ≡ Err (Fault.OutputFull size) → disk.new ≡ disk.old }
     ensures faults { IfErr result (λ fault. (fault ≡ Fault.Memory) ⊎ (fault ≡ Fault.Disk) ⊎ ((size : ℕ) × (fault ≡ Fault.OutputFull size))) }
-    ensures cause { HasDiskCause result (D.faults disk.old) (D.faults disk.new) }
-    ensures crash { Passes D.may_leave D.moment D.left_since
+    ensures cause { HasDiskCause result (D.meaning.faults disk.old) (D.meaning.faults disk.new) }
+    ensures crash { Passes D.meaning.images
         (AtFile DiskFile.Output (Torn 0 (length (output_of record { said = settings_of pipeline.now; path = path.now; network = network pipeline.now } log.now.bytes.items)))) disk.old disk.new }
 {
     let written = write_lines(alloc, disk, pipeline, path, &log.bytes)?;

@@ -2,7 +2,7 @@
 //!
 //! These adapters are the trusted edge of the product. They tell nothing of contents, so what is proved of them is that
 //! a fault comes only where the count of faults rose.
-ghost use Rattle.std.specs.Prelude.{◌≡◌, Ok, IfOk};
+ghost use Rattle.std.specs.Prelude.{◌≡◌, ◌≤◌, Ok, IfOk};
 ghost use Rattle.outside.specs.Count.{HasCause, HasOneCause};
 
 mod control;
@@ -32,7 +32,10 @@ fn is_missing(error: &io::Error) -> bool {
 fn counted<T: Drop>(faults: &mut u64, given: io::Result<T>) -> Result<T, Failed>
     ensures value { IfOk result (λ value. given ≡ Ok value) }
     ensures cause { HasOneCause result faults.old faults.new }
+    ensures in_range { faults.new ≤ 18446744073709551615 }
 {
+    // Once the count is read, the prover knows its range.
+    let _count = *faults;
     match given {
         Ok(value) => Ok(value),
         Err(_) => {
@@ -46,7 +49,9 @@ fn counted<T: Drop>(faults: &mut u64, given: io::Result<T>) -> Result<T, Failed>
 fn counted_call<T: Drop>(faults: &mut u64, given: io::Result<T>) -> Result<T, CallFault>
     ensures value { IfOk result (λ value. given ≡ Ok value) }
     ensures cause { HasCause result faults.old faults.new }
+    ensures in_range { faults.new ≤ 18446744073709551615 }
 {
+    let _count = *faults;
     match given {
         Ok(value) => Ok(value),
         Err(e) if e.kind() == ErrorKind::OutOfMemory => Err(CallFault::Memory),

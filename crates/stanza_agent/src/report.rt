@@ -16,18 +16,18 @@ use std::alloc::{AllocError, Global};
 
 /// Reports a line, which has its LF.
 pub fn report_line<K: Sink>(alloc: Global, line: &str, report: &mut K) -> Result<(), CallFault>
-    ensures ok { OnOk result (Told (Appends line.now) (K.written report.old) (K.written report.new)) }
-    ensures part { Told (GrowsByPart line.now) (K.written report.old) (K.written report.new) }
-    ensures cause { HasCause result (K.faults report.old) (K.faults report.new) }
+    ensures ok { OnOk result (Told (Appends line.now) (K.meaning.written report.old) (K.meaning.written report.new)) }
+    ensures part { Told (GrowsByPart line.now) (K.meaning.written report.old) (K.meaning.written report.new) }
+    ensures cause { HasCause result (K.meaning.faults report.old) (K.meaning.faults report.new) }
 {
     report.write(alloc, line.as_bytes())
 }
 
 /// Reports a fault by its line.
 pub fn report_fault<K: Sink>(alloc: Global, fault: &Fault, report: &mut K) -> Result<(), CallFault>
-    ensures ok { OnOk result (Told (Appends (fault_line fault.now)) (K.written report.old) (K.written report.new)) }
-    ensures part { Told (GrowsByPart (fault_line fault.now)) (K.written report.old) (K.written report.new) }
-    ensures cause { HasCause result (K.faults report.old) (K.faults report.new) }
+    ensures ok { OnOk result (Told (Appends (fault_line fault.now)) (K.meaning.written report.old) (K.meaning.written report.new)) }
+    ensures part { Told (GrowsByPart (fault_line fault.now)) (K.meaning.written report.old) (K.meaning.written report.new) }
+    ensures cause { HasCause result (K.meaning.faults report.old) (K.meaning.faults report.new) }
 {
     // Where memory ran out, there may be none for a line.
     if let Fault::Memory = fault {
@@ -110,7 +110,7 @@ fn graph_line(alloc: Global, fault: GraphFault) -> Result<String, AllocError>
 /// Reports a fault, and answers its status.
 pub fn refuse<K: Sink>(alloc: Global, fault: Fault, report: &mut K) -> u8
     ensures status { result ≡ status_of fault }
-    ensures told { Told (GrowsByPart (fault_line fault)) (K.written report.old) (K.written report.new) }
+    ensures told { Told (GrowsByPart (fault_line fault)) (K.meaning.written report.old) (K.meaning.written report.new) }
 {
     let _ = report_fault(alloc, &fault, report);
     fault.status()

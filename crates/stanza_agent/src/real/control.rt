@@ -1,4 +1,5 @@
 // Standard input.
+ghost use Rattle.std.specs.Prelude.{◌≤◌};
 ghost use Rattle.std.specs.Io.{ReadsAtMost};
 
 use super::{TRIES, counted};
@@ -11,6 +12,7 @@ use std::io::{ErrorKind, Read};
 pub struct RealSource<'a> {
     rt: &'a HostRuntime,
     faults: u64,
+    ghost in_range: { faults ≤ 18446744073709551615 },
 }
 
 impl<'a> RealSource<'a> {
@@ -22,9 +24,9 @@ impl<'a> RealSource<'a> {
 impl Source for RealSource<'_> {
     ghost use Rattle.std.specs.Prelude.{None};
 
-    ghost rest = { λ _. None };
+    ghost meaning = { record { rest = λ _. None; faults = λ source. source.faults } };
 
-    ghost faults = { λ source. source.faults };
+    ghost in_range = { λ source. source.in_range };
 
     fn read(&mut self, buf: &mut [u8]) -> Result<usize, Failed> {
         let given = read_retrying(self.rt, buf);

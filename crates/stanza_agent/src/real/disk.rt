@@ -1,5 +1,5 @@
 // The agent's own four files, in the working folder.
-ghost use Rattle.std.specs.Prelude.{IfOk};
+ghost use Rattle.std.specs.Prelude.{◌≤◌, IfOk};
 ghost use Rattle.std.specs.Io.{ReadsAtMost};
 
 use super::{TRIES, counted, counted_call};
@@ -29,6 +29,7 @@ pub struct RealDisk<'a> {
     slot_a: OwnFile,
     slot_b: OwnFile,
     faults: u64,
+    ghost in_range: { faults ≤ 18446744073709551615 },
 }
 
 impl<'a> RealDisk<'a> {
@@ -150,26 +151,10 @@ impl OwnFile {
 }
 
 impl Disk for RealDisk<'_> {
-    ghost use Rattle.std.specs.Prelude.{None, false, []};
-    ghost use Rattle.stanza_agent.specs.Silent.{never_told};
+    ghost use Rattle.std.specs.Prelude.{None};
+    ghost use Rattle.stanza_agent.specs.Silent.{silent, never_told};
 
-    ghost tells = { λ _. false };
-
-    ghost seen = { λ _ _. [] };
-
-    ghost may_leave = { λ _ _. ⊥ };
-
-    ghost moment = { λ _. 0 };
-
-    ghost left_since = { λ _ _ _. ⊥ };
-
-    ghost faults = { λ disk. disk.faults };
-
-    ghost bound = { λ _. None };
-
-    ghost done = { λ _. None };
-
-    ghost limit = { λ _. None };
+    ghost meaning = { record { images = silent; faults = λ disk. disk.faults; bound = λ _. None; done = λ _. None; limit = λ _. None; written = λ _. None } };
 
     ghost told = { λ _ _ left. absurd left };
 
@@ -178,6 +163,8 @@ impl Disk for RealDisk<'_> {
     ghost counts_now = { λ _ _ _ _ left. left };
 
     ghost only_now = { λ _ _ left. left };
+
+    ghost in_range = { λ disk. disk.in_range };
 
     ghost within_bound = { λ _. tt };
 

@@ -1,4 +1,6 @@
 // Standard output.
+ghost use Rattle.std.specs.Prelude.{◌≤◌};
+
 use super::counted_call;
 use outside::{CallFault, Sink};
 use std::alloc::Global;
@@ -10,6 +12,7 @@ use std::io::Write;
 pub struct RealSink<'a> {
     rt: &'a HostRuntime,
     faults: u64,
+    ghost in_range: { faults ≤ 18446744073709551615 },
 }
 
 impl<'a> RealSink<'a> {
@@ -21,9 +24,9 @@ impl<'a> RealSink<'a> {
 impl Sink for RealSink<'_> {
     ghost use Rattle.std.specs.Prelude.{None};
 
-    ghost written = { λ _. None };
+    ghost meaning = { record { written = λ _. None; faults = λ sink. sink.faults } };
 
-    ghost faults = { λ sink. sink.faults };
+    ghost in_range = { λ sink. sink.in_range };
 
     fn write(&mut self, _alloc: Global, bytes: &[u8]) -> Result<(), CallFault> {
         let given = write_out(self.rt, bytes);

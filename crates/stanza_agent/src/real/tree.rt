@@ -1,5 +1,5 @@
 // The machine's folders and plain files.
-ghost use Rattle.std.specs.Prelude.{IfOk};
+ghost use Rattle.std.specs.Prelude.{◌≤◌, IfOk};
 ghost use Rattle.std.specs.Io.{ReadsAtMost};
 ghost use Rattle.stanza_agent.specs.Found.{IsFoundSize};
 
@@ -30,6 +30,7 @@ pub struct RealTree<'a> {
     faults: u64,
     taken: u64,
     nameless: u64,
+    ghost in_range: { faults ≤ 18446744073709551615 },
 }
 
 impl<'a> RealTree<'a> {
@@ -49,17 +50,13 @@ impl Tree for RealTree<'_> {
     ghost use Rattle.std.specs.Prelude.{None};
     ghost use Rattle.outside.specs.Opening.{IsSize};
 
-    ghost world = { λ _. None };
+    ghost meaning = { record { world = λ _. None; plan = λ _. None; faults = λ tree. tree.faults; bound = λ _. None; taken = λ tree. tree.taken; nameless = λ tree. tree.nameless; widest = λ _. None } };
 
-    ghost faults = { λ tree. tree.faults };
+    ghost lawful = { λ _. tt };
 
-    ghost taken = { λ tree. tree.taken };
+    ghost followed = { λ _. tt };
 
-    ghost nameless = { λ tree. tree.nameless };
-
-    ghost plan = { λ _. None };
-
-    ghost bound = { λ _. None };
+    ghost in_range = { λ tree. tree.in_range };
 
     ghost within_bound = { λ _. tt };
 

@@ -6,7 +6,7 @@ use Rattle.stanza_agent.proofs.control.next_request.Given as goal
 -- what was taken is the front of the line, and no call has failed
 abbrev pub invariant-loop-left : goal.invariant-loop-left
 invariant-loop-left g l =
-    let source = g.S.Source in
+    let source = g.S.Source.meaning in
     record {
       long : length l.line ≡ 64;
       within : l.filled ≤ 64;

@@ -7,14 +7,14 @@ use Rattle.stanza_agent.proofs.folder.fill.Given as goal
 -- the front of the buffer is the front of the file, and the disk has done nothing but read
 abbrev pub invariant-loop-filled : goal.invariant-loop-filled
 invariant-loop-filled g l =
-    let disk = g.D.Disk in
+    let disk = g.D.Disk.meaning in
     record {
       within : l.filled ≤ length l.buf;
-      front : IsTrue (disk.tells l.fn.disk) → IsFilled (disk.seen l.fn.disk l.file) l.buf l.filled;
+      front : IsTrue (disk.images.tells l.fn.disk) → IsFilled (disk.images.seen l.fn.disk l.file) l.buf l.filled;
       cause : disk.faults l.disk ≡ disk.faults l.fn.disk;
-      seen : disk.seen l.disk ≡ disk.seen l.fn.disk;
-      tells : disk.tells l.disk ≡ disk.tells l.fn.disk;
-      crash : Passes disk.may_leave disk.moment disk.left_since Same l.fn.disk l.disk;
+      seen : disk.images.seen l.disk ≡ disk.images.seen l.fn.disk;
+      tells : disk.images.tells l.disk ≡ disk.images.tells l.fn.disk;
+      crash : Passes disk.images Same l.fn.disk l.disk;
     }
 
 abbrev pub decreases-loop-filled : goal.decreases-loop-filled

@@ -13,7 +13,7 @@ returns-then-status-ne0-clause-course g c =
     let not_ended : c.once-status.result ≢ 0 = search rules in
     inr (inl (record {
       not_ended = not_ended;
-      asked = subst (λ request. Told (Asks max_control request) (g.S.Source.rest c.args.control.now) (g.S.Source.rest c.next_request-first.new.control)) first c.next_request-first.ensures.asks;
+      asked = subst (λ request. Told (Asks max_control request) (g.S.Source.meaning.rest c.args.control.now) (g.S.Source.meaning.rest c.next_request-first.new.control)) first c.next_request-first.ensures.asks;
       poll = c.once-status.ensures.ends;
     }))
 
@@ -22,9 +22,9 @@ returns-clause-course g c =
     let first : c.next_request-first.result ≡ Ok Poll = search rules in
     let went : c.once-status.result ≡ 0 = search rules in
     inr (inr (record {
-      rest_between = g.S.Source.rest c.next_request-first.new.control;
+      rest_between = g.S.Source.meaning.rest c.next_request-first.new.control;
       left_between = c.next_request-first.new.left;
-      first_asked = subst (λ request. Told (Asks max_control request) (g.S.Source.rest c.args.control.now) (g.S.Source.rest c.next_request-first.new.control)) first c.next_request-first.ensures.asks;
+      first_asked = subst (λ request. Told (Asks max_control request) (g.S.Source.meaning.rest c.args.control.now) (g.S.Source.meaning.rest c.next_request-first.new.control)) first c.next_request-first.ensures.asks;
       first_spent = c.next_request-first.ensures.spends;
       report_between = c.once-status.new.report;
       poll = rw went at c.once-status.ensures.ends;
@@ -42,4 +42,4 @@ returns-clause-control_long g c = λ is.
     let long = exhausted_of_status c.next_request-second.result 2 c.stop-2.result _ _ c.stop-2.ensures.stops is in
     exactly_both_told max_control c.next_request-first.new.left _ _ _ c.next_request-first.ensures.spends
     (takes_exactly_told c.next_request-first.new.left _ _
-    (subst (λ request. Told (Asks c.next_request-first.new.left request) (g.S.Source.rest c.next_request-first.new.control) (g.S.Source.rest c.next_request-second.new.control)) long c.next_request-second.ensures.asks))
+    (subst (λ request. Told (Asks c.next_request-first.new.left request) (g.S.Source.meaning.rest c.next_request-first.new.control) (g.S.Source.meaning.rest c.next_request-second.new.control)) long c.next_request-second.ensures.asks))

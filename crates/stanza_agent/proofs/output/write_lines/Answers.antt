@@ -21,13 +21,13 @@ pub returns-in_err-write_at-clause-crash : goal.returns-in_err-write_at-clause-c
 returns-in_err-write_at-clause-crash g c =
     let task : Task = record { said = settings_of c.args.pipeline.now; path = c.args.path.now; network = network c.args.pipeline.now } in
     let whole = whole_output task c.args.bytes.now c.in_ok-state.state c.feed.new.state c.new-lines.result.items c.feed.new.out.items (c.in_ok-state.ensures.stands c.args.path.now) c.in_ok-state.ensures.counts.1 c.new-lines.ensures.items (c.in_ok-feed.ensures.goes_on [] (c.in_ok-state.ensures.stands c.args.path.now)) in
-    subst (λ l. Passes g.D.Disk.may_leave g.D.Disk.moment g.D.Disk.left_since (AtFile Output (Torn 0 (length l))) c.args.disk.now c.write_at.new.self) (c.deref-2.ensures.value ∙ whole.all) c.write_at.ensures.crash
+    subst (λ l. Passes g.D.Disk.meaning.images (AtFile Output (Torn 0 (length l))) c.args.disk.now c.write_at.new.self) (c.deref-2.ensures.value ∙ whole.all) c.write_at.ensures.crash
 
 pub returns-clause-crash : goal.returns-clause-crash
 returns-clause-crash g c =
     let task : Task = record { said = settings_of c.args.pipeline.now; path = c.args.path.now; network = network c.args.pipeline.now } in
     let whole = whole_output task c.args.bytes.now c.in_ok-state.state c.feed.new.state c.new-lines.result.items c.feed.new.out.items (c.in_ok-state.ensures.stands c.args.path.now) c.in_ok-state.ensures.counts.1 c.new-lines.ensures.items (c.in_ok-feed.ensures.goes_on [] (c.in_ok-state.ensures.stands c.args.path.now)) in
-    subst (λ l. Passes g.D.Disk.may_leave g.D.Disk.moment g.D.Disk.left_since (AtFile Output (Torn 0 (length l))) c.args.disk.now c.write_at.new.self) (c.deref-2.ensures.value ∙ whole.all) c.write_at.ensures.crash
+    subst (λ l. Passes g.D.Disk.meaning.images (AtFile Output (Torn 0 (length l))) c.args.disk.now c.write_at.new.self) (c.deref-2.ensures.value ∙ whole.all) c.write_at.ensures.crash
 
 pub returns-clause-ok : goal.returns-clause-ok
 returns-clause-ok g c =
@@ -37,6 +37,6 @@ returns-clause-ok g c =
       lines = whole.many;
       size = omega (arith, c.len.ensures, c.feed.new.out.ok.0, ap length whole.all);
       within = omega (arith, c.in_default.ensures.none, ap length c.deref.ensures.value, ap length whole.all);
-      shown = λ told. holds_at_end 0 c.deref-2.result.now (g.D.Disk.seen c.args.disk.now Output) (g.D.Disk.seen c.write_at.new.self Output) (sym (ap length (c.requires.empty told))) (c.in_ok-write_at.ensures.written told).here
+      shown = λ told. holds_at_end 0 c.deref-2.result.now (g.D.Disk.meaning.images.seen c.args.disk.now Output) (g.D.Disk.meaning.images.seen c.write_at.new.self Output) (sym (ap length (c.requires.empty told))) (c.in_ok-write_at.ensures.written told).here
           ∙ ap (λ l. l ++ c.deref-2.result.now) (c.requires.empty told) ∙ c.deref-2.ensures.value ∙ whole.all;
     }
