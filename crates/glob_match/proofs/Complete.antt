@@ -1,5 +1,5 @@
 -- The reader takes each text of the grammar.
-use Rattle.std.proofs.Common.{◌≡◌, ◌≢◌, ℕ, ◌+◌, ◌<◌, List, [], ◌∷◌, ◌++◌, ◌∙◌, ap, sym, refl, subst, length, Option, None, Some, option_and_then, Bool, true, false, not, cond, ◌&&◌, ◌||◌, nat_eq, inl, inr, ◌⊎◌, append_assoc, arith}
+use Rattle.std.proofs.Common.{◌≡◌, ◌≢◌, ℕ, ◌<◌, List, [], ◌∷◌, ◌++◌, ◌∙◌, ap, sym, refl, length, Some, option_and_then, Bool, true, false, ◌||◌, nat_eq, append_assoc, arith}
 use Rattle.std.proofs.lemmas.Bool.{eqb-true, ne_eqb, and_parts, or_parts, not-true}
 use Rattle.std.proofs.lemmas.List.{append-nil}
 use Rattle.std.specs.List.{list_all}
@@ -8,10 +8,8 @@ use Rattle.glob_match.specs.declared.pattern.Unit.{Unit}
 use Rattle.glob_match.specs.declared.pattern.Unit.TheVariants.{Plain, Escaped, One, Star, Class}
 use Rattle.glob_match.specs.declared.pattern.Piece.{Piece}
 use Rattle.glob_match.specs.declared.pattern.Piece.TheVariants.{Single, AnyOf}
-use Rattle.glob_match.specs.declared.pattern.Component.{Component}
 use Rattle.glob_match.specs.declared.reader.Place.{Place}
 use Rattle.glob_match.specs.declared.reader.Place.TheVariants as place
-use Rattle.glob_match.specs.declared.reader.Phase.{Phase}
 use Rattle.glob_match.specs.declared.reader.Phase.TheVariants as phase
 use Rattle.glob_match.specs.CharacterSet.{spans_of}
 use Rattle.glob_match.specs.GlobText.{is_negation, is_class_character, is_special, is_plain_character, AreSigns, no_sign, sign, escaped_sign, IsClass, negated, listed, IsUnit, plain, escaped as escaped_unit, one, star, class, AreParts, last_part, next_part, in_part, AreComponents, last_component, next_component, single, any_of, IsGlobText}

@@ -1,7 +1,5 @@
 -- What brings a state of the reader to a glob, in the words of the grammar.
-use Rattle.std.proofs.Common.{◌≡◌, ◌≢◌, ℕ, ◌+◌, ◌<◌, List, [], ◌∷◌, ◌++◌, ◌∙◌, ap, sym, refl, subst, length, Bool, true, false, not, ◌&&◌, inl, inr, ◌⊎◌, append_assoc, arith}
-use Rattle.std.proofs.lemmas.List.{append-nil}
-use Rattle.std.specs.Prelude.{IsTrue}
+use Rattle.std.proofs.Common.{◌≡◌, ◌≢◌, ℕ, ◌+◌, ◌<◌, List, [], ◌∷◌, ◌++◌, refl, length, Bool, true, false, inl, inr, ◌⊎◌, append_assoc, arith}
 use Rattle.std.specs.List.{list_all}
 use Rattle.glob_match.specs.declared.pattern.Sign.{Sign}
 use Rattle.glob_match.specs.declared.pattern.Unit.{Unit}
@@ -14,7 +12,7 @@ use Rattle.glob_match.specs.declared.reader.Phase.{Phase}
 use Rattle.glob_match.specs.declared.reader.Phase.TheVariants as phase
 use Rattle.glob_match.specs.GlobText.{AreSigns, IsUnit, AreParts, in_part, AreComponents, single, is_negation}
 use Rattle.glob_match.specs.Pattern.{Pattern, is_component, components as components_of}
-use Rattle.glob_match.specs.Reader.{State, with_unit, with_parts, with_class, with_sign, escaped}
+use Rattle.glob_match.specs.Reader.{State, with_unit, with_class, escaped}
 
 -- the text closes the component that is open, and brings those behind it
 pub record EndsName (is_absolute : Bool) (closed : List Component) (opened : List Piece) (text : List ℕ) (pattern : Pattern) : Type 0 where

@@ -1,8 +1,8 @@
 -- Where the reader stops.
-use Rattle.std.proofs.Common.{◌≡◌, ℕ, ◌+◌, ◌<◌, ◌≤◌, List, [], ◌∷◌, ◌++◌, ◌∙◌, ap, sym, refl, subst, length, take, drop, get_or, Option, None, Some, option_and_then, Bool, true, false, not, cond, ◌&&◌, nat_eq, inl, inr, ◌⊎◌, append_assoc, add-one, arith, take-suc, length-append}
+use Rattle.std.proofs.Common.{◌≡◌, ℕ, ◌+◌, ◌<◌, ◌≤◌, List, [], ◌∷◌, ◌++◌, ◌∙◌, ap, sym, refl, subst, length, take, drop, get_or, Option, None, Some, option_and_then, Bool, true, false, not, ◌&&◌, nat_eq, inl, inr, ◌⊎◌, add-one, arith, take-suc, length-append}
 use Rattle.std.proofs.Math.Seq.{take-length}
 use Rattle.std.proofs.lemmas.Bool.{cases_lt, ne_eqb}
-use Rattle.std.proofs.lemmas.List.{take-append-drop, append-nil}
+use Rattle.std.proofs.lemmas.List.{take-append-drop}
 use Rattle.glob_match.specs.declared.pattern.Unit.{Unit}
 use Rattle.glob_match.specs.declared.pattern.Unit.TheVariants.{Plain, Escaped}
 use Rattle.glob_match.specs.declared.pattern.Piece.{Piece}
@@ -12,7 +12,7 @@ use Rattle.glob_match.specs.declared.reader.Place.TheVariants as place
 use Rattle.glob_match.specs.declared.reader.Phase.{Phase}
 use Rattle.glob_match.specs.declared.reader.Phase.TheVariants as phase
 use Rattle.glob_match.specs.GlobText.{IsGlobText}
-use Rattle.glob_match.specs.GlobFaults.{BeginsGlob, IsWrongAt, IsClosedAt, IsUnfinishedAt, IsFaultAt}
+use Rattle.glob_match.specs.GlobFaults.{BeginsGlob, IsClosedAt, IsFaultAt}
 use Rattle.glob_match.specs.Pattern.{Pattern, is_component, is_dot, last_components}
 use Rattle.glob_match.specs.Reader.{State, start, with_unit, with_parts, with_class, with_sign, escaped, begun_unit, in_name, in_part, classed, in_signs, in_opened, step_from, step, steps, may_end, is_open, pattern_read}
 use Rattle.glob_match.proofs.Sound.{run, sound}

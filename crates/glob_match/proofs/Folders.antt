@@ -1,5 +1,5 @@
 -- The folders on a path that is matched.
-use Rattle.std.proofs.Common.{◌≡◌, ◌≢◌, ℕ, zero, suc, ◌+◌, ◌<◌, List, [], ◌∷◌, ◌++◌, ◌∙◌, ap, sym, refl, subst, length, take, Bool, true, false, cond, nat_eq, ◌&&◌, inl, inr, ◌⊎◌, arith, length-append}
+use Rattle.std.proofs.Common.{◌≡◌, ◌≢◌, ℕ, zero, suc, ◌<◌, List, [], ◌∷◌, ◌++◌, ◌∙◌, ap, sym, refl, subst, length, take, Bool, true, false, cond, nat_eq, inl, inr, ◌⊎◌, arith, length-append}
 use Rattle.std.proofs.lemmas.Bool.{and_parts, and_from}
 use Rattle.std.specs.List.{list_all}
 use Rattle.std.specs.Str.{chars}
@@ -12,7 +12,7 @@ use Rattle.glob_match.specs.declared.pattern.Unit.TheVariants.{Star}
 use Rattle.glob_match.specs.Fits.{FitsPieces}
 use Rattle.glob_match.specs.GlobText.{IsGlobText}
 use Rattle.glob_match.specs.GlobMatch.{FitsNames, no_names, one_name, no_folder, one_folder, MatchesPath, ListsFolder}
-use Rattle.glob_match.specs.Path.{in_front, names, is_absolute, relative, is_name, is_path}
+use Rattle.glob_match.specs.Path.{in_front, names, is_absolute, relative, is_name}
 use Rattle.glob_match.specs.Pattern.{Pattern, are_two_stars, component, components, last_components}
 
 -- the names of a path that is cut at a slash

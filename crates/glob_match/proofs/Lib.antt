@@ -3,6 +3,7 @@ mod Ends
 mod Faults
 mod Folders
 mod Marks
+mod PlainGlobs
 mod Places
 mod Rows
 mod Searching

@@ -1,18 +1,16 @@
 -- Where units, parts and pieces lead.
-use Rattle.std.proofs.Common.{◌≡◌, ℕ, zero, suc, ◌+◌, ◌-◌, ◌<◌, ◌≤◌, List, [], ◌∷◌, ◌++◌, ◌∙◌, ap, sym, refl, subst, length, take, drop, get_or, Bool, true, false, ◌&&◌, ◌||◌, nat_eq, inl, inr, ◌⊎◌, add-one, arith, length-append}
+use Rattle.std.proofs.Common.{◌≡◌, ℕ, zero, suc, ◌+◌, ◌-◌, ◌<◌, ◌≤◌, List, [], ◌∷◌, ◌++◌, ◌∙◌, ap, sym, refl, subst, length, take, get_or, Bool, true, false, ◌&&◌, ◌||◌, inl, inr, ◌⊎◌, add-one, arith}
 use Rattle.std.proofs.Math.ListN.{get_or-eq_default}
-use Rattle.std.proofs.lemmas.Bool.{cases_lt, cases_Bool, and_parts, and_from, or_cases, or_left, or_right, eqb-true, eq-eqb}
-use Rattle.std.proofs.lemmas.List.{get_or-take, length-take-le, take_more}
+use Rattle.std.proofs.lemmas.Bool.{cases_lt, and_parts, and_from, or_cases, or_left, or_right, eqb-true, eq-eqb}
+use Rattle.std.proofs.lemmas.List.{take_more}
 use Rattle.std.proofs.lemmas.List.Elements.{Contains-append_left, Contains-push, Contains-push_cases}
 use Rattle.std.proofs.lemmas.List.Folds.{list_any_more}
-use Rattle.std.specs.Prelude.{Contains, ⊤, IsTrue}
+use Rattle.std.specs.Prelude.{Contains}
 use Rattle.std.specs.List.{list_any}
 use Rattle.glob_match.specs.declared.pattern.Unit.{Unit}
 use Rattle.glob_match.specs.declared.pattern.Unit.TheVariants.{Plain, Escaped, One, Star, Class}
-use Rattle.glob_match.specs.declared.pattern.Piece.{Piece}
-use Rattle.glob_match.specs.declared.pattern.Piece.TheVariants.{Single, AnyOf}
-use Rattle.glob_match.specs.CharacterSet.{admits}
-use Rattle.glob_match.specs.Fits.{InARow, FitsUnit, FitsUnits, FitsPiece, FitsPieces}
+use Rattle.glob_match.specs.declared.pattern.Piece.TheVariants.{AnyOf}
+use Rattle.glob_match.specs.Fits.{InARow, FitsUnit, FitsUnits, FitsPiece}
 use Rattle.glob_match.specs.Leads.{Leads, IsMarked, between}
 use Rattle.glob_match.specs.TakesOne.{takes_one}
 use Rattle.glob_match.proofs.Rows.{row_push, row_last, length-between, between-append, between-parts, between-same, between-one, between-all}

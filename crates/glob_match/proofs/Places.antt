@@ -1,7 +1,7 @@
 -- Places among characters, told in bytes.
 use Rattle.std.proofs.Common.{◌≡◌, ℕ, ◌+◌, ◌<◌, ◌≤◌, List, [], ◌∷◌, ◌++◌, ◌∙◌, ap, sym, length, take, drop, get_or, encode_utf8_all, arith, length-append}
 use Rattle.std.proofs.lemmas.List.{take-append-drop, take_more, get_or-take, length-take-le}
-use Rattle.std.proofs.lemmas.Str.{encodes-append, length-encode}
+use Rattle.std.proofs.lemmas.Str.{encodes-append}
 use Rattle.std.specs.Prelude.{encode_utf8}
 
 pub place_below : (text : List ℕ) (place : ℕ) → length (encode_utf8_all (take place text)) ≤ length (encode_utf8_all text)

@@ -1,6 +1,5 @@
 -- Texts that fit units and then pieces, taken apart from the front.
-use Rattle.std.proofs.Common.{◌≡◌, ℕ, zero, suc, ◌+◌, ◌*◌, ◌<◌, ◌≤◌, List, [], ◌∷◌, ◌++◌, ◌∙◌, ap, sym, refl, subst, length, get_or, Bool, true, false, nat_eq, ◌↔◌, take, inl, inr, ◌⊎◌, append_assoc, arith}
-use Rattle.std.proofs.lemmas.Bool.{eqb-true, eq-eqb}
+use Rattle.std.proofs.Common.{◌≡◌, ℕ, zero, suc, ◌+◌, ◌*◌, ◌<◌, ◌≤◌, List, [], ◌∷◌, ◌++◌, ◌∙◌, ap, sym, refl, subst, length, get_or, true, ◌↔◌, take, inl, inr, ◌⊎◌, append_assoc, arith}
 use Rattle.std.proofs.lemmas.List.{take_more}
 use Rattle.std.proofs.lemmas.List.Elements.{Contains-push_cases}
 use Rattle.std.proofs.lemmas.Str.{chars-nil, encodes-chars}
@@ -10,7 +9,7 @@ use Rattle.glob_match.specs.declared.pattern.Unit.{Unit}
 use Rattle.glob_match.specs.declared.pattern.Unit.TheVariants.{Star}
 use Rattle.glob_match.specs.declared.pattern.Piece.{Piece}
 use Rattle.glob_match.specs.declared.pattern.Piece.TheVariants.{Single, AnyOf}
-use Rattle.glob_match.specs.Fits.{FitsUnit, FitsUnits, FitsPiece, FitsPieces}
+use Rattle.glob_match.specs.Fits.{FitsPieces}
 use Rattle.glob_match.specs.FitsBoth.{FitsBoth, FitsFrom, FitsSome}
 use Rattle.glob_match.specs.TakesOne.{takes_one}
 use Rattle.glob_match.proofs.Marks.{one_fits, fits_one}

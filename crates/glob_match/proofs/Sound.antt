@@ -1,24 +1,23 @@
 -- What the reader takes is in the grammar.
 use Rattle.std.proofs.Common.{◌≡◌, ◌≢◌, ℕ, ◌+◌, ◌<◌, List, [], ◌∷◌, ◌++◌, ◌∙◌, ap, sym, refl, subst, length, Option, None, Some, option_and_then, Bool, true, false, not, cond, ◌&&◌, ◌||◌, nat_eq, inl, inr, ◌⊎◌, append_assoc, arith}
-use Rattle.std.proofs.lemmas.Bool.{eqb-true, eq-eqb, eqb-false, ne_eqb, and_parts, or_parts, or_from, or_cases, not_from_false, not-true}
+use Rattle.std.proofs.lemmas.Bool.{eqb-true, eq-eqb, eqb-false, and_parts, or_parts, not-true}
 use Rattle.std.proofs.lemmas.List.{append-nil}
-use Rattle.std.specs.Prelude.{IsTrue}
 use Rattle.std.specs.List.{list_all}
 use Rattle.glob_match.specs.declared.pattern.Sign.{Sign}
 use Rattle.glob_match.specs.declared.pattern.Unit.{Unit}
 use Rattle.glob_match.specs.declared.pattern.Unit.TheVariants.{Plain, Escaped, One, Star, Class}
 use Rattle.glob_match.specs.declared.pattern.Component.{Component}
 use Rattle.glob_match.specs.declared.pattern.Piece.{Piece}
-use Rattle.glob_match.specs.declared.pattern.Piece.TheVariants.{Single, AnyOf}
+use Rattle.glob_match.specs.declared.pattern.Piece.TheVariants.{AnyOf}
 use Rattle.glob_match.specs.declared.reader.Place.{Place}
 use Rattle.glob_match.specs.declared.reader.Place.TheVariants as place
 use Rattle.glob_match.specs.declared.reader.Phase.{Phase}
 use Rattle.glob_match.specs.declared.reader.Phase.TheVariants as phase
 use Rattle.glob_match.specs.CharacterSet.{spans_of}
-use Rattle.glob_match.specs.GlobText.{is_negation, is_class_character, is_special, is_plain_character, AreSigns, no_sign, sign, escaped_sign, IsClass, negated, listed, IsUnit, plain, escaped as escaped_unit, one, star, class, AreParts, last_part, next_part, in_part, AreComponents, last_component, next_component, single, any_of, begins_with_slash, without_slash, IsGlobText}
+use Rattle.glob_match.specs.GlobText.{is_negation, is_class_character, is_plain_character, AreSigns, no_sign, sign, escaped_sign, IsClass, negated, listed, IsUnit, plain, escaped as escaped_unit, one, star, class, last_part, next_part, AreComponents, last_component, next_component, single, any_of, IsGlobText}
 use Rattle.glob_match.specs.Pattern.{Pattern, is_component, component, components, last_components}
 use Rattle.glob_match.specs.Reader.{State, start, with_unit, escaped, with_class, with_sign, with_part, with_parts, begun_unit, slashed, in_name, in_part as read_in_part, classed, in_signs, in_opened, step_from, step, steps, may_end, pattern_read}
-use Rattle.glob_match.proofs.Ends.{EndsName, EndsStart, EndsPart, EndsUnits, EndsSigns, EndsEscape, EndsOpened, AfterClass, EndsFrom, Ends, unit_in_name, unit_in_part, unit_more}
+use Rattle.glob_match.proofs.Ends.{EndsName, EndsUnits, EndsSigns, EndsEscape, EndsOpened, AfterClass, EndsFrom, Ends, unit_in_name, unit_in_part, unit_more}
 
 -- whatever the step leads to, the goal follows from what brings that to its end
 record Back (T : Type 0) (text : List ℕ) (pattern : Pattern) (o : Option State) : Type 0 where

@@ -1,6 +1,6 @@
 -- Names taken from the front of a path, and components laid on them.
-use Rattle.std.proofs.Common.{◌≡◌, ◌≢◌, ℕ, zero, suc, ◌+◌, ◌<◌, ◌≤◌, List, [], ◌∷◌, ◌++◌, ◌∙◌, ap, sym, refl, subst, length, take, drop, Option, None, Some, Bool, true, false, not, cond, nat_eq, inl, inr, ◌⊎◌, ◌↔◌, arith, add-one}
-use Rattle.std.proofs.lemmas.Bool.{eqb-true, ne_eqb}
+use Rattle.std.proofs.Common.{◌≡◌, ℕ, zero, suc, ◌+◌, ◌<◌, List, [], ◌∷◌, ◌∙◌, ap, sym, refl, subst, length, take, drop, Option, None, Some, Bool, true, false, not, cond, nat_eq, ◌↔◌, arith}
+use Rattle.std.proofs.lemmas.Bool.{ne_eqb}
 use Rattle.std.specs.Str.{chars}
 use Rattle.std.specs.List.{position_or_len}
 use denote.Ref.{Bor}

@@ -1,6 +1,5 @@
 -- What the pieces of a component match: a relation between pieces and characters.
 use Rattle.std.specs.Prelude.{◌≡◌, ℕ, List, [], ◌∷◌, ◌++◌, ⊤, IsTrue, Contains}
-use Rattle.std.specs.Str.{chars}
 use Rattle.glob_match.specs.declared.pattern.Unit.{Unit}
 use Rattle.glob_match.specs.declared.pattern.Unit.TheVariants.{Plain, Escaped, One, Star, Class}
 use Rattle.glob_match.specs.declared.pattern.Piece.{Piece}

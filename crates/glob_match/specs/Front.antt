@@ -1,7 +1,6 @@
 -- The components in front of the first `**`, laid on names one by one.
-use Rattle.std.specs.Prelude.{◌≡◌, ℕ, ◌<◌, ◌↔◌, List, [], ◌∷◌, length, take}
+use Rattle.std.specs.Prelude.{ℕ, ◌<◌, ◌↔◌, List, ◌∷◌, length, take}
 use Rattle.std.specs.Str.{chars}
-use denote.Ref.{Bor}
 use Rattle.glob_match.specs.declared.matching.Front.{Front}
 use Rattle.glob_match.specs.declared.matching.Front.TheVariants as front
 use Rattle.glob_match.specs.declared.pattern.Piece.{Piece}

@@ -1,6 +1,6 @@
 -- The text of a glob: components with slashes between them, and a slash before them where the glob is absolute. A text
 -- is the list of its characters. Each relation is between a text, what stands at its front, and the rest behind that.
-use Rattle.std.specs.Prelude.{◌≡◌, ◌≢◌, ℕ, List, [], ◌∷◌, Bool, true, false, not, IsTrue, if◌then◌else◌, ◌==◌, ◌||◌, ◌&&◌}
+use Rattle.std.specs.Prelude.{◌≡◌, ◌≢◌, ℕ, List, [], ◌∷◌, Bool, true, false, not, IsTrue, if◌then◌else◌, ◌==◌, ◌||◌}
 use Rattle.std.specs.List.{list_all}
 use Rattle.glob_match.specs.declared.pattern.Sign.{Sign}
 use Rattle.glob_match.specs.declared.pattern.Unit.{Unit}
@@ -28,6 +28,10 @@ is_special c = (c == 92) || ((c == 42) || ((c == 63) || ((c == 91) || ((c == 123
 abbrev pub is_plain_character : Place → ℕ → Bool
 is_plain_character place.Name c = not (is_special c)
 is_plain_character place.Part c = not (is_special c || ((c == 44) || (c == 125)))
+
+-- a character that is nothing special, or a slash
+abbrev pub is_ordinary : ℕ → Bool
+is_ordinary c = not (is_special c) || (c == 47)
 
 -- the signs of a class, up to its `]`
 pub data AreSigns : List ℕ → List Sign → List ℕ → Type 0 where

@@ -1,6 +1,5 @@
 -- What a glob means: its components.
 use Rattle.std.specs.Prelude.{ℕ, List, [], ◌∷◌, Bool, true, false, not, if◌then◌else◌, ◌==◌, ◌&&◌}
-use Rattle.glob_match.specs.declared.pattern.Unit.{Unit}
 use Rattle.glob_match.specs.declared.pattern.Unit.TheVariants.{Plain, Star}
 use Rattle.glob_match.specs.declared.pattern.Piece.{Piece}
 use Rattle.glob_match.specs.declared.pattern.Piece.TheVariants.{Single}

@@ -1,7 +1,9 @@
 // What the definitions imply.
-ghost use Rattle.std.specs.Prelude.{◌≡◌, ◌≢◌, ◌∷◌, ◌++◌, [], ℕ, List};
+ghost use Rattle.std.specs.Prelude.{◌≡◌, ◌≢◌, ◌↔◌, ◌∷◌, ◌++◌, [], true, ℕ, List};
+ghost use Rattle.std.specs.List.{list_all};
+ghost use Rattle.std.specs.Str.{chars, IsUtf8};
 ghost use Rattle.glob_match.specs.GlobMatch.{MatchesPath, ListsFolder, root};
-ghost use Rattle.glob_match.specs.GlobText.{IsGlobText};
+ghost use Rattle.glob_match.specs.GlobText.{IsGlobText, is_ordinary};
 ghost use Rattle.glob_match.specs.Pattern.{Pattern};
 
 /// A text spells one pattern at most.
@@ -15,4 +17,10 @@ pub fn folders_on_a_match_are_listed()
     ensures root { (pattern : Pattern) → ListsFolder pattern (root pattern) }
     ensures leading { (text : List ℕ) (pattern : Pattern) (folder rest : List ℕ) → IsGlobText text pattern → folder ≢ []
         → MatchesPath pattern (folder ++ 47 ∷ rest) → ListsFolder pattern folder }
+{}
+
+/// A glob without special characters matches the path that is its text, and no other.
+pub fn plain_glob_matches_itself()
+    ensures { (text path : List ℕ) (pattern : Pattern) → IsUtf8 text → IsUtf8 path → list_all is_ordinary (chars text) ≡ true
+        → IsGlobText (chars text) pattern → MatchesPath pattern path ↔ (path ≡ text) }
 {}

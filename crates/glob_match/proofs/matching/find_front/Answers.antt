@@ -1,4 +1,4 @@
-use Rattle.std.proofs.Common.{◌≡◌, ◌∷◌, ◌∙◌, ap}
+use Rattle.std.proofs.Common.{◌∙◌, ap}
 use Rattle.glob_match.specs.declared.matching.Front.TheVariants as front
 use Rattle.glob_match.specs.Walked.{names_left}
 use Rattle.glob_match.proofs.Walks.{found_front, below_more}

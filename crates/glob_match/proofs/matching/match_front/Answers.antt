@@ -1,4 +1,4 @@
-use Rattle.std.proofs.Common.{◌≡◌, ◌∷◌, ◌∙◌, ap, sym}
+use Rattle.std.proofs.Common.{◌∷◌, ◌∙◌, ap, sym}
 use Rattle.glob_match.specs.declared.pattern.Component.{Component}
 use Rattle.glob_match.specs.Front.{here}
 use Rattle.glob_match.specs.GlobMatch.{no_names}

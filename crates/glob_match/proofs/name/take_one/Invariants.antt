@@ -1,4 +1,4 @@
-use Rattle.std.proofs.Common.{◌≡◌, ℕ, ◌+◌, ◌<◌, ◌≤◌, ◌&&◌, false, get_or}
+use Rattle.std.proofs.Common.{◌≡◌, ℕ, ◌+◌, ◌<◌, ◌&&◌, false, get_or}
 use Rattle.glob_match.specs.TakesOne.{takes_one}
 use Rattle.glob_match.proofs.name.take_one.Given as goal
 

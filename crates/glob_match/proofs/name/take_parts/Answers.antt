@@ -1,5 +1,5 @@
-use Rattle.std.proofs.Common.{◌≡◌, ◌∙◌, ap, sym, refl, arith}
-use Rattle.glob_match.proofs.Marks.{leads_no_part, leads_part_more}
+use Rattle.std.proofs.Common.{arith}
+use Rattle.glob_match.proofs.Marks.{leads_part_more}
 use Rattle.glob_match.proofs.name.take_parts.Goals as goal
 
 pub loop-part-preserved : goal.loop-part-preserved

@@ -1,4 +1,4 @@
-use Rattle.std.proofs.Common.{◌≡◌, ◌+◌, length, take}
+use Rattle.std.proofs.Common.{◌≡◌, take}
 use Rattle.glob_match.specs.declared.pattern.Piece.TheVariants.{AnyOf}
 use Rattle.glob_match.specs.Fits.{FitsPiece}
 use Rattle.glob_match.specs.Leads.{Leads}

@@ -1,4 +1,3 @@
-use Rattle.std.proofs.Common.{◌≡◌, ◌∙◌, ap, sym}
 use Rattle.glob_match.specs.Fits.{FitsPiece}
 use Rattle.glob_match.proofs.Marks.{leads_more}
 use Rattle.glob_match.proofs.name.take_pieces.Goals as goal

@@ -1,4 +1,4 @@
-use Rattle.std.proofs.Common.{◌≡◌, ◌+◌, length, take}
+use Rattle.std.proofs.Common.{take}
 use Rattle.glob_match.specs.Fits.{FitsPieces}
 use Rattle.glob_match.specs.Leads.{Leads}
 use Rattle.glob_match.proofs.name.take_pieces.Given as goal

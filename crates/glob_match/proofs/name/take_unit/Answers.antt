@@ -1,4 +1,4 @@
-use Rattle.std.proofs.Common.{◌≡◌, ap, sym, arith}
+use Rattle.std.proofs.Common.{arith}
 use Rattle.glob_match.proofs.Marks.{leads_any, leads_one}
 use Rattle.glob_match.proofs.name.take_unit.Goals as goal
 

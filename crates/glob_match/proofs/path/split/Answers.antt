@@ -1,4 +1,4 @@
-use Rattle.std.proofs.Common.{◌≡◌, ◌∷◌, ◌∙◌, sym, ap, arith}
+use Rattle.std.proofs.Common.{arith}
 use Rattle.glob_match.proofs.Walks.{names_split, names_whole}
 use Rattle.glob_match.proofs.path.split.Goals as goal
 

@@ -1,12 +1,10 @@
-use Rattle.std.proofs.Common.{◌≡◌, ◌+◌, ◌*◌, ◌<◌, ◌∙◌, ℕ, List, [], ◌∷◌, ap, sym, refl, subst, length, take, get_or, Bool, true, false, arith}
+use Rattle.std.proofs.Common.{◌≡◌, ◌∙◌, ◌∷◌, ap, sym, subst, length, arith}
 use Rattle.std.proofs.lemmas.Bool.{both_ways}
-use Rattle.std.proofs.lemmas.List.{take_more}
-use Rattle.std.proofs.lemmas.List.Elements.{Contains-push_cases}
 use Rattle.std.proofs.lemmas.Str.{chars_past_char}
 use Rattle.std.specs.Str.{chars, IsUtf8}
 use Rattle.std.specs.Str.Iter.{chars_rest}
 use Rattle.glob_match.specs.declared.pattern.Piece.{Piece}
-use Rattle.glob_match.specs.FitsBoth.{FitsBoth, FitsFrom, FitsSome}
+use Rattle.glob_match.specs.FitsBoth.{FitsBoth}
 use Rattle.glob_match.proofs.Searching.{long_unit, long_none, long_single, long_any, star_more, star_end, one_more, some_more, size_below, no_bytes, nothing}
 use Rattle.glob_match.proofs.search.+search.Goals as goal
 

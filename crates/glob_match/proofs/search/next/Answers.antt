@@ -1,4 +1,4 @@
-use Rattle.std.proofs.Common.{◌≡◌, ◌++◌, ◌∙◌, ℕ, List, [], ◌∷◌, sym, ap, refl, subst, length, arith}
+use Rattle.std.proofs.Common.{◌≡◌, ◌++◌, ◌∙◌, ℕ, List, [], ◌∷◌, sym, ap, length, arith}
 use Rattle.std.proofs.lemmas.Str.{chars-nil, chars_past_char}
 use Rattle.std.specs.Prelude.{encode_utf8}
 use Rattle.std.specs.Str.{chars}
