@@ -1,0 +1,4 @@
+pub mod PutLemmas
+pub mod RowLoop
+pub mod RowLaws
+pub mod CheckpointLaws

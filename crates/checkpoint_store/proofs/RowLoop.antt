@@ -1,0 +1,22 @@
+-- Rows that are read one after the other.
+use Rattle.std.proofs.Common.{◌≡◌, ℕ, zero, suc, ◌+◌, List, [], ◌∷◌, ◌++◌, Ok, Err, refl, sym, ap, ◌∙◌, append_assoc}
+use Rattle.file_tracker.specs.declared.row.Row.{Row}
+use Rattle.state_codec.specs.declared.cursor.Fault.{Fault}
+use Rattle.state_codec.specs.declared.cursor.Fault.TheVariants.{Malformed, Memory}
+use Rattle.state_codec.specs.Gives.{FailsAs}
+use Rattle.state_codec.specs.Reading.{Reading, ◌>>=◌}
+use Rattle.state_codec.proofs.Fronts.{with_front}
+use Rattle.checkpoint_store.specs.Reading.{row_at, rows_at}
+
+joined : (front : List Row) (row : Row) (r : Reading (List Row)) → with_front front (r >>= λ rows. Ok (row ∷ rows.0, rows.1)) ≡ with_front (front ++ row ∷ []) r
+joined front row (Ok rows) = ap (λ (l : List Row). Ok (l, rows.1)) (sym (append_assoc front (row ∷ []) rows.0))
+joined front row (Err left) = refl
+
+pub rows_step : (output first n : ℕ) (front : List Row) (bytes after : List ℕ) (row : Row) → row_at output first first bytes ≡ Ok (row, after)
+    → with_front front (rows_at output first (suc n) bytes) ≡ with_front (front ++ row ∷ []) (rows_at output (first + 1) n after)
+rows_step output first n front bytes after row e = rw e (joined front row (rows_at output (first + 1) n after))
+
+pub rows_fail : (output first n : ℕ) (front : List Row) (bytes : List ℕ) (fault : Fault) → FailsAs fault (row_at output first first bytes)
+    → FailsAs fault (with_front front (rows_at output first (suc n) bytes))
+rows_fail output first n front bytes (Malformed left) e = rw e refl
+rows_fail output first n front bytes Memory e = tt

@@ -1,0 +1,4 @@
+pub mod Rules
+pub mod Spelling
+pub mod Reading
+pub mod Decodes
