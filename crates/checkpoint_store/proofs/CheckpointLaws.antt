@@ -1,18 +1,17 @@
 -- A checkpoint that is read is the one that is spelled, and what is spelled is read.
-use Rattle.std.proofs.Common.{◌≡◌, ℕ, zero, suc, ◌+◌, ◌-◌, ◌^◌, ◌<◌, ◌≤◌, Bool, true, false, true≢false, cond, leb, ltb, List, [], ◌∷◌, ◌++◌, length, Result, Ok, Err, refl, sym, ap, subst, ◌∙◌, append_assoc, arith}
+use Rattle.std.proofs.Common.{◌≡◌, ℕ, suc, ◌+◌, ◌-◌, ◌^◌, ◌≤◌, cond, leb, ltb, List, [], ◌∷◌, ◌++◌, length, Ok, Err, refl, sym, ap, subst, ◌∙◌, append_assoc, arith}
 use Rattle.std.specs.Prelude.{◌&&◌}
 use Rattle.std.specs.List.{flat_map}
-use Rattle.std.specs.Int.{Width, w32, w64, to_be_bytes}
-use Rattle.std.proofs.lemmas.Bool.{leb-true, le-leb, ltb-false}
+use Rattle.std.specs.Int.{w32, w64, to_be_bytes}
+use Rattle.std.proofs.lemmas.Bool.{leb-true, ltb-false}
 use Rattle.std.proofs.lemmas.List.{append-nil, nil_from_length}
-use Rattle.file_tracker.specs.declared.row.Row.{Row}
 use Rattle.file_tracker.specs.declared.tracker.TheConstants.{ROW_LIMIT}
 use Rattle.state_codec.specs.Spelling.{bytes_spelling}
 use Rattle.state_codec.specs.Reading.{Reading, ◌>>=◌, bytes_at}
-use Rattle.state_codec.proofs.Numbers.{IsBytes, bytes_behind, Takes, takes_both, takes_tag, bind_ok, ok_is, test_ok, guard_ok, err_or_ok, wide32, wide64, bytes_takes, bytes_again}
+use Rattle.state_codec.proofs.Numbers.{IsBytes, bytes_behind, Takes, takes_both, bind_ok, ok_is, test_ok, guard_ok, err_or_ok, wide32, wide64, bytes_takes, bytes_again}
 use Rattle.checkpoint_store.specs.declared.TheConstants.{OUTPUT_LIMIT}
 use Rattle.checkpoint_store.specs.declared.Checkpoint.{Checkpoint}
-use Rattle.checkpoint_store.specs.Rules.{KeepRules, IsCheckpoint}
+use Rattle.checkpoint_store.specs.Rules.{IsCheckpoint}
 use Rattle.checkpoint_store.specs.Spelling.{row_spelling, rows_spelling, checkpoint_spelling}
 use Rattle.checkpoint_store.specs.Reading.{number_within, rows_at, version_at, checkpoint_at, whole_checkpoint}
 use Rattle.checkpoint_store.specs.Decodes.{Spells, SpellsNone}

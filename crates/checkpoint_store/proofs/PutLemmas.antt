@@ -1,5 +1,5 @@
 -- What several calls have put, one after the other.
-use Rattle.std.proofs.Common.{◌≡◌, ℕ, ◌<◌, ◌+◌, List, [], ◌∷◌, ◌++◌, length, drop, get_or, Result, Ok, Err, OnOk, refl, sym, ap, ◌∙◌, append_assoc}
+use Rattle.std.proofs.Common.{◌≡◌, ℕ, ◌<◌, ◌+◌, List, ◌++◌, length, drop, get_or, Result, Ok, Err, OnOk, sym, ap, ◌∙◌, append_assoc}
 use Rattle.std.proofs.lemmas.List.{drop_more}
 use Rattle.std.specs.List.{flat_map}
 

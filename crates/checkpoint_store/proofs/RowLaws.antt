@@ -1,12 +1,11 @@
 -- A row that is read is the one that is spelled there, and what is spelled is read again.
-use Rattle.std.proofs.Common.{◌≡◌, ℕ, zero, suc, ◌+◌, ◌-◌, ◌^◌, ◌<◌, ◌≤◌, Bool, true, false, cond, leb, List, [], ◌∷◌, ◌++◌, length, Result, Ok, Err, refl, sym, ap, subst, ◌∙◌, append_assoc, arith}
+use Rattle.std.proofs.Common.{◌≡◌, ℕ, zero, suc, ◌+◌, ◌-◌, ◌^◌, ◌<◌, ◌≤◌, Bool, true, false, cond, leb, List, [], ◌∷◌, ◌++◌, length, Ok, Err, refl, sym, ap, subst, ◌∙◌, append_assoc, arith}
 use Rattle.std.specs.Prelude.{◌&&◌}
 use Rattle.std.specs.List.{flat_map}
 use Rattle.std.specs.Int.{Width, w32, w64, to_be_bytes}
 use Rattle.std.proofs.lemmas.Bool.{leb-true, le-leb}
 use Rattle.file_tracker.specs.declared.row.Row.{Row}
 use Rattle.state_codec.specs.Spelling.{bytes_spelling}
-use Rattle.state_codec.specs.Rules.{IsShortText}
 use Rattle.state_codec.specs.Reading.{Reading, ◌>>=◌, number_at, bytes_at, text_at}
 use Rattle.state_codec.proofs.Numbers.{IsBytes, Takes, takes_both, bind_ok, ok_is, test_ok, IsWide, wide32, wide64, number_takes, number_again, bytes_takes, bytes_again, text_takes, text_again}
 use Rattle.checkpoint_store.specs.declared.TheConstants.{FRONT_LIMIT, OFFSET_LIMIT, OUTPUT_LIMIT}

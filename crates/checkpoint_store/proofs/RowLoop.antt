@@ -1,5 +1,5 @@
 -- Rows that are read one after the other.
-use Rattle.std.proofs.Common.{◌≡◌, ℕ, zero, suc, ◌+◌, List, [], ◌∷◌, ◌++◌, Ok, Err, refl, sym, ap, ◌∙◌, append_assoc}
+use Rattle.std.proofs.Common.{◌≡◌, ℕ, suc, ◌+◌, List, [], ◌∷◌, ◌++◌, Ok, Err, refl, sym, ap, append_assoc}
 use Rattle.file_tracker.specs.declared.row.Row.{Row}
 use Rattle.state_codec.specs.declared.cursor.Fault.{Fault}
 use Rattle.state_codec.specs.declared.cursor.Fault.TheVariants.{Malformed, Memory}

@@ -1,5 +1,5 @@
 -- What stands at the front of some bytes, or where it can't go on.
-use Rattle.std.specs.Prelude.{ℕ, zero, suc, ◌+◌, ◌-◌, if◌then◌else◌, List, [], ◌∷◌, ◌++◌, length, nat_lt, nat_le, ◌&&◌, Result, Ok, Err}
+use Rattle.std.specs.Prelude.{ℕ, zero, suc, ◌+◌, ◌-◌, if◌then◌else◌, List, [], ◌∷◌, length, nat_lt, nat_le, ◌&&◌, Result, Ok, Err}
 use Rattle.std.specs.Int.{Width, w32, w64}
 use Rattle.file_tracker.specs.declared.row.Row.{Row}
 use Rattle.file_tracker.specs.declared.tracker.TheConstants.{ROW_LIMIT}

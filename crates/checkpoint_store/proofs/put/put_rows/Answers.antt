@@ -1,4 +1,4 @@
-use Rattle.std.proofs.Common.{◌<◌, ◌++◌, ◌≡◌, ℕ, List, length, arith}
+use Rattle.std.proofs.Common.{◌++◌, arith}
 use Rattle.std.specs.List.{flat_map}
 use Rattle.checkpoint_store.specs.Spelling.{row_spelling}
 use Rattle.checkpoint_store.proofs.PutLemmas.{one_put}

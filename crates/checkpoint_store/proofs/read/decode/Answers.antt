@@ -1,4 +1,4 @@
-use Rattle.std.proofs.Common.{◌≡◌, ℕ, ◌-◌, ◌<◌, List, length, arith}
+use Rattle.std.proofs.Common.{arith}
 use Rattle.checkpoint_store.proofs.CheckpointLaws.{whole_takes, spells_none}
 use Rattle.checkpoint_store.proofs.read.decode.Goals as goal
 
