@@ -2,9 +2,16 @@
 use Rattle.std.specs.Prelude.{ℕ, List, Option, Some, None, option_map, nat_lt, if◌then◌else◌}
 use Rattle.outside.specs.Image.{Image}
 use Rattle.outside.specs.declared.disk.DiskFile.{DiskFile}
-use Rattle.outside.specs.declared.disk.DiskFile.TheVariants.{SlotA, SlotB}
+use Rattle.outside.specs.declared.disk.DiskFile.TheVariants.{Settings, Output, SlotA, SlotB}
 use Rattle.slot_store.specs.Frame.{is_open_at, sequence_at, length_at, payload_at}
 use Rattle.slot_store.specs.declared.slot.Slot.{Slot}
+
+-- one of the two
+abbrev pub IsSlotFile : DiskFile → Type 0
+IsSlotFile Settings = ⊥
+IsSlotFile Output = ⊥
+IsSlotFile SlotA = Unit {0}
+IsSlotFile SlotB = Unit {0}
 
 -- the slot that a file is, where it is open
 abbrev pub slot_in : DiskFile → List ℕ → Option Slot

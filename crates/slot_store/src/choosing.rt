@@ -1,7 +1,7 @@
 // Which slot counts, and its payload.
-ghost use Rattle.std.specs.Prelude.{◌≡◌, take, drop, Some, IsTrue, IfOk};
+ghost use Rattle.std.specs.Prelude.{◌≡◌, take, drop, Some, IsTrue, IfOk, IfSome};
 ghost use Rattle.outside.specs.Count.{HasCause, HasOneCause};
-ghost use Rattle.slot_store.specs.ChosenSlot.{slot_in, greater_of, chosen_slot, chosen_payload};
+ghost use Rattle.slot_store.specs.ChosenSlot.{IsSlotFile, slot_in, greater_of, chosen_slot, chosen_payload};
 ghost use Rattle.slot_store.specs.OnlyRead.{OnlyRead};
 
 use crate::frame::{HEAD_SIZE, Head};
@@ -15,6 +15,7 @@ use std::alloc::Global;
 pub fn choose<D: Disk>(disk: &mut D) -> Result<Option<Slot>, Failed>
     ensures slot { IfOk result (λ slot. IsTrue (D.meaning.images.tells disk.old)
         → slot ≡ chosen_slot (D.meaning.images.seen disk.old)) }
+    ensures file { IfOk result (λ slot. IfSome slot (λ slot. IsSlotFile slot.file)) }
     ensures only_read { OnlyRead D.meaning disk.old disk.new }
     ensures cause { HasOneCause result (D.meaning.faults disk.old) (D.meaning.faults disk.new) }
 {
@@ -42,6 +43,7 @@ pub fn load<D: Disk>(alloc: Global, disk: &mut D, slot: &Slot) -> Result<Vec<u8>
 fn open_slot<D: Disk>(disk: &mut D, file: DiskFile) -> Result<Option<Slot>, Failed>
     ensures slot { IfOk result (λ slot. IsTrue (D.meaning.images.tells disk.old)
         → slot ≡ slot_in file (D.meaning.images.seen disk.old file)) }
+    ensures file { IfOk result (λ slot. IfSome slot (λ slot. slot.file ≡ file)) }
     ensures only_read { OnlyRead D.meaning disk.old disk.new }
     ensures cause { HasOneCause result (D.meaning.faults disk.old) (D.meaning.faults disk.new) }
 {
@@ -58,7 +60,9 @@ fn open_slot<D: Disk>(disk: &mut D, file: DiskFile) -> Result<Option<Slot>, Fail
 }
 
 fn greater_of(first: Option<Slot>, second: Option<Slot>) -> Option<Slot>
-    ensures { result ≡ greater_of first second }
+    ensures greater { result ≡ greater_of first second }
+    ensures file { IfSome first (λ slot. IsSlotFile slot.file) → IfSome second (λ slot. IsSlotFile slot.file)
+        → IfSome result (λ slot. IsSlotFile slot.file) }
 {
     match (first, second) {
         (None, second) => second,

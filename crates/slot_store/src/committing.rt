@@ -6,6 +6,7 @@ ghost use Rattle.outside.specs.Crash.{Passes};
 ghost use Rattle.outside.specs.DiskCalls.{last_end};
 ghost use Rattle.outside.specs.Image.{AtFile};
 ghost use Rattle.outside.specs.declared.disk.DiskFile.{DiskFile};
+ghost use Rattle.slot_store.specs.ChosenSlot.{IsSlotFile};
 ghost use Rattle.slot_store.specs.CommitCause.{HasCommitCause};
 ghost use Rattle.slot_store.specs.Committed.{other_file, free_file, next_slot, Chooses, KeepsChoice, IsCommitted, KeepsOthers, Commits, LeavesOne, IsWorn};
 ghost use Rattle.slot_store.specs.Counted.{HasDone, DoneFewer, HasWritten};
@@ -33,6 +34,7 @@ pub fn commit<D: Disk>(
     payload: &[u8],
 ) -> Result<Slot, CommitFault>
     ensures slot { IfOk result (λ slot. slot ≡ next_slot (option_copied before.entry) payload.now) }
+    ensures file { IfOk result (λ slot. IsSlotFile slot.file) }
 
     ensures crash { EachLeft D.meaning.images disk.old (Chooses (option_copied before.entry))
         → Passes D.meaning.images (Commits (option_copied before.entry) payload.now) disk.old disk.new }
@@ -65,6 +67,7 @@ pub fn commit<D: Disk>(
 // The slot that is to be written.
 fn next_slot(before: Option<&Slot>, payload: &[u8]) -> Result<Slot, CommitFault>
     ensures ok { IfOk result (λ slot. slot ≡ next_slot (option_copied before.entry) payload.now) }
+    ensures file { IfOk result (λ slot. IsSlotFile slot.file) }
     ensures within { IfOk result (λ slot. (last_end slot.file ≡ last_number) × (slot.sequence ≤ last_number)
         × (length payload.now + 17 ≤ last_number)) }
     ensures worn { (result ≡ Err (CommitFault.Worn last_number)) ↔ IsWorn (option_copied before.entry) }
@@ -93,6 +96,7 @@ fn next_slot(before: Option<&Slot>, payload: &[u8]) -> Result<Slot, CommitFault>
 // The slot file beside this one.
 fn other_file(file: DiskFile) -> DiskFile
     ensures other { result ≡ other_file file }
+    ensures file { IsSlotFile result }
     ensures within { last_end result ≡ last_number }
 {
     match file {
