@@ -6,10 +6,10 @@ use std::test::Fail;
 
 // A slot file: its gate, its sequence number, the length that it claims, and what follows.
 #[derive(Clone, Copy)]
-struct Told(u8, u64, u64, &'static [u8]);
+pub(crate) struct Told(pub u8, pub u64, pub u64, pub &'static [u8]);
 
 impl Told {
-    fn bytes(self, alloc: Global) -> Result<Vec<u8>, AllocError> {
+    pub(crate) fn bytes(self, alloc: Global) -> Result<Vec<u8>, AllocError> {
         let mut bytes = Vec::new(alloc);
         bytes.push(self.0)?;
         bytes.extend_from_slice(&self.1.to_be_bytes())?;

@@ -1,0 +1,135 @@
+use crate::slots::Told;
+use mem_world::MemDisk;
+use outside::DiskFile;
+use record_log::{Log, read, rewrite};
+use slot_store::CommitFault;
+use std::alloc::Global;
+use std::test::Fail;
+
+// A disk whose first slot has these frames, one behind another, and whose second is empty.
+fn disk_of(alloc: Global, frames: &[Told]) -> Result<MemDisk, Fail> {
+    let mut disk = MemDisk::new(alloc)?;
+    let mut bytes = Vec::new(alloc);
+    for frame in frames {
+        bytes.extend_from_slice(&frame.bytes(alloc)?)?;
+    }
+    disk.put(alloc, DiskFile::Output, b"line\n")?;
+    disk.put(alloc, DiskFile::SlotA, &bytes)?;
+    Ok(disk)
+}
+
+// The base and the records, each with a comma behind it.
+fn joined(alloc: Global, disk: &mut MemDisk) -> Result<Vec<u8>, Fail> {
+    let mut text = Vec::new(alloc);
+    if let Some(found) = read(alloc, disk)? {
+        text.extend_from_slice(&found.base)?;
+        text.push(b',')?;
+        for record in &found.records {
+            text.extend_from_slice(record)?;
+            text.push(b',')?;
+        }
+    }
+    Ok(text)
+}
+
+const BASE: Told = Told(0xa5, 7, 4, b"base");
+
+const TABLE: [(&[Told], &[u8]); 14] = [
+    (&[BASE], b"base,"),
+    (&[Told(0, 7, 4, b"base"), Told(0xa5, 8, 1, b"a")], b""),
+    (&[BASE, Told(0xa5, 8, 1, b"a")], b"base,a,"),
+    (
+        &[BASE, Told(0xa5, 8, 1, b"a"), Told(0xa5, 9, 2, b"bc")],
+        b"base,a,bc,",
+    ),
+    (
+        &[BASE, Told(0xa5, 8, 0, b""), Told(0xa5, 9, 1, b"b")],
+        b"base,,b,",
+    ),
+    // A record that is closed or torn ends the log, whatever stands behind it.
+    (
+        &[BASE, Told(0, 8, 1, b"a"), Told(0xa5, 9, 1, b"b")],
+        b"base,",
+    ),
+    (
+        &[BASE, Told(0x5a, 8, 1, b"a"), Told(0xa5, 8, 1, b"b")],
+        b"base,",
+    ),
+    (&[BASE, Told(0xff, 8, 1, b"a")], b"base,"),
+    // So does one whose sequence number isn't the next.
+    (&[BASE, Told(0xa5, 9, 1, b"a")], b"base,"),
+    (&[BASE, Told(0xa5, 7, 1, b"a")], b"base,"),
+    (
+        &[BASE, Told(0xa5, 8, 1, b"a"), Told(0xa5, 10, 1, b"b")],
+        b"base,a,",
+    ),
+    // And one that passes the end of the file, or of all numbers.
+    (&[BASE, Told(0xa5, 8, 2, b"a")], b"base,"),
+    (&[BASE, Told(0xa5, 8, 1 << 62, b"a")], b"base,"),
+    (&[BASE, Told(0xa5, 8, u64::MAX, b"a")], b"base,"),
+];
+
+#[test]
+fn records_up_to_the_first_that_does_not_count(rt: HostRuntime) -> Result<(), Fail> {
+    let alloc = rt.alloc();
+    for (frames, expected) in TABLE {
+        let mut disk = disk_of(alloc, frames)?;
+        let text = joined(alloc, &mut disk)?;
+        assert_eq!(rt; text.as_slice(), expected);
+    }
+    Ok(())
+}
+
+#[test]
+fn a_stopped_rewrite_leaves_the_old_log_or_the_new(rt: HostRuntime) -> Result<(), Fail> {
+    let alloc = rt.alloc();
+    let frames = [BASE, Told(0xa5, 8, 1, b"a")];
+    for calls in 0..9u32 {
+        for outcome in 0..5u32 {
+            let mut disk = disk_of(alloc, &frames)?;
+            let before = log_of(alloc, &mut disk)?;
+            disk.fuse(calls);
+            let result = rewrite(alloc, &mut disk, before.as_ref(), b"new");
+            assert_eq!(rt; result.is_ok(), calls == 8, "after {calls} calls");
+            let mut disk = disk.crash(alloc, outcome)?;
+            // The seventh call writes the gate, and outcome 1 leaves it as it was written.
+            let is_new = calls == 8 || calls >= 6 && outcome == 1;
+            let expected = if is_new {
+                b"new,".as_slice()
+            } else {
+                b"base,a,"
+            };
+            let text = joined(alloc, &mut disk)?;
+            assert_eq!(rt;
+                text.as_slice(),
+                expected,
+                "{calls} calls, outcome {outcome}"
+            );
+        }
+    }
+    Ok(())
+}
+
+#[test]
+fn a_rewrite_counts_on_from_the_last_record(rt: HostRuntime) -> Result<(), Fail> {
+    let alloc = rt.alloc();
+    let mut disk = disk_of(alloc, &[BASE, Told(0xa5, 8, 1, b"a")])?;
+    let before = log_of(alloc, &mut disk)?;
+    let next = rewrite(alloc, &mut disk, before.as_ref(), b"new")?;
+    assert_eq!(rt; next.slot.file, DiskFile::SlotB);
+    assert_eq!(rt; next.sequence, 9);
+    assert_eq!(rt; next.end, 20);
+    let worn = Log {
+        sequence: u64::MAX,
+        ..next
+    };
+    let result = rewrite(alloc, &mut disk, Some(&worn), b"later");
+    assert_eq!(rt; result, Err(CommitFault::Worn { sequence: u64::MAX }));
+    let text = joined(alloc, &mut disk)?;
+    assert_eq!(rt; text.as_slice(), b"new,".as_slice());
+    Ok(())
+}
+
+fn log_of(alloc: Global, disk: &mut MemDisk) -> Result<Option<Log>, Fail> {
+    Ok(read(alloc, disk)?.map(|found| found.log))
+}
