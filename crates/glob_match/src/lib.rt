@@ -4,8 +4,8 @@
 //! the pattern that a text spells, or where the text goes wrong. [`Glob::matches`] is `MatchesPath`, a relation between
 //! the components of a pattern and those of a path, and inside a component between pieces and characters.
 //! [`Glob::lists`] tells of a folder whether a match may lie in it or below it, and [`Glob::start`] the folder in which a
-//! search for matches begins. Reading takes memory, and matching takes none: it takes as many steps at most as the
-//! pattern is long times the path's length, whatever the pattern.
+//! search for matches begins. Reading takes memory, and matching takes none. For paths whose names have up to 4,095
+//! characters it takes as many steps at most as the pattern is long times the path's length, whatever the pattern.
 //!
 //! The words are those of `glob(7)` and of the `include` patterns of the OpenTelemetry Collector's file consumer.
 #![tactic(auto)]
