@@ -13,7 +13,7 @@ use Rattle.entry_model.specs.declared.value.Value.{Value}
 use Rattle.entry_model.specs.Datum.{Datum, datum}
 use Rattle.entry_model.specs.Seen.{seen}
 
-abbrev cmp : List ℕ → List ℕ → Ordering
+abbrev pub cmp : List ℕ → List ℕ → Ordering
 cmp = slice_cmp nat_cmp
 
 behind : (P : List ℕ → Type 0) (front : List (List ℕ)) (key : List ℕ) (rest : List (List ℕ)) → AllByRecursion P (front ++ key ∷ rest) → P key

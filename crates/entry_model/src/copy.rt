@@ -33,7 +33,7 @@ impl Entry {
             resource: self.resource.copy(alloc)?,
             timestamp: self.timestamp,
             severity: self.severity,
-            severity_text: Text::from_str(alloc, self.severity_text.as_str())?,
+            severity_text: self.severity_text.share()?,
         })
     }
 }
@@ -46,7 +46,7 @@ fn copy_value(alloc: Global, value: &Value) -> Result<Value, AllocError>
         Value::Null => Ok(Value::Null),
         Value::Bool(flag) => Ok(Value::Bool(*flag)),
         Value::Int(number) => Ok(Value::Int(*number)),
-        Value::Text(text) => Ok(Value::Text(Text::from_str(alloc, text.as_str())?)),
+        Value::Text(text) => Ok(Value::Text(text.share()?)),
         Value::List(values) => Ok(Value::List(copy_values(alloc, values)?)),
         Value::Map(fields) => Ok(Value::Map(copy_fields(alloc, fields)?)),
     }
@@ -71,15 +71,14 @@ pub fn copy_fields(alloc: Global, fields: &Fields) -> Result<Fields, AllocError>
     let mut copies = Fields::new(alloc);
     for (key, value) in fields.iter() {
         let copy = copy_value(alloc, value)?;
-        insert(alloc, &mut copies, key, copy)?;
+        insert(&mut copies, key, copy)?;
     }
     Ok(copies)
 }
 
-fn insert(alloc: Global, fields: &mut Fields, key: &Text, value: Value) -> Result<(), AllocError>
+fn insert(fields: &mut Fields, key: &Text, value: Value) -> Result<(), AllocError>
     ensures { OnOk result (fields.new.entries ≡ insert_entry (slice_cmp nat_cmp) fields.old.entries key.now value) }
 {
-    let name = Text::from_str(alloc, key.as_str())?;
-    fields.insert(name, value)?;
+    fields.insert(key.share()?, value)?;
     Ok(())
 }

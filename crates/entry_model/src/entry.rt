@@ -43,7 +43,7 @@ impl Entry {
             resource: Value::Map(Fields::new(alloc)),
             timestamp: None,
             severity: Severity { number: 0 },
-            severity_text: Text::new(String::new(alloc)),
+            severity_text: Text::empty(),
         })
     }
 }

@@ -7,6 +7,7 @@
 #![tactic(auto)]
 
 mod copy;
+mod depth;
 mod entry;
 #[cfg(test)]
 mod tests;

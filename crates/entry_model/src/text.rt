@@ -5,58 +5,82 @@ use std::alloc::{AllocError, Global};
 use std::cmp::Ordering;
 use std::fmt;
 use std::marker::Model;
+use std::rc::RcStr;
 
-/// A text in UTF-8. Texts are ordered by their bytes.
+/// A text in UTF-8. Texts are ordered by their bytes. Texts that were shared have their bytes in one place of memory.
 #[derive(Drop)]
 pub struct Text {
-    content: String,
+    /// None stands for the empty text, which takes no memory.
+    content: Option<RcStr>,
 }
 
 impl Model for Text {
-    ghost use Rattle.std.specs.Prelude.{List, ℕ, string_bytes};
+    ghost use Rattle.std.specs.Prelude.{List, ℕ};
+    ghost use Rattle.entry_model.specs.Content.{bytes_of};
 
     ghost Value = { List ℕ };
 
-    ghost view = { λ text. string_bytes text.content };
+    ghost view = { λ text. bytes_of text.content };
 }
 
 impl Text {
-    pub fn new(content: String) -> Text
-        ensures { result ≡ string_bytes content }
+    /// The text without bytes.
+    pub fn empty() -> Text
+        ensures { result ≡ [] }
     {
-        Text { content }
+        Text { content: None }
+    }
+
+    pub fn new(content: String) -> Result<Text, AllocError>
+        ensures { IfOk result (λ text. text ≡ string_bytes content) }
+    {
+        if content.is_empty() {
+            return Ok(Text::empty());
+        }
+        Ok(Text {
+            content: Some(RcStr::from_string(content)?),
+        })
     }
 
     pub fn from_str(alloc: Global, content: &str) -> Result<Text, AllocError>
         ensures { IfOk result (λ text. text ≡ content.now) }
     {
-        Ok(Text::new(String::from_str(alloc, content)?))
+        Text::new(String::from_str(alloc, content)?)
+    }
+
+    /// A text equal to this one, with its bytes where this one has them. It takes no memory; the one want of memory
+    /// is that of a further count, past 2^64 - 1 texts that share.
+    pub fn share(&self) -> Result<Text, AllocError>
+        ensures { IfOk result (λ text. text ≡ self.now) }
+    {
+        match &self.content {
+            None => Ok(Text::empty()),
+            Some(content) => Ok(Text {
+                content: Some(content.clone()?),
+            }),
+        }
     }
 
     pub fn as_str(&self) -> &str
         ensures { result.now ≡ self.now }
     {
-        self.content.as_str()
-    }
-
-    pub fn into_string(self) -> String
-        ensures { string_bytes result ≡ self }
-    {
-        let Text { content } = self;
-        content
+        match &self.content {
+            None => "",
+            Some(content) => content.as_str(),
+        }
     }
 
     /// The number of bytes.
     pub fn len(&self) -> usize
         ensures { result ≡ length self.now }
     {
-        self.content.len()
+        self.as_str().len()
     }
 
     pub fn is_empty(&self) -> bool
         ensures { IsTrue result ↔ (self.now ≡ []) }
     {
-        self.content.is_empty()
+        self.as_str().is_empty()
     }
 }
 

@@ -269,7 +269,7 @@ fn quoted(alloc: Global, text: &str, at: usize) -> Result<Option<(Token, usize)>
 {
     let bytes = text.as_bytes();
     match content_of(alloc, bytes[at], &bytes[at + 1..])? {
-        Some((content, length)) => Ok(Some((Token::Text(text_of(content)), 1 + length))),
+        Some((content, length)) => Ok(Some((Token::Text(text_of(content)?), 1 + length))),
         None => Ok(None),
     }
 }
@@ -303,9 +303,9 @@ fn content_of(
     Ok(None)
 }
 
-fn text_of(content: Vec<u8>) -> Text
+fn text_of(content: Vec<u8>) -> Result<Text, AllocError>
     requires { IsUtf8 content.items }
-    ensures { result ≡ content.items }
+    ensures { IfOk result (λ text. text ≡ content.items) }
 {
     let Ok(content) = String::from_utf8(content) else {
         unreachable!()

@@ -1,2 +1,3 @@
 pub mod Held
 pub mod Taken
+pub mod Retained

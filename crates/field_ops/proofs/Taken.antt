@@ -1,15 +1,15 @@
 -- What is at other places after a value was taken.
-use Rattle.std.proofs.Common.{◌≡◌, ◌≢◌, ℕ, List, [], ◌∷◌, ◌∙◌, ap, sym, refl, cond, Option, None, Some, true, false, Bool, inl, inr, ◌⊎◌, subst}
+use Rattle.std.proofs.Common.{◌≡◌, ◌≢◌, ℕ, List, [], ◌∷◌, ◌∙◌, ap, sym, refl, cond, Option, None, Some, false, inl, inr, ◌⊎◌}
 use Rattle.std.specs.Option.{option_and_then, unwrap_or}
 use Rattle.std.specs.Ordering.{match_ordering, is_eq, nat_cmp, ordering_reverse}
 use Rattle.std.specs.declared.cmp.Ordering.{Ordering}
 use Rattle.std.specs.declared.cmp.Ordering.TheVariants.{Less, Equal, Greater}
 use Rattle.std.specs.Cmp.Lexicographic.{slice_cmp, nat_list_cmp_total}
 use Rattle.std.proofs.lemmas.Map.Lookups.{exact_bytes}
-use Rattle.entry_model.specs.Datum.{Datum, null, boolean, int, text, list, fields, Members, no_members, member}
+use Rattle.entry_model.specs.Datum.{Datum, null, fields, Members, no_members, member}
 use Rattle.entry_model.specs.LogRecord.{LogRecord, members_in}
 use Rattle.field_paths.specs.AreApart.{AreApart, Fork}
-use Rattle.field_paths.specs.Change.{on_the_way, without_value, taken, empty_root, root_without, take_at}
+use Rattle.field_paths.specs.Change.{on_the_way, without_value, taken, take_at}
 use Rattle.field_paths.specs.Members.{member_at, with_member, without_member}
 use Rattle.field_paths.specs.Place.{Place}
 use Rattle.field_paths.specs.ValueAt.{value_at, root_value, datum_at}

@@ -230,7 +230,7 @@ impl Reader {
         let Ok(text) = String::from_utf8(name) else {
             unreachable!()
         };
-        self.names.push(Text::new(text))?;
+        self.names.push(Text::new(text)?)?;
         Ok(())
     }
 }

@@ -136,7 +136,7 @@ fn insert(alloc: Global, fields: &mut Fields, name: &Text, value: Value) -> Resu
     ensures ok { OnOk result (fields.new.entries ≡ insert_entry (slice_cmp nat_cmp) fields.old.entries name.now value) }
     ensures err { OnErr result (fields.new.entries ≡ fields.old.entries) }
 {
-    let name = Text::from_str(alloc, name.as_str())?;
+    let name = name.share()?;
     fields.insert(name, value)?;
     Ok(())
 }

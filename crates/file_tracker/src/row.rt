@@ -33,7 +33,7 @@ impl Row {
     {
         Ok(Row {
             id: self.id,
-            path: Text::from_str(alloc, self.path.as_str())?,
+            path: self.path.share()?,
             front: Bytes::from_slice(alloc, self.front.as_slice())?,
             start: self.start,
             offset: self.offset,

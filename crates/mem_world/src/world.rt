@@ -49,7 +49,7 @@ impl WorldStep {
         Ok(match self {
             WorldStep::Create { file, path } => WorldStep::Create {
                 file: *file,
-                path: Text::from_str(alloc, path.as_str())?,
+                path: path.share()?,
             },
             WorldStep::Append { file, bytes } => WorldStep::Append {
                 file: *file,
@@ -57,7 +57,7 @@ impl WorldStep {
             },
             WorldStep::Rename { file, path } => WorldStep::Rename {
                 file: *file,
-                path: Text::from_str(alloc, path.as_str())?,
+                path: path.share()?,
             },
             WorldStep::Remove { file } => WorldStep::Remove { file: *file },
         })

@@ -41,7 +41,7 @@ fn with_body(alloc: Global, body: Value) -> Entry {
         resource: Value::Map(Fields::new(alloc)),
         timestamp: None,
         severity: Severity { number: 0 },
-        severity_text: Text::new(String::new(alloc)),
+        severity_text: Text::empty(),
     }
 }
 
@@ -295,7 +295,7 @@ fn escapes_as_serde_json(rt: HostRuntime) -> Result<(), Fail> {
             alloc,
             7,
             12,
-            &with_body(alloc, Value::Text(Text::new(content))),
+            &with_body(alloc, Value::Text(Text::new(content)?)),
         )?;
         assert_eq!(rt;
             line.as_slice(),

@@ -155,10 +155,9 @@ impl Stored {
             return Err(AllocError);
         };
         let name = match &step {
-            WorldStep::Create { file: _, path } | WorldStep::Rename { file: _, path } => {
-                Text::from_str(alloc, path.as_str())?
-            }
-            WorldStep::Append { .. } | WorldStep::Remove { .. } => Text::new(String::new(alloc)),
+            WorldStep::Create { file: _, path } | WorldStep::Rename { file: _, path } =>
+                path.share()?,
+            WorldStep::Append { .. } | WorldStep::Remove { .. } => Text::empty(),
         };
         self.history.reserve(room)?;
         self.names.reserve(room)?;
