@@ -22,8 +22,9 @@ use Rattle.op_kinds.specs.declared.cause.OpCause.{OpCause}
 use Rattle.op_kinds.specs.declared.compiling.Work.{Work}
 use Rattle.op_kinds.specs.declared.compiling.Work.TheVariants.{Act as ActWork, Route}
 use Rattle.op_kinds.proofs.Readings.{has-either}
-use Rattle.settings_text.specs.SettingsData as kind
-use Rattle.settings_text.specs.SettingsData.{KindData, OperatorData, RouteData, route_data}
+use Rattle.settings_text.specs.declared.settings.OpKind.TheVariants as kind
+use Rattle.settings_text.specs.declared.settings.OpKind.{OpKind}
+use Rattle.settings_text.specs.declared.settings.OpSpec.{OpSpec}
 use Rattle.settings_text.specs.declared.settings.RouteSpec.{RouteSpec}
 
 -- ---- one more of a list
@@ -39,18 +40,18 @@ one_more_path_at texts index places text place within at so_far next =
     let grown : take (index + 1) texts ≡ take index texts ++ text ∷ [] = grind (arith, take-suc texts index text within, at) in
     rw grown (one_more_path (take index texts) places text place so_far next)
 
-one_more_expression : (routes : List RouteData) (trees : List Tree) (route : RouteData) (tree : Tree) → AreExpressions routes trees → IsExpression route.expr tree → AreExpressions (routes ++ route ∷ []) (trees ++ tree ∷ [])
+one_more_expression : (routes : List RouteSpec) (trees : List Tree) (route : RouteSpec) (tree : Tree) → AreExpressions routes trees → IsExpression route.expr tree → AreExpressions (routes ++ route ∷ []) (trees ++ tree ∷ [])
 one_more_expression [] [] route tree so_far next = (next, tt)
 one_more_expression [] (t ∷ trees) route tree so_far next = absurd so_far
 one_more_expression (r ∷ routes) [] route tree so_far next = absurd so_far
 one_more_expression (r ∷ routes) (t ∷ trees) route tree so_far next = (so_far.0, one_more_expression routes trees route tree so_far.1 next)
 
-pub one_more_expression_at : (routes : List RouteSpec) (index : ℕ) (exprs new : List Expr) (route : RouteSpec) (expr : Expr) → index < length routes → slice_index_or routes index route ≡ route → AreExpressions (map route_data (take index routes)) (map tree_of exprs) → IsExpression route.expr (tree_of expr) → new ≡ exprs ++ expr ∷ []
-    → AreExpressions (map route_data (take (index + 1) routes)) (map tree_of new)
+pub one_more_expression_at : (routes : List RouteSpec) (index : ℕ) (exprs new : List Expr) (route : RouteSpec) (expr : Expr) → index < length routes → slice_index_or routes index route ≡ route → AreExpressions (take index routes) (map tree_of exprs) → IsExpression route.expr (tree_of expr) → new ≡ exprs ++ expr ∷ []
+    → AreExpressions (take (index + 1) routes) (map tree_of new)
 one_more_expression_at routes index exprs new route expr within at so_far next is =
     let grown : take (index + 1) routes ≡ take index routes ++ route ∷ [] = grind (arith, take-suc routes index route within, at) in
-    rw (grown, is, map-append route_data (take index routes) (route ∷ []), map-append tree_of exprs (expr ∷ []))
-    (one_more_expression (map route_data (take index routes)) (map tree_of exprs) (route_data route) (tree_of expr) so_far next)
+    rw (grown, is, map-append tree_of exprs (expr ∷ []))
+    (one_more_expression (take index routes) (map tree_of exprs) route (tree_of expr) so_far next)
 
 -- ---- what is compiled was read
 
@@ -63,7 +64,7 @@ paths_are_read (text ∷ texts) [] are reading has faulty = are
 paths_are_read (text ∷ texts) (place ∷ places) are reading (inl is) faulty = faulty_at (path text) reading is faulty place are.0
 paths_are_read (text ∷ texts) (place ∷ places) are reading (inr has) faulty = paths_are_read texts places are.1 reading has faulty
 
-routes_are_read : (routes : List RouteData) (trees : List Tree) → AreExpressions routes trees → AreRead (map route_reading routes)
+routes_are_read : (routes : List RouteSpec) (trees : List Tree) → AreExpressions routes trees → AreRead (map route_reading routes)
 routes_are_read [] trees are reading has faulty = has
 routes_are_read (route ∷ routes) [] are reading has faulty = are
 routes_are_read (route ∷ routes) (tree ∷ trees) are reading (inl is) faulty = faulty_at (expression route.expr) reading is faulty tree are.0
@@ -78,29 +79,29 @@ one_is_read : (one : Reading) → (IsFaulty one → ⊥) → AreRead (one ∷ []
 one_is_read one fine reading (inl is) faulty = fine (faulty_at one reading is faulty)
 one_is_read one fine reading (inr none) faulty = none
 
-done_is_read : (kind : KindData) (act : Act) → Does kind act → AreRead (own_readings kind)
-done_is_read kind.noop act does = λ reading has faulty. has
-done_is_read (kind.move from to) act does = two_are_read from to does.0 does.1 does.2 does.3
-done_is_read (kind.copy from to) act does = two_are_read from to does.0 does.1 does.2 does.3
-done_is_read (kind.add field value) act does = one_is_read (path field) (λ none. none does.0 does.1)
-done_is_read (kind.remove field) act does = one_is_read (path field) (λ none. none does.0 does.1)
-done_is_read (kind.flatten field) act does = one_is_read (member field) (λ none. none does.0 does.1 does.2)
-done_is_read (kind.retain fields) act does = paths_are_read fields does.0 does.1
-done_is_read (kind.filter expr) act does = one_is_read (expression expr) (λ none. none does.0 does.1)
-done_is_read (kind.router routes default) act does = λ reading has faulty. does
+done_is_read : (kind : OpKind) (act : Act) → Does kind act → AreRead (own_readings kind)
+done_is_read kind.Noop act does = λ reading has faulty. has
+done_is_read (kind.Move from to) act does = two_are_read from to does.0 does.1 does.2 does.3
+done_is_read (kind.Copy from to) act does = two_are_read from to does.0 does.1 does.2 does.3
+done_is_read (kind.Add field value) act does = one_is_read (path field) (λ none. none does.0 does.1)
+done_is_read (kind.Remove field) act does = one_is_read (path field) (λ none. none does.0 does.1)
+done_is_read (kind.Flatten field) act does = one_is_read (member field) (λ none. none does.0 does.1 does.2)
+done_is_read (kind.Retain fields) act does = paths_are_read fields does.0 does.1
+done_is_read (kind.Filter expr) act does = one_is_read (expression expr) (λ none. none does.0 does.1)
+done_is_read (kind.Router routes default) act does = λ reading has faulty. does
 
-routed_is_read : (kind : KindData) (trees : List Tree) (has_default : Bool) → Routes kind trees has_default → AreRead (own_readings kind)
-routed_is_read kind.noop trees has_default is = λ reading has faulty. is
-routed_is_read (kind.move from to) trees has_default is = λ reading has faulty. is
-routed_is_read (kind.copy from to) trees has_default is = λ reading has faulty. is
-routed_is_read (kind.add field value) trees has_default is = λ reading has faulty. is
-routed_is_read (kind.remove field) trees has_default is = λ reading has faulty. is
-routed_is_read (kind.flatten field) trees has_default is = λ reading has faulty. is
-routed_is_read (kind.retain fields) trees has_default is = λ reading has faulty. is
-routed_is_read (kind.filter expr) trees has_default is = λ reading has faulty. is
-routed_is_read (kind.router routes default) trees has_default is = routes_are_read routes trees is.0
+routed_is_read : (kind : OpKind) (trees : List Tree) (has_default : Bool) → Routes kind trees has_default → AreRead (own_readings kind)
+routed_is_read kind.Noop trees has_default is = λ reading has faulty. is
+routed_is_read (kind.Move from to) trees has_default is = λ reading has faulty. is
+routed_is_read (kind.Copy from to) trees has_default is = λ reading has faulty. is
+routed_is_read (kind.Add field value) trees has_default is = λ reading has faulty. is
+routed_is_read (kind.Remove field) trees has_default is = λ reading has faulty. is
+routed_is_read (kind.Flatten field) trees has_default is = λ reading has faulty. is
+routed_is_read (kind.Retain fields) trees has_default is = λ reading has faulty. is
+routed_is_read (kind.Filter expr) trees has_default is = λ reading has faulty. is
+routed_is_read (kind.Router routes default) trees has_default is = routes_are_read routes trees is.0
 
-pub work_is_read : (kind : KindData) (work : Work) → IsWorkOf kind work → AreRead (own_readings kind)
+pub work_is_read : (kind : OpKind) (work : Work) → IsWorkOf kind work → AreRead (own_readings kind)
 work_is_read kind (ActWork action) is = done_is_read kind (act_of action) is
 work_is_read kind (Route made) is = routed_is_read kind (map tree_of made.routes.items) made.has_default is
 
@@ -112,13 +113,13 @@ condition_is_read (Some text) (Some tree) is = one_is_read (expression text) (λ
 all_are_read : (front back : List Reading) → AreRead front → AreRead back → AreRead (front ++ back)
 all_are_read front back first then_so reading has = elim (has-either front back reading has) [ inl in_front ↦ first reading in_front | inr behind ↦ then_so reading behind ]
 
-compiled_is_read : (spec : OperatorData) (made : Operator) → IsCompiledTo spec made → AreRead (readings spec)
+compiled_is_read : (spec : OpSpec) (made : Operator) → IsCompiledTo spec made → AreRead (readings spec)
 compiled_is_read spec (conditional condition act drops) is =
     all_are_read (own_readings spec.kind) (condition_readings spec.condition) (done_is_read spec.kind act is.1) (condition_is_read spec.condition condition is.0)
 compiled_is_read spec (router trees has_default) is =
     all_are_read (own_readings spec.kind) (condition_readings spec.condition) (routed_is_read spec.kind trees has_default is.2) (condition_is_read spec.condition is.0 is.1)
 
-pub compiled_has_no_cause : (spec : OperatorData) (made : Operator) (found : OpCause) → IsCompiledTo spec made → IsLeastCause (readings spec) found → ⊥
+pub compiled_has_no_cause : (spec : OpSpec) (made : Operator) (found : OpCause) → IsCompiledTo spec made → IsLeastCause (readings spec) found → ⊥
 compiled_has_no_cause spec made found is cause = compiled_is_read spec made is cause.reading cause.among cause.faulty
 
 -- ---- one operator
@@ -145,7 +146,7 @@ same_paths (text ∷ texts) (p ∷ places) (o ∷ others) are also =
     let rest : places ≡ others = same_paths texts places others are.1 also.1 in
     cc (first, rest)
 
-same_trees : (routes : List RouteData) (trees others : List Tree) → AreExpressions routes trees → AreExpressions routes others → trees ≡ others
+same_trees : (routes : List RouteSpec) (trees others : List Tree) → AreExpressions routes trees → AreExpressions routes others → trees ≡ others
 same_trees [] [] [] are also = refl
 same_trees [] [] (o ∷ others) are also = absurd also
 same_trees [] (t ∷ trees) others are also = absurd are
@@ -167,53 +168,53 @@ same_condition (Some text) (Some t) (Some o) is also = let same : t ≡ o = one_
 two_same : (from to : List ℕ) (a b c d : Place) → IsPathText from a → IsPathText to b → IsPathText from c → IsPathText to d → (a ≡ c) × (b ≡ d)
 two_same from to a b c d p q r s = (one_path from a c p r, one_path to b d q s)
 
-same_act : (kind : KindData) (act other : Act) → Does kind act → Does kind other → act ≡ other
-same_act kind.noop act other does also = does ∙ sym also
-same_act (kind.move from to) act other does also =
+same_act : (kind : OpKind) (act other : Act) → Does kind act → Does kind other → act ≡ other
+same_act kind.Noop act other does also = does ∙ sym also
+same_act (kind.Move from to) act other does also =
     let same = two_same from to does.0 does.1 also.0 also.1 does.2 does.3 also.2 also.3 in
     does.4 ∙ ap (λ p. operator.move p does.1) same.0 ∙ ap (operator.move also.0) same.1 ∙ sym also.4
-same_act (kind.copy from to) act other does also =
+same_act (kind.Copy from to) act other does also =
     let same = two_same from to does.0 does.1 also.0 also.1 does.2 does.3 also.2 also.3 in
     does.4 ∙ ap (λ p. operator.copy p does.1) same.0 ∙ ap (operator.copy also.0) same.1 ∙ sym also.4
-same_act (kind.add field value) act other does also =
+same_act (kind.Add field value) act other does also =
     does.2 ∙ ap (λ p. operator.add p value) (one_path field does.0 also.0 does.1 also.1) ∙ sym also.2
-same_act (kind.remove field) act other does also =
+same_act (kind.Remove field) act other does also =
     does.2 ∙ ap operator.remove (one_path field does.0 also.0 does.1 also.1) ∙ sym also.2
-same_act (kind.flatten field) act other does also =
+same_act (kind.Flatten field) act other does also =
     let place : member_of does.0 does.1 ≡ member_of also.0 also.1 = one_path field (member_of does.0 does.1) (member_of also.0 also.1) does.2 also.2 in
     let roots : does.0.root ≡ also.0.root = ap (λ (p : Place). p.root) place in
     let names = snoc_same does.0.names also.0.names does.1 also.1 (ap (λ (p : Place). p.names) place) in
     let parents : does.0 ≡ also.0 = ap (λ r. let p : Place = record { root = r; names = does.0.names } in p) roots ∙ ap (λ n. let p : Place = record { root = also.0.root; names = n } in p) names.0 in
     does.3 ∙ ap (λ p. operator.flatten p does.1) parents ∙ ap (operator.flatten also.0) names.1 ∙ sym also.3
-same_act (kind.retain fields) act other does also =
+same_act (kind.Retain fields) act other does also =
     does.2 ∙ ap operator.retain (same_paths fields does.0 also.0 does.1 also.1) ∙ sym also.2
-same_act (kind.filter expr) act other does also =
+same_act (kind.Filter expr) act other does also =
     does.2 ∙ ap operator.filter (one_tree expr does.0 also.0 does.1 also.1) ∙ sym also.2
-same_act (kind.router routes default) act other does also = absurd does
+same_act (kind.Router routes default) act other does also = absurd does
 
-not_both : (kind : KindData) (act : Act) (trees : List Tree) (has_default : Bool) → Does kind act → Routes kind trees has_default → ⊥
-not_both kind.noop act trees has_default does routes = routes
-not_both (kind.move from to) act trees has_default does routes = routes
-not_both (kind.copy from to) act trees has_default does routes = routes
-not_both (kind.add field value) act trees has_default does routes = routes
-not_both (kind.remove field) act trees has_default does routes = routes
-not_both (kind.flatten field) act trees has_default does routes = routes
-not_both (kind.retain fields) act trees has_default does routes = routes
-not_both (kind.filter expr) act trees has_default does routes = routes
-not_both (kind.router routes default) act trees has_default does _ = does
+not_both : (kind : OpKind) (act : Act) (trees : List Tree) (has_default : Bool) → Does kind act → Routes kind trees has_default → ⊥
+not_both kind.Noop act trees has_default does routes = routes
+not_both (kind.Move from to) act trees has_default does routes = routes
+not_both (kind.Copy from to) act trees has_default does routes = routes
+not_both (kind.Add field value) act trees has_default does routes = routes
+not_both (kind.Remove field) act trees has_default does routes = routes
+not_both (kind.Flatten field) act trees has_default does routes = routes
+not_both (kind.Retain fields) act trees has_default does routes = routes
+not_both (kind.Filter expr) act trees has_default does routes = routes
+not_both (kind.Router routes default) act trees has_default does _ = does
 
-same_routes : (kind : KindData) (trees others : List Tree) (has also_has : Bool) → Routes kind trees has → Routes kind others also_has → (trees ≡ others) × (has ≡ also_has)
-same_routes kind.noop trees others has also_has routes also = absurd routes
-same_routes (kind.move from to) trees others has also_has routes also = absurd routes
-same_routes (kind.copy from to) trees others has also_has routes also = absurd routes
-same_routes (kind.add field value) trees others has also_has routes also = absurd routes
-same_routes (kind.remove field) trees others has also_has routes also = absurd routes
-same_routes (kind.flatten field) trees others has also_has routes also = absurd routes
-same_routes (kind.retain fields) trees others has also_has routes also = absurd routes
-same_routes (kind.filter expr) trees others has also_has routes also = absurd routes
-same_routes (kind.router all default) trees others has also_has routes also = (same_trees all trees others routes.0 also.0, routes.1 ∙ sym also.1)
+same_routes : (kind : OpKind) (trees others : List Tree) (has also_has : Bool) → Routes kind trees has → Routes kind others also_has → (trees ≡ others) × (has ≡ also_has)
+same_routes kind.Noop trees others has also_has routes also = absurd routes
+same_routes (kind.Move from to) trees others has also_has routes also = absurd routes
+same_routes (kind.Copy from to) trees others has also_has routes also = absurd routes
+same_routes (kind.Add field value) trees others has also_has routes also = absurd routes
+same_routes (kind.Remove field) trees others has also_has routes also = absurd routes
+same_routes (kind.Flatten field) trees others has also_has routes also = absurd routes
+same_routes (kind.Retain fields) trees others has also_has routes also = absurd routes
+same_routes (kind.Filter expr) trees others has also_has routes also = absurd routes
+same_routes (kind.Router all default) trees others has also_has routes also = (same_trees all trees others routes.0 also.0, routes.1 ∙ sym also.1)
 
-pub one_operator : (spec : OperatorData) (made other : Operator) → IsCompiledTo spec made → IsCompiledTo spec other → made ≡ other
+pub one_operator : (spec : OpSpec) (made other : Operator) → IsCompiledTo spec made → IsCompiledTo spec other → made ≡ other
 one_operator spec (conditional condition act drops) (conditional condition' act' drops') is also =
     ap (λ c. conditional c act drops) (same_condition spec.condition condition condition' is.0 also.0)
     ∙ ap (λ a. conditional condition' a drops) (same_act spec.kind act act' is.1 also.1)

@@ -16,7 +16,6 @@ use Rattle.op_kinds.specs.Causes.{of_path_fault, of_read_fault}
 use Rattle.op_kinds.specs.Readings.{Reading, path, member, expression, IsFaulty, route_reading, condition_readings, cause_of, number, IsLeastCause, Caused, AreRead}
 use Rattle.op_kinds.specs.declared.cause.OpCause.{OpCause}
 use Rattle.op_kinds.specs.declared.cause.OpCause.TheVariants as cause
-use Rattle.settings_text.specs.SettingsData.{route_data}
 use Rattle.settings_text.specs.declared.settings.RouteSpec.{RouteSpec}
 
 -- ---- members of lists
@@ -170,12 +169,12 @@ pub path_at : (texts : List (List ℕ)) (index : ℕ) (text : List ℕ) (found :
 path_at texts index text found within at given = caused_among (path text) (map path texts) found (has-at path texts index text within at) (paths_first text (map path texts)) given
 
 pub expression_at : (routes : List RouteSpec) (index : ℕ) (route : RouteSpec) (found : OpCause) → index < length routes → slice_index_or routes index route ≡ route
-    → Caused (expression route.expr ∷ []) found → Caused (map route_reading (map route_data routes)) found
+    → Caused (expression route.expr ∷ []) found → Caused (map route_reading routes) found
 expression_at routes index route found within at given =
-    caused_among (expression route.expr) (map route_reading (map route_data routes)) found (has-route routes index within at)
-    (λ other has. let is = has-map route_reading (map route_data routes) other has in omega (arith, ap (λ r. number (cause_of r)) is.1)) given
+    caused_among (expression route.expr) (map route_reading routes) found (has-route routes index within at)
+    (λ other has. let is = has-map route_reading routes other has in omega (arith, ap (λ r. number (cause_of r)) is.1)) given
   where
-    has-route : (routes : List RouteSpec) (index : ℕ) → index < length routes → slice_index_or routes index route ≡ route → Has (map route_reading (map route_data routes)) (expression route.expr)
+    has-route : (routes : List RouteSpec) (index : ℕ) → index < length routes → slice_index_or routes index route ≡ route → Has (map route_reading routes) (expression route.expr)
     has-route [] index within at = absurd (omega (arith, within))
     has-route (r ∷ routes) zero within at = inl (ap (λ (r : RouteSpec). expression r.expr) (sym at))
     has-route (r ∷ routes) (suc index) within at = inr (has-route routes index (omega (arith, within)) at)

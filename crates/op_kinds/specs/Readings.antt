@@ -7,8 +7,10 @@ use Rattle.field_paths.specs.Place.{Place}
 use Rattle.graph_core.specs.Wiring.{Has}
 use Rattle.op_kinds.specs.declared.cause.OpCause.{OpCause}
 use Rattle.op_kinds.specs.declared.cause.OpCause.TheVariants.{Path, Expr, Memory}
-use Rattle.settings_text.specs.SettingsData.{KindData, OperatorData, RouteData}
-use Rattle.settings_text.specs.SettingsData as kind
+use Rattle.settings_text.specs.declared.settings.OpKind.{OpKind}
+use Rattle.settings_text.specs.declared.settings.OpSpec.{OpSpec}
+use Rattle.settings_text.specs.declared.settings.RouteSpec.{RouteSpec}
+use Rattle.settings_text.specs.declared.settings.OpKind.TheVariants as kind
 
 -- a text that is to be read
 pub data Reading : Type 0 where
@@ -32,25 +34,25 @@ IsFaulty (expression text) = IsNoExpression text
 
 -- ---- what a type names
 
-abbrev pub route_reading : RouteData → Reading
+abbrev pub route_reading : RouteSpec → Reading
 route_reading route = expression route.expr
 
-abbrev pub own_readings : KindData → List Reading
-own_readings kind.noop = []
-own_readings (kind.move from to) = path from ∷ path to ∷ []
-own_readings (kind.copy from to) = path from ∷ path to ∷ []
-own_readings (kind.add field value) = path field ∷ []
-own_readings (kind.remove field) = path field ∷ []
-own_readings (kind.flatten field) = member field ∷ []
-own_readings (kind.retain fields) = map path fields
-own_readings (kind.filter expr) = expression expr ∷ []
-own_readings (kind.router routes default) = map route_reading routes
+abbrev pub own_readings : OpKind → List Reading
+own_readings kind.Noop = []
+own_readings (kind.Move from to) = path from ∷ path to ∷ []
+own_readings (kind.Copy from to) = path from ∷ path to ∷ []
+own_readings (kind.Add field value) = path field ∷ []
+own_readings (kind.Remove field) = path field ∷ []
+own_readings (kind.Flatten field) = member field ∷ []
+own_readings (kind.Retain fields) = map path fields
+own_readings (kind.Filter expr) = expression expr ∷ []
+own_readings (kind.Router routes default) = map route_reading routes
 
 abbrev pub condition_readings : Option (List ℕ) → List Reading
 condition_readings None = []
 condition_readings (Some text) = expression text ∷ []
 
-abbrev pub readings : OperatorData → List Reading
+abbrev pub readings : OpSpec → List Reading
 readings spec = own_readings spec.kind ++ condition_readings spec.condition
 
 -- ---- causes

@@ -5,9 +5,9 @@ use Rattle.op_kinds.specs.AnyOpView.{act_of}
 use Rattle.op_kinds.specs.Compiled.{Does, Routes}
 use Rattle.op_kinds.specs.declared.compiling.Work.{Work}
 use Rattle.op_kinds.specs.declared.compiling.Work.TheVariants.{Act, Route}
-use Rattle.settings_text.specs.SettingsData.{KindData}
+use Rattle.settings_text.specs.declared.settings.OpKind.{OpKind}
 
 -- the work is what the settings ask for
-abbrev pub IsWorkOf : KindData → Work → Type 0
+abbrev pub IsWorkOf : OpKind → Work → Type 0
 IsWorkOf kind (Act action) = Does kind (act_of action)
 IsWorkOf kind (Route router) = Routes kind (map tree_of router.routes.items) router.has_default

@@ -5,7 +5,6 @@ ghost use Rattle.op_kinds.specs.Compiled.{IsCompiledTo};
 ghost use Rattle.op_kinds.specs.Readings.{Caused, own_readings, readings};
 ghost use Rattle.op_kinds.specs.WorkView.{IsWorkOf};
 ghost use Rattle.settings_text.specs.Limits.{route_count};
-ghost use Rattle.settings_text.specs.SettingsData.{operator_data, kind_data};
 
 use crate::action::Action;
 use crate::any_op::Form;
@@ -19,9 +18,9 @@ use std::alloc::Global;
 
 /// The operator that the settings of one ask for. Of the texts in them that can't be read, one of the least cause is told.
 pub fn compile(alloc: Global, spec: &OpSpec) -> Result<AnyOp, OpCause>
-    requires { route_count (kind_data spec.now.kind) ≤ 65534 }
-    ensures ok { IfOk result (IsCompiledTo (operator_data spec.now)) }
-    ensures cause { IfErr result (Caused (readings (operator_data spec.now))) }
+    requires { route_count spec.now.kind ≤ 65534 }
+    ensures ok { IfOk result (IsCompiledTo spec.now) }
+    ensures cause { IfErr result (Caused (readings spec.now)) }
 {
     let work = work_of(alloc, &spec.kind)?;
     let condition = condition(alloc, &spec.condition)?;
@@ -44,7 +43,7 @@ enum Work {
 }
 
 fn drops_faulty(kind: &OpKind, on_error: OnError) -> bool
-    ensures { result ≡ compiled.drops_faulty (kind_data kind.now) on_error }
+    ensures { result ≡ compiled.drops_faulty kind.now on_error }
 {
     match kind {
         OpKind::Noop => false,
@@ -62,9 +61,9 @@ fn drops(on_error: OnError) -> bool
 }
 
 fn work_of(alloc: Global, kind: &OpKind) -> Result<Work, OpCause>
-    requires { route_count (kind_data kind.now) ≤ 65534 }
-    ensures ok { IfOk result (IsWorkOf (kind_data kind.now)) }
-    ensures cause { IfErr result (Caused (own_readings (kind_data kind.now))) }
+    requires { route_count kind.now ≤ 65534 }
+    ensures ok { IfOk result (IsWorkOf kind.now) }
+    ensures cause { IfErr result (Caused (own_readings kind.now)) }
 {
     match kind {
         OpKind::Noop => Ok(Work::Act(Action::Noop)),
@@ -82,12 +81,12 @@ fn work_of(alloc: Global, kind: &OpKind) -> Result<Work, OpCause>
             Ok(Work::Act(Action::Flatten(flattening::compile(alloc, field)?)))
         }
         OpKind::Retain { fields } => {
-            Ok(Work::Act(Action::Retain(retaining::compile(alloc, fields)?)))
+            Ok(Work::Act(Action::Retain(retaining::compile(alloc, fields.as_slice())?)))
         }
         OpKind::Filter { expr } => Ok(Work::Act(Action::Filter(filtering::compile(alloc, expr)?))),
         OpKind::Router { routes, default } => Ok(Work::Route(Router::compile(
             alloc,
-            routes,
+            routes.as_slice(),
             default.is_some(),
         )?)),
     }

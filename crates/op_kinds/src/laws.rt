@@ -6,17 +6,17 @@ ghost use Rattle.op_kinds.specs.Kept.{Kept, keeps_groups};
 ghost use Rattle.op_kinds.specs.Operator.{Operator, behavior_of, has_groups};
 ghost use Rattle.op_kinds.specs.Readings.{Reading, IsLeastCause, readings};
 ghost use Rattle.op_kinds.specs.declared.cause.OpCause.{OpCause};
-ghost use Rattle.settings_text.specs.SettingsData.{OperatorData};
+ghost use Rattle.settings_text.specs.declared.settings.OpSpec.{OpSpec};
 
 /// Settings ask for one operator at most.
 pub fn settings_make_one_operator()
-    ensures { (spec : OperatorData) (operator other : Operator) → IsCompiledTo spec operator → IsCompiledTo spec other → operator ≡ other }
+    ensures { (spec : OpSpec) (operator other : Operator) → IsCompiledTo spec operator → IsCompiledTo spec other → operator ≡ other }
 {}
 
 /// There is one cause at most for which settings make no operator, and none where they make one.
 pub fn settings_have_one_cause()
     ensures one { (all : List Reading) (cause other : OpCause) → IsLeastCause all cause → IsLeastCause all other → cause ≡ other }
-    ensures none { (spec : OperatorData) (operator : Operator) (cause : OpCause) → IsCompiledTo spec operator → IsLeastCause (readings spec) cause → ⊥ }
+    ensures none { (spec : OpSpec) (operator : Operator) (cause : OpCause) → IsCompiledTo spec operator → IsLeastCause (readings spec) cause → ⊥ }
 {}
 
 /// An operator begins with a state of its kind, and keeps one of its kind behind each entry.

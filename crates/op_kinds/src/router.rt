@@ -3,7 +3,6 @@ ghost use Rattle.std.specs.Prelude.{◌≡◌, ◌≤◌, length, map, IfOk, IfE
 ghost use Rattle.expr_lang.specs.TreeOf.{tree_of};
 ghost use Rattle.op_kinds.specs.Compiled.{AreExpressions};
 ghost use Rattle.op_kinds.specs.Readings.{Caused, route_reading};
-ghost use Rattle.settings_text.specs.SettingsData.{route_data};
 
 use crate::condition::holds;
 use crate::reading::expression;
@@ -29,7 +28,6 @@ impl Router {
     ghost use Rattle.op_kinds.specs.Compiled.{AreExpressions};
     ghost use Rattle.op_kinds.specs.Operator as operator;
     ghost use Rattle.op_kinds.specs.Readings.{Caused, route_reading};
-    ghost use Rattle.settings_text.specs.SettingsData.{route_data};
 
     pub(crate) fn compile(
         alloc: Global,
@@ -37,9 +35,9 @@ impl Router {
         has_default: bool,
     ) -> Result<Router, OpCause>
         requires { length routes.now ≤ 65534 }
-        ensures ok { IfOk result (λ router. AreExpressions (map route_data routes.now) (map tree_of router.routes.items)) }
+        ensures ok { IfOk result (λ router. AreExpressions routes.now (map tree_of router.routes.items)) }
         ensures default { IfOk result (λ router. router.has_default ≡ has_default) }
-        ensures cause { IfErr result (Caused (map route_reading (map route_data routes.now))) }
+        ensures cause { IfErr result (Caused (map route_reading routes.now)) }
     {
         let routes = expressions(alloc, routes)?;
         Ok(Router {
@@ -89,9 +87,9 @@ impl Router {
 }
 
 fn expressions(alloc: Global, routes: &[RouteSpec]) -> Result<Vec<Expr>, OpCause>
-    ensures ok { IfOk result (λ exprs. AreExpressions (map route_data routes.now) (map tree_of exprs.items)) }
+    ensures ok { IfOk result (λ exprs. AreExpressions routes.now (map tree_of exprs.items)) }
     ensures many { IfOk result (λ exprs. length exprs.items ≡ length routes.now) }
-    ensures cause { IfErr result (Caused (map route_reading (map route_data routes.now))) }
+    ensures cause { IfErr result (Caused (map route_reading routes.now)) }
 {
     let mut exprs = Vec::new(alloc);
     for route in routes {

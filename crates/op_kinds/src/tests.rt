@@ -1,12 +1,11 @@
 // Operators made of settings that are written by hand.
 ghost use Rattle.std.specs.Prelude.{◌≤◌, IsTrue};
 ghost use Rattle.settings_text.specs.Limits.{route_count};
-ghost use Rattle.settings_text.specs.SettingsData.{kind_data};
 
 use crate::{AnyOp, OpCause, Record, compile, is_fresh};
 use entry_model::{Entry, Text};
 use graph_core::Step;
-use settings_text::{OnError, OpKind, OpSpec, RouteSpec};
+use settings_text::{OnError, OpKind, OpSpec, RouteSpec, Routes, Texts};
 use std::alloc::{AllocError, Global};
 use std::test::Fail;
 
@@ -43,7 +42,9 @@ fn retain(alloc: Global, fields: [&str; 2]) -> Result<OpKind, AllocError> {
     for field in fields {
         texts.push(Text::from_str(alloc, field)?)?;
     }
-    Ok(OpKind::Retain { fields: texts })
+    Ok(OpKind::Retain {
+        fields: Texts::new(texts),
+    })
 }
 
 // A router with these routes, all to one operator, and a default or none.
@@ -52,22 +53,25 @@ fn router(alloc: Global, exprs: &[&str], has_default: bool) -> Result<OpKind, Al
     for expr in exprs {
         routes.push(RouteSpec {
             expr: Text::from_str(alloc, expr)?,
-            output: Vec::new(alloc),
+            output: Texts::new(Vec::new(alloc)),
         })?;
     }
     let default = if has_default {
-        Some(Vec::new(alloc))
+        Some(Texts::new(Vec::new(alloc)))
     } else {
         None
     };
-    Ok(OpKind::Router { routes, default })
+    Ok(OpKind::Router {
+        routes: Routes::new(routes),
+        default,
+    })
 }
 
 fn has_few_routes(spec: &OpSpec) -> bool
-    ensures { IsTrue result → route_count (kind_data spec.now.kind) ≤ 65534 }
+    ensures { IsTrue result → route_count spec.now.kind ≤ 65534 }
 {
     match &spec.kind {
-        OpKind::Router { routes, .. } => routes.len() <= 65_534,
+        OpKind::Router { routes, .. } => routes.as_slice().len() <= 65_534,
         _ => true,
     }
 }

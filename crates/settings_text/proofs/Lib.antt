@@ -1,8 +1,8 @@
 pub mod Copies
 pub mod Depths
 pub mod Drafts
-pub mod Lists
+pub mod InTurn
 pub mod Numbers
-pub mod Texts
+pub mod JsonTexts
 pub mod Limits
 pub mod FreeIds

@@ -1,25 +1,33 @@
 -- What settings say is within the limits.
-use Rattle.std.proofs.Common.{◌≡◌, ℕ, zero, suc, ◌+◌, ◌≤◌, List, [], ◌∷◌, length, Bool, true, false, Result, Ok, Err, Option, None, Some, ◌++◌, refl, sym, ap, subst, ◌∙◌, arith, rules}
+use Rattle.std.proofs.Common.{◌≡◌, ℕ, zero, suc, ◌+◌, ◌≤◌, List, [], ◌∷◌, length, Bool, true, false, true≢false, Result, Ok, Err, Option, None, Some, ◌++◌, refl, sym, ap, subst, ◌∙◌, arith, rules}
 use Rattle.std.proofs.lemmas.Bool.{ltb-false, leb-true}
-use Rattle.std.specs.Prelude.{nat_lt, nat_le, ◌&&◌, if◌then◌else◌, codes, slice_get, max, pos, ◌^◌, decimal}
+use Rattle.std.specs.Prelude.{nat_lt, ◌&&◌, if◌then◌else◌, codes, slice_get, max, pos, negsuc, ℤ, nat_abs, int_le, ◌^◌, decimal}
 use Rattle.entry_model.specs.Datum as datum
 use Rattle.serde_json.specs.Data.{Data, null, boolean, number, string, array, object, Items, no_items, item, Members, no_members, member, Num, unsigned, negative, float, depth, items_depth, members_depth}
 use Rattle.serde_json.specs.Events.{items_len}
-use Rattle.serde_json.specs.Find.{get, as_object, as_number, as_array, as_str}
-use Rattle.settings_text.specs.Grammar.{settings, settings_of, flags_of, json_of, top_keys, start_named}
-use Rattle.settings_text.specs.Kinds.{Kind, must, may, or_missing, or_default, given, known, name, text, whole, number_within, texts, some_texts, text_or_texts, some_item_texts, fields, value, each}
-use Rattle.settings_text.specs.Limits.{KeepsLimits, OperatorKeepsLimits, KindKeepsLimits, KeepsRouteLimits, IsSomeIfWritten, nesting, items_nesting, members_nesting, route_count}
+use Rattle.serde_json.specs.Find.{get, as_object, as_number, as_array, as_str, as_i64, is_float}
+use Rattle.entry_model.specs.Lawful.{nesting, items_nesting, members_nesting}
+use Rattle.settings_text.specs.Grammar.{settings, settings_of, flags_of, json_of, is_top_key, start_named}
+use Rattle.settings_text.specs.Kinds.{Kind, must, may, or_missing, or_default, given, known, name, text, whole, integer, integer_within, number_within, texts, some_texts, text_or_texts, some_item_texts, fields, value, each, IsSomeIfWritten}
+use Rattle.settings_text.specs.Limits.{KeepsLimits, OperatorKeepsLimits, KindKeepsLimits, route_count}
 use Rattle.settings_text.specs.Operators as op
-use Rattle.settings_text.specs.Operators.{DraftData, at_most_64, with_ids, draft, written_ids, front, type_named, on_error_named, keys_of, kind_of, route, routable}
+use Rattle.settings_text.specs.Operators.{at_most_64, with_ids, draft, written_ids, front, type_named, on_error_named, is_key_of, kind_of}
 use Rattle.settings_text.specs.Outcome.{◌>>=◌, or_fault}
 use Rattle.settings_text.specs.Place.{item_place}
+use Rattle.settings_text.specs.Types.Routing as routing
+use Rattle.settings_text.specs.Types.Routing.{is_route_key, route, routable}
 use Rattle.settings_text.specs.ValueData.{value_data, items_data, members_data, number_data, has_fraction}
-use Rattle.settings_text.specs.SettingsData.{SettingsData, OperatorData, RouteData, KindData, noop, move, copy, add, remove, flatten, retain, filter, router}
 use Rattle.settings_text.specs.declared.fault.SettingsFault.{SettingsFault}
 use Rattle.settings_text.specs.declared.fault.SettingsFault.TheVariants.{NotJson, WrongKind, OutOfRange, Fraction, TooLong}
+use Rattle.settings_text.specs.declared.operators.Draft.{Draft}
 use Rattle.settings_text.specs.declared.operators.OpType.{OpType}
 use Rattle.settings_text.specs.declared.operators.OpType.TheVariants.{Noop, Move, Copy, Add, Remove, Flatten, Retain, Filter, Router}
 use Rattle.settings_text.specs.declared.settings.OnError.TheVariants.{Send}
+use Rattle.settings_text.specs.declared.settings.OpKind.{OpKind}
+use Rattle.settings_text.specs.declared.settings.OpKind.TheVariants as kind
+use Rattle.settings_text.specs.declared.settings.OpSpec.{OpSpec}
+use Rattle.settings_text.specs.declared.settings.RouteSpec.{RouteSpec}
+use Rattle.settings_text.specs.declared.settings.Settings.{Settings}
 use Rattle.settings_text.specs.declared.settings.StartAt.TheVariants.{End}
 
 no_value : {A : Type 0} (fault : SettingsFault) (x : A) → ◌≡◌ {A = Result A SettingsFault} (Err fault) (Ok x) → ⊥
@@ -42,22 +50,31 @@ from_must : {A : Type 0} (P : A → Type 0) (kind : Kind A) (place : List ℕ) (
 from_must P kind place None x then_so e = absurd (no_value _ x e)
 from_must P kind place (Some d) x then_so e = then_so d x e
 
-within : (low high : ℕ) (place : List ℕ) (n : Num) (x : ℕ) → number_within low high place n ≡ Ok x → (low ≤ x) × (x ≤ high)
-within low high place (unsigned n) x e = by (nat_le low n) refl (nat_le n high) refl e
+within : (low high : ℕ) (place : List ℕ) (found : Option ℤ) (x : ℤ) → integer_within (pos low) (pos high) place found ≡ Ok x → (low ≤ nat_abs x) × (nat_abs x ≤ high)
+within low high place None x e = absurd (no_value _ x e)
+within low high place (Some z) x e = by (int_le (pos low) z) refl (int_le z (pos high)) refl e
   where
-    by : (a : Bool) → nat_le low n ≡ a → (b : Bool) → nat_le n high ≡ b → (if a && b then Ok n else Err (OutOfRange place)) ≡ Ok x → (low ≤ x) × (x ≤ high)
-    by true from true to is =
-        let same = same_value n x is in
-        (subst (λ y. low ≤ y) same (leb-true low n from), subst (λ y. y ≤ high) same (leb-true n high to))
+    in_range : (z : ℤ) → int_le (pos low) z ≡ true → int_le z (pos high) ≡ true → (low ≤ nat_abs z) × (nat_abs z ≤ high)
+    in_range (pos n) from to = (leb-true low n from, leb-true n high to)
+    in_range (negsuc n) from to = absurd (true≢false (sym from))
+
+    by : (a : Bool) → int_le (pos low) z ≡ a → (b : Bool) → int_le z (pos high) ≡ b → (if a && b then Ok z else Err (OutOfRange place)) ≡ Ok x → (low ≤ nat_abs x) × (nat_abs x ≤ high)
+    by true from true to is = subst (λ y. (low ≤ nat_abs y) × (nat_abs y ≤ high)) (same_value z x is) (in_range z from to)
     by true from false to is = absurd (no_value (OutOfRange place) x is)
     by false from b to is = absurd (no_value (OutOfRange place) x is)
-within low high place (negative z) x e = absurd (no_value _ x e)
-within low high place (float f) x e = absurd (no_value _ x e)
+
+number_in : (low high : ℕ) (place : List ℕ) (n : Num) (x : ℤ) → number_within (pos low) (pos high) place n ≡ Ok x → (low ≤ nat_abs x) × (nat_abs x ≤ high)
+number_in low high place n x e = by (is_float n) e
+  where
+    by : (b : Bool) → (if b then Err (Fraction place) else integer_within (pos low) (pos high) place (as_i64 n)) ≡ Ok x → (low ≤ nat_abs x) × (nat_abs x ≤ high)
+    by true is = absurd (no_value (Fraction place) x is)
+    by false is = within low high place (as_i64 n) x is
 
 whole_within : (low high : ℕ) (place : List ℕ) (d : Data) (x : ℕ) → whole low high place d ≡ Ok x → (low ≤ x) × (x ≤ high)
 whole_within low high place d x e =
-    let number = binds (or_fault (WrongKind place) (as_number d)) (number_within low high place) x e in
-    within low high place number.0 x number.2
+    let read = binds (integer (pos low) (pos high) place d) (λ z. Ok (nat_abs z)) x e in
+    let number = binds (or_fault (WrongKind place) (as_number d)) (number_within (pos low) (pos high) place) read.0 read.1 in
+    subst (λ y. (low ≤ y) × (y ≤ high)) (same_value (nat_abs read.0) x read.2) (number_in low high place number.0 read.0 number.2)
 
 as_many : {A : Type 0} (read : ℕ → Data → Result A SettingsFault) (n : ℕ) (items : Items) (all : List A) → each read n items ≡ Ok all → length all ≡ items_len items
 unfolding each
@@ -88,15 +105,15 @@ each_has P read so n (item d ds) all e i x at =
     let is : first.0 ∷ others.0 ≡ all = same_value _ all others.2 in
     in_front P first.0 others.0 (so n d first.0 first.1) (each_has P read so (n + 1) ds others.0 others.1) i x (subst (λ l. slice_get l i ≡ Some x) (sym is) at)
 
-ids_as_many : (taken : List (List ℕ)) (drafts : List DraftData) → length (with_ids taken drafts) ≡ length drafts
+ids_as_many : (taken : List (List ℕ)) (drafts : List Draft) → length (with_ids taken drafts) ≡ length drafts
 unfolding with_ids
 ids_as_many taken [] = refl
 ids_as_many taken (d ∷ ds) = ap suc (ids_as_many (taken ++ op.id_of taken d ∷ []) ds)
 
 -- what is had by whatever is settled of a draft, each operator has
-ids_keep : (P : OperatorData → Type 0) (Q : DraftData → Type 0) → ((taken : List (List ℕ)) (d : DraftData) → Q d → P (op.settled taken d))
-    → (taken : List (List ℕ)) (drafts : List DraftData) → ((i : ℕ) (d : DraftData) → slice_get drafts i ≡ Some d → Q d)
-    → (i : ℕ) (o : OperatorData) → slice_get (with_ids taken drafts) i ≡ Some o → P o
+ids_keep : (P : OpSpec → Type 0) (Q : Draft → Type 0) → ((taken : List (List ℕ)) (d : Draft) → Q d → P (op.settled taken d))
+    → (taken : List (List ℕ)) (drafts : List Draft) → ((i : ℕ) (d : Draft) → slice_get drafts i ≡ Some d → Q d)
+    → (i : ℕ) (o : OpSpec) → slice_get (with_ids taken drafts) i ≡ Some o → P o
 unfolding with_ids
 ids_keep P Q settle taken [] so i o at = absurd (not_there o at)
 ids_keep P Q settle taken (d ∷ ds) so i o at =
@@ -179,14 +196,14 @@ routes_within place (item d ds) all e = by (nat_lt 65534 (items_len (item d ds))
     by true many is = absurd (no_value _ all is)
     by false some is = (sym (same_value (item d ds) all is), ltb-false 65534 (items_len (item d ds)) some)
 
-few_routes : (place : List ℕ) (d : Data) (routes : List RouteData) → op.routes place d ≡ Ok routes → length routes ≤ 65534
+few_routes : (place : List ℕ) (d : Data) (routes : List RouteSpec) → routing.routes place d ≡ Ok routes → length routes ≤ 65534
 few_routes place d routes e =
     let all = binds (or_fault (WrongKind place) (as_array d)) _ routes e in
     let some = binds (routable place all.0) _ routes all.2 in
     let few_items = routes_within place all.0 some.0 some.1 in
     omega (arith, as_many (route place) 0 some.0 routes some.2, ap items_len few_items.0, few_items.1)
 
-some_routes : (place : List ℕ) (d : Data) (routes : List RouteData) → op.routes place d ≡ Ok routes → 1 ≤ length routes
+some_routes : (place : List ℕ) (d : Data) (routes : List RouteSpec) → routing.routes place d ≡ Ok routes → 1 ≤ length routes
 some_routes place d routes e =
     let all = binds (or_fault (WrongKind place) (as_array d)) _ routes e in
     let some = binds (routable place all.0) _ routes all.2 in
@@ -196,75 +213,76 @@ some_routes place d routes e =
     by no_items few_items is read = absurd (no_value _ few_items is)
     by (item d ds) few_items is read = omega (arith, as_many (route place) 0 few_items routes read, ap items_len (routes_within place (item d ds) few_items is).0)
 
-route_output : (place : List ℕ) (n : ℕ) (d : Data) (made : RouteData) → route place n d ≡ Ok made → 1 ≤ length made.output
+route_output : (place : List ℕ) (n : ℕ) (d : Data) (made : RouteSpec) → route place n d ≡ Ok made → 1 ≤ length made.output
 unfolding route
 route_output place n d made e =
     let members = binds (or_fault (WrongKind (item_place place n)) (as_object d)) _ made e in
-    let all_known = binds (known op.route_keys (item_place place n ++ codes ".") members.0) _ made members.2 in
+    let all_known = binds (known is_route_key (item_place place n ++ codes ".") members.0) _ made members.2 in
     let expr = binds (must (item_place place n ++ codes ".") (codes "expr") text d) _ made all_known.2 in
     let output = binds (must (item_place place n ++ codes ".") (codes "output") text_or_texts d) _ made expr.2 in
     let some : 1 ≤ length output.0 = from_must (λ l. 1 ≤ length l) text_or_texts (item_place place n ++ codes "." ++ codes "output") (get (codes "output") d) output.0 (some_or_one (item_place place n ++ codes "." ++ codes "output")) output.1 in
-    subst (λ (r : RouteData). 1 ≤ length r.output) (same_value _ made output.2) some
+    subst (λ (r : RouteSpec). 1 ≤ length r.output) (same_value _ made output.2) some
 
-routes_output : (place : List ℕ) (d : Data) (routes : List RouteData) → op.routes place d ≡ Ok routes → (i : ℕ) (made : RouteData) → slice_get routes i ≡ Some made → 1 ≤ length made.output
+routes_output : (place : List ℕ) (d : Data) (routes : List RouteSpec) → routing.routes place d ≡ Ok routes → (i : ℕ) (made : RouteSpec) → slice_get routes i ≡ Some made → 1 ≤ length made.output
 routes_output place d routes e =
     let all = binds (or_fault (WrongKind place) (as_array d)) _ routes e in
     let some = binds (routable place all.0) _ routes all.2 in
-    each_has (λ (r : RouteData). 1 ≤ length r.output) (route place) (route_output place) 0 some.0 routes some.2
+    each_has (λ (r : RouteSpec). 1 ≤ length r.output) (route place) (route_output place) 0 some.0 routes some.2
 
 -- ---- what a type says
 
-kept : (made kind : KindData) → KindKeepsLimits made → ◌≡◌ {A = Result KindData SettingsFault} (Ok made) (Ok kind) → KindKeepsLimits kind
+kept : (made kind : OpKind) → KindKeepsLimits made → ◌≡◌ {A = Result OpKind SettingsFault} (Ok made) (Ok kind) → KindKeepsLimits kind
 kept made kind keeps e = subst KindKeepsLimits (same_value made kind e) keeps
 
-kind_keeps : (op_type : OpType) (at : List ℕ) (d : Data) (kind : KindData) → kind_of op_type at d ≡ Ok kind → KindKeepsLimits kind
-kind_keeps Noop at d kind e = kept noop kind tt e
-kind_keeps Move at d kind e =
-    let from = binds (must at (codes "from") text d) _ kind e in
-    let to = binds (must at (codes "to") text d) _ kind from.2 in
-    kept (move from.0 to.0) kind tt to.2
-kind_keeps Copy at d kind e =
-    let from = binds (must at (codes "from") text d) _ kind e in
-    let to = binds (must at (codes "to") text d) _ kind from.2 in
-    kept (copy from.0 to.0) kind tt to.2
-kind_keeps Add at d kind e =
-    let field = binds (must at (codes "field") text d) _ kind e in
-    let added = binds (must at (codes "value") value d) _ kind field.2 in
-    kept (add field.0 added.0) kind (from_must (λ v. nesting v ≤ 64) value (at ++ codes "value") (get (codes "value") d) added.0 (value_nests (at ++ codes "value")) added.1) added.2
-kind_keeps Remove at d kind e =
-    let field = binds (must at (codes "field") text d) _ kind e in
-    kept (remove field.0) kind tt field.2
-kind_keeps Flatten at d kind e =
-    let field = binds (must at (codes "field") text d) _ kind e in
-    kept (flatten field.0) kind tt field.2
-kind_keeps Retain at d kind e =
-    let fields = binds (must at (codes "fields") some_texts d) _ kind e in
-    kept (retain fields.0) kind (from_must (λ l. 1 ≤ length l) some_texts (at ++ codes "fields") (get (codes "fields") d) fields.0 (some_listed (at ++ codes "fields")) fields.1) fields.2
-kind_keeps Filter at d kind e =
-    let expr = binds (must at (codes "expr") text d) _ kind e in
-    kept (filter expr.0) kind tt expr.2
-kind_keeps Router at d kind e =
+kind_keeps : (op_type : OpType) (at : List ℕ) (d : Data) (made : OpKind) → kind_of op_type at d ≡ Ok made → KindKeepsLimits made
+kind_keeps Noop at d made e = kept kind.Noop made tt e
+kind_keeps Move at d made e =
+    let from = binds (must at (codes "from") text d) _ made e in
+    let to = binds (must at (codes "to") text d) _ made from.2 in
+    kept (kind.Move from.0 to.0) made tt to.2
+kind_keeps Copy at d made e =
+    let from = binds (must at (codes "from") text d) _ made e in
+    let to = binds (must at (codes "to") text d) _ made from.2 in
+    kept (kind.Copy from.0 to.0) made tt to.2
+kind_keeps Add at d made e =
+    let field = binds (must at (codes "field") text d) _ made e in
+    let added = binds (must at (codes "value") value d) _ made field.2 in
+    kept (kind.Add field.0 added.0) made (from_must (λ v. nesting v ≤ 64) value (at ++ codes "value") (get (codes "value") d) added.0 (value_nests (at ++ codes "value")) added.1) added.2
+kind_keeps Remove at d made e =
+    let field = binds (must at (codes "field") text d) _ made e in
+    kept (kind.Remove field.0) made tt field.2
+kind_keeps Flatten at d made e =
+    let field = binds (must at (codes "field") text d) _ made e in
+    kept (kind.Flatten field.0) made tt field.2
+kind_keeps Retain at d made e =
+    let fields = binds (must at (codes "fields") some_texts d) _ made e in
+    kept (kind.Retain fields.0) made (from_must (λ l. 1 ≤ length l) some_texts (at ++ codes "fields") (get (codes "fields") d) fields.0 (some_listed (at ++ codes "fields")) fields.1) fields.2
+kind_keeps Filter at d made e =
+    let expr = binds (must at (codes "expr") text d) _ made e in
+    kept (kind.Filter expr.0) made tt expr.2
+kind_keeps Router at d made e =
     let place = at ++ codes "routes" in
-    let routes = binds (must at (codes "routes") op.routes d) _ kind e in
-    let default = binds (may at (codes "default") (given text_or_texts) None d) _ kind routes.2 in
-    kept (router routes.0 default.0) kind
+    let all = binds (must at (codes "routes") routing.routes d) _ made e in
+    let default = binds (may at (codes "default") (given text_or_texts) None d) _ made all.2 in
+    kept (kind.Router all.0 default.0) made
     (record {
-      some = from_must (λ l. 1 ≤ length l) op.routes place (get (codes "routes") d) routes.0 (some_routes place) routes.1;
-      few = from_must (λ l. length l ≤ 65534) op.routes place (get (codes "routes") d) routes.0 (few_routes place) routes.1;
-      outputs = from_must (λ l. (i : ℕ) (made : RouteData) → slice_get l i ≡ Some made → 1 ≤ length made.output) op.routes place (get (codes "routes") d) routes.0 (routes_output place) routes.1;
+      some = from_must (λ l. 1 ≤ length l) routing.routes place (get (codes "routes") d) all.0 (some_routes place) all.1;
+      few = from_must (λ l. length l ≤ 65534) routing.routes place (get (codes "routes") d) all.0 (few_routes place) all.1;
+      outputs = from_must (λ l. (i : ℕ) (made : RouteSpec) → slice_get l i ≡ Some made → 1 ≤ length made.output) routing.routes place (get (codes "routes") d) all.0 (routes_output place) all.1;
       default_output = some_written at (codes "default") d default.0 default.1;
     }) default.2
 
-record DraftKeeps (made : DraftData) : Type 0 where
+record DraftKeeps (made : Draft) : Type 0 where
   output : IsSomeIfWritten made.output
   kind : KindKeepsLimits made.kind
 
-draft_keeps : (n : ℕ) (d : Data) (made : DraftData) → draft n d ≡ Ok made → DraftKeeps made
+draft_keeps : (n : ℕ) (d : Data) (made : Draft) → draft n d ≡ Ok made → DraftKeeps made
 unfolding draft
 draft_keeps n d made e =
     let members = binds (or_fault (WrongKind (item_place (codes "operators") n)) (as_object d)) _ made e in
-    let op_type = binds (must (front n) (codes "type") (name type_named) d) _ made members.2 in
-    let all_known = binds (known (keys_of op_type.0) (front n) members.0) _ made op_type.2 in
+    let type_name = binds (must (front n) (codes "type") text d) _ made members.2 in
+    let op_type = binds (or_fault (OutOfRange (front n ++ codes "type")) (type_named type_name.0)) _ made type_name.2 in
+    let all_known = binds (known (is_key_of op_type.0) (front n) members.0) _ made op_type.2 in
     let id = binds (may (front n) (codes "id") (given text) None d) _ made all_known.2 in
     let output = binds (may (front n) (codes "output") (given text_or_texts) None d) _ made id.2 in
     let condition = binds (may (front n) (codes "if") (given text) None d) _ made output.2 in
@@ -279,7 +297,7 @@ few place items all e = by (nat_lt 64 (items_len items)) refl e
     by true many is = absurd (no_value _ all is)
     by false some is = (sym (same_value items all is), ltb-false 64 (items_len items) some)
 
-few_operators : (place : List ℕ) (d : Data) (operators : List OperatorData) → op.operators place d ≡ Ok operators → length operators ≤ 64
+few_operators : (place : List ℕ) (d : Data) (operators : List OpSpec) → op.operators place d ≡ Ok operators → length operators ≤ 64
 few_operators place d operators e =
     let all = binds (or_fault (WrongKind place) (as_array d)) _ operators e in
     let some = binds (at_most_64 place all.0) _ operators all.2 in
@@ -288,10 +306,10 @@ few_operators place d operators e =
     let few_items = few place all.0 some.0 some.1 in
     omega (arith, ap length (sym same), ids_as_many (written_ids drafts.0) drafts.0, as_many draft 0 some.0 drafts.0 drafts.1, ap items_len few_items.0, few_items.1)
 
-abbrev AllKeep : List OperatorData → Type 0
-AllKeep operators = (i : ℕ) (o : OperatorData) → slice_get operators i ≡ Some o → OperatorKeepsLimits o
+abbrev AllKeep : List OpSpec → Type 0
+AllKeep operators = (i : ℕ) (o : OpSpec) → slice_get operators i ≡ Some o → OperatorKeepsLimits o
 
-operators_keep : (place : List ℕ) (d : Data) (operators : List OperatorData) → op.operators place d ≡ Ok operators → AllKeep operators
+operators_keep : (place : List ℕ) (d : Data) (operators : List OpSpec) → op.operators place d ≡ Ok operators → AllKeep operators
 operators_keep place d operators e i o at =
     let all = binds (or_fault (WrongKind place) (as_array d)) _ operators e in
     let some = binds (at_most_64 place all.0) _ operators all.2 in
@@ -300,16 +318,16 @@ operators_keep place d operators e i o at =
     ids_keep OperatorKeepsLimits DraftKeeps (λ taken d keeps. record { output = keeps.output; kind = keeps.kind }) (written_ids drafts.0) drafts.0 (each_has DraftKeeps draft draft_keeps 0 some.0 drafts.0 drafts.1) i o
     (subst (λ l. slice_get l i ≡ Some o) (sym same) at)
 
-few_of : (kind : KindData) → KindKeepsLimits kind → route_count kind ≤ 65534
-few_of noop keeps = omega arith
-few_of (move from to) keeps = omega arith
-few_of (copy from to) keeps = omega arith
-few_of (add field added) keeps = omega arith
-few_of (remove field) keeps = omega arith
-few_of (flatten field) keeps = omega arith
-few_of (retain listed) keeps = omega arith
-few_of (filter expr) keeps = omega arith
-few_of (router routes default) keeps = keeps.few
+few_of : (kind : OpKind) → KindKeepsLimits kind → route_count kind ≤ 65534
+few_of kind.Noop keeps = omega arith
+few_of (kind.Move from to) keeps = omega arith
+few_of (kind.Copy from to) keeps = omega arith
+few_of (kind.Add field added) keeps = omega arith
+few_of (kind.Remove field) keeps = omega arith
+few_of (kind.Flatten field) keeps = omega arith
+few_of (kind.Retain listed) keeps = omega arith
+few_of (kind.Filter expr) keeps = omega arith
+few_of (kind.Router routes default) keeps = keeps.few
 
 default_front : (16 ≤ 1000) × (1000 ≤ 4096)
 default_front = (omega arith, omega arith)
@@ -317,21 +335,21 @@ default_front = (omega arith, omega arith)
 default_size : (64 ≤ 1048576) × (1048576 ≤ 4194304)
 default_size = (omega arith, omega arith)
 
-no_operators : length {A = OperatorData} [] ≤ 64
+no_operators : length {A = OpSpec} [] ≤ 64
 no_operators = omega arith
 
 -- what four of the keys say
-record KeysSay (d : Data) (said : SettingsData) : Type 0 where
+record KeysSay (d : Data) (said : Settings) : Type 0 where
   include : must [] (codes "include") some_texts d ≡ Ok said.include
   front : may [] (codes "fingerprint_size") (whole 16 4096) 1000 d ≡ Ok said.fingerprint_size
   max : may [] (codes "max_log_size") (whole 64 4194304) 1048576 d ≡ Ok said.max_log_size
   operators : may [] (codes "operators") op.operators [] d ≡ Ok said.operators
 
-keys_say : (d : Data) (said : SettingsData) → settings_of d ≡ Ok said → KeysSay d said
+keys_say : (d : Data) (said : Settings) → settings_of d ≡ Ok said → KeysSay d said
 unfolding settings_of
 keys_say d said e =
     let members = binds (or_fault NotJson (as_object d)) _ said e in
-    let all_known = binds (known top_keys [] members.0) _ said members.2 in
+    let all_known = binds (known is_top_key [] members.0) _ said members.2 in
     let include = binds (must [] (codes "include") some_texts d) _ said all_known.2 in
     let exclude = binds (may [] (codes "exclude") texts [] d) _ said include.2 in
     let start_at = binds (may [] (codes "start_at") (name start_named) End d) _ said exclude.2 in
@@ -343,7 +361,7 @@ keys_say d said e =
     let operators = binds (may [] (codes "operators") op.operators [] d) _ said resource.2 in
     subst (KeysSay d) (same_value _ said operators.2) (record { include = include.1; front = fingerprint.1; max = max.1; operators = operators.1 })
 
-settings_of_keep : (d : Data) (said : SettingsData) → settings_of d ≡ Ok said → KeepsLimits said
+settings_of_keep : (d : Data) (said : Settings) → settings_of d ≡ Ok said → KeepsLimits said
 settings_of_keep d said e =
     let keys = keys_say d said e in
     let size = from_kind (λ n. (64 ≤ n) × (n ≤ 4194304)) 1048576 (whole 64 4194304) (codes "max_log_size") (get (codes "max_log_size") d) said.max_log_size default_size (whole_within 64 4194304 (codes "max_log_size")) keys.max in
@@ -360,7 +378,7 @@ settings_of_keep d said e =
       operators = all;
     }
 
-pub settings_keep : (bytes : List ℕ) (said : SettingsData) → settings bytes ≡ Ok said → KeepsLimits said
+pub settings_keep : (bytes : List ℕ) (said : Settings) → settings bytes ≡ Ok said → KeepsLimits said
 unfolding settings
 settings_keep bytes said e = by (nat_lt 1048576 (length bytes)) e
   where

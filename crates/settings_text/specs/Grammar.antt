@@ -1,5 +1,5 @@
 -- The settings of a text, or its one refusal.
-use Rattle.std.specs.Prelude.{ℕ, List, [], ◌∷◌, codes, length, true, false, nat_lt, if◌then◌else◌, Option, Some, None, Result, Ok, Err}
+use Rattle.std.specs.Prelude.{ℕ, List, [], codes, length, Bool, true, false, ◌||◌, nat_lt, if◌then◌else◌, Option, Some, None, Result, Ok, Err}
 use Rattle.std.specs.Str.{bytes_eq, is_utf8}
 use Rattle.serde_json.specs.Data.{Data}
 use Rattle.serde_json.specs.Find.{as_object}
@@ -12,20 +12,22 @@ use Rattle.settings_text.specs.declared.settings.StartAt.TheVariants.{Beginning,
 use Rattle.settings_text.specs.Kinds.{must, may, known, flag, name, whole, texts, some_texts, fields}
 use Rattle.settings_text.specs.Outcome.{◌>>=◌, or_fault}
 use Rattle.settings_text.specs.Operators as operators
-use Rattle.settings_text.specs.SettingsData.{FlagsData, SettingsData}
+use Rattle.settings_text.specs.declared.Flags.{Flags}
+use Rattle.settings_text.specs.declared.settings.Settings.{Settings}
 
 abbrev pub start_named : List ℕ → Option StartAt
 start_named name = if bytes_eq name (codes "beginning") then Some Beginning else (if bytes_eq name (codes "end") then Some End else None)
 
-abbrev pub top_keys : List (List ℕ)
-top_keys =
-    codes "include" ∷ codes "exclude" ∷ codes "start_at" ∷ codes "fingerprint_size" ∷ codes "max_log_size"
-    ∷ codes "preserve_leading_whitespaces" ∷ codes "preserve_trailing_whitespaces"
-    ∷ codes "include_file_name" ∷ codes "include_file_path" ∷ codes "include_file_record_number"
-    ∷ codes "attributes" ∷ codes "resource" ∷ codes "operators" ∷ []
+abbrev pub is_top_key : List ℕ → Bool
+is_top_key name =
+    bytes_eq name (codes "include") || bytes_eq name (codes "exclude") || bytes_eq name (codes "start_at")
+    || bytes_eq name (codes "fingerprint_size") || bytes_eq name (codes "max_log_size")
+    || bytes_eq name (codes "preserve_leading_whitespaces") || bytes_eq name (codes "preserve_trailing_whitespaces")
+    || bytes_eq name (codes "include_file_name") || bytes_eq name (codes "include_file_path") || bytes_eq name (codes "include_file_record_number")
+    || bytes_eq name (codes "attributes") || bytes_eq name (codes "resource") || bytes_eq name (codes "operators")
 
 -- Each line has a key, its kind and its default.
-unfoldable pub flags_of : Data → Result FlagsData SettingsFault
+unfoldable pub flags_of : Data → Result Flags SettingsFault
 flags_of d = do
   preserve_leading_whitespaces ← may [] (codes "preserve_leading_whitespaces") flag false d
   preserve_trailing_whitespaces ← may [] (codes "preserve_trailing_whitespaces") flag false d
@@ -40,10 +42,10 @@ flags_of d = do
     include_file_record_number = include_file_record_number;
   })
 
-unfoldable pub settings_of : Data → Result SettingsData SettingsFault
+unfoldable pub settings_of : Data → Result Settings SettingsFault
 settings_of d = do
   members ← or_fault NotJson (as_object d)
-  _ ← known top_keys [] members
+  _ ← known is_top_key [] members
   include ← must [] (codes "include") some_texts d
   exclude ← may [] (codes "exclude") texts [] d
   start_at ← may [] (codes "start_at") (name start_named) End d
@@ -59,7 +61,11 @@ settings_of d = do
     start_at = start_at;
     fingerprint_size = fingerprint_size;
     max_log_size = max_log_size;
-    flags = flags;
+    preserve_leading_whitespaces = flags.preserve_leading_whitespaces;
+    preserve_trailing_whitespaces = flags.preserve_trailing_whitespaces;
+    include_file_name = flags.include_file_name;
+    include_file_path = flags.include_file_path;
+    include_file_record_number = flags.include_file_record_number;
     attributes = attributes;
     resource = resource;
     operators = operators;
@@ -70,5 +76,5 @@ abbrev pub json_of : List ℕ → Option Data
 json_of bytes = if is_utf8 bytes then json.read bytes else None
 
 -- A text of more than a MiB is not looked into.
-unfoldable pub settings : List ℕ → Result SettingsData SettingsFault
+unfoldable pub settings : List ℕ → Result Settings SettingsFault
 settings bytes = if nat_lt 1048576 (length bytes) then Err (TooLong (length bytes)) else (or_fault NotJson (json_of bytes) >>= settings_of)

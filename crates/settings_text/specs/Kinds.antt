@@ -1,9 +1,7 @@
 -- The kinds of a key, each read from what stands at the key. A place names it in a fault.
-use Rattle.std.specs.Prelude.{ℕ, ◌+◌, List, [], ◌∷◌, ◌++◌, Bool, ◌&&◌, nat_le, nat_lt, if◌then◌else◌, Option, Some, None, Result, Ok, Err}
-use Rattle.std.specs.Str.{bytes_eq}
-use Rattle.std.specs.List.{list_any}
-use Rattle.serde_json.specs.Data.{Data, Items, no_items, item, Members, no_members, member, Num, unsigned, negative, float, depth}
-use Rattle.serde_json.specs.Find.{get, as_bool, as_number, as_str, as_array, as_object}
+use Rattle.std.specs.Prelude.{◌≡◌, ℕ, ◌+◌, ◌≤◌, length, List, [], ◌∷◌, ◌++◌, Bool, true, false, ◌&&◌, nat_lt, ℤ, pos, nat_abs, int_le, if◌then◌else◌, Option, Some, None, Result, Ok, Err}
+use Rattle.serde_json.specs.Data.{Data, Items, no_items, item, Members, no_members, member, Num, depth}
+use Rattle.serde_json.specs.Find.{get, as_bool, as_number, as_str, as_array, as_object, as_i64, is_float}
 use Rattle.entry_model.specs.Datum as datum
 use Rattle.settings_text.specs.declared.fault.SettingsFault.{SettingsFault}
 use Rattle.settings_text.specs.declared.fault.SettingsFault.TheVariants.{Missing, Unknown, WrongKind, OutOfRange, Fraction}
@@ -41,14 +39,32 @@ flag place d = or_fault (WrongKind place) (as_bool d)
 abbrev pub name : {A : Type 0} → (List ℕ → Option A) → Kind A
 name meaning place d = text place d >>= λ name. or_fault (OutOfRange place) (meaning name)
 
-abbrev pub number_within : ℕ → ℕ → List ℕ → Num → Result ℕ SettingsFault
-number_within low high place (unsigned n) = if nat_le low n && nat_le n high then Ok n else Err (OutOfRange place)
-number_within low high place (negative z) = Err (OutOfRange place)
-number_within low high place (float x) = Err (Fraction place)
+abbrev pub integer_within : ℤ → ℤ → List ℕ → Option ℤ → Result ℤ SettingsFault
+integer_within low high place None = Err (OutOfRange place)
+integer_within low high place (Some z) = if int_le low z && int_le z high then Ok z else Err (OutOfRange place)
+
+-- a number with a fraction or an exponent is no whole number, and one past 64 bits with a sign is in no range
+abbrev pub number_within : ℤ → ℤ → List ℕ → Num → Result ℤ SettingsFault
+number_within low high place n = if is_float n then Err (Fraction place) else integer_within low high place (as_i64 n)
 
 -- a whole number from low to high
+abbrev pub integer : ℤ → ℤ → Kind ℤ
+integer low high place d = or_fault (WrongKind place) (as_number d) >>= number_within low high place
+
+-- a whole number from low to high, none of them below zero
 abbrev pub whole : ℕ → ℕ → Kind ℕ
-whole low high place d = or_fault (WrongKind place) (as_number d) >>= number_within low high place
+whole low high place d = integer (pos low) (pos high) place d >>= λ z. Ok (nat_abs z)
+
+abbrev pub one_text : List ℕ → List ℕ → List ℕ → List ℕ → Option Data → Option Data → Result (Bool × List ℕ) SettingsFault
+one_text object at first second None None = Err (Missing (at ++ first))
+one_text object at first second None (Some e) = text (at ++ second) e >>= λ content. Ok (false, content)
+one_text object at first second (Some e) None = text (at ++ first) e >>= λ content. Ok (true, content)
+one_text object at first second (Some e) (Some f) = Err (OutOfRange object)
+
+-- Exactly one of two keys of an object has a text: whether it is that of the first, and the text. Where none is there the
+-- first is missing; both are a fault of the object.
+abbrev pub either_text : List ℕ → List ℕ → List ℕ → List ℕ → Data → Result (Bool × List ℕ) SettingsFault
+either_text object at first second d = one_text object at first second (get first d) (get second d)
 
 -- the items of a list, each read with its number from n on
 unfoldable pub each : {A : Type 0} → (ℕ → Data → Result A SettingsFault) → ℕ → Items → Result (List A) SettingsFault
@@ -97,7 +113,11 @@ fields place d = do
 abbrev pub value : Kind datum.Datum
 value place d = if has_fraction d then Err (Fraction place) else (if nat_lt 64 (depth d) then Err (OutOfRange place) else Ok (value_data d))
 
--- Each key of the members is one of these, or the least that is not is refused. Members are in the order of their keys.
-unfoldable pub known : List (List ℕ) → List ℕ → Members → Result (Unit {0}) SettingsFault
-known keys at no_members = Ok tt
-known keys at (member key d ds) = if list_any (bytes_eq key) keys then known keys at ds else Err (Unknown (at ++ key))
+-- Each key of the members passes the test, or the least that does not is refused. Members are in the order of their keys.
+unfoldable pub known : (List ℕ → Bool) → List ℕ → Members → Result (Unit {0}) SettingsFault
+known is_key at no_members = Ok tt
+known is_key at (member key d ds) = if is_key key then known is_key at ds else Err (Unknown (at ++ key))
+
+-- a list that is written has a member
+abbrev pub IsSomeIfWritten : Option (List (List ℕ)) → Type 0
+IsSomeIfWritten written = (ids : List (List ℕ)) → written ≡ Some ids → 1 ≤ length ids

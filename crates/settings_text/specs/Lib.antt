@@ -1,11 +1,10 @@
-pub mod DraftView
-pub mod FlagsView
-pub mod Grammar
-pub mod Ids
-pub mod Kinds
-pub mod Operators
 pub mod Outcome
 pub mod Place
-pub mod SettingsData
 pub mod ValueData
+pub mod Content
+pub mod Kinds
+pub mod Types
+pub mod Ids
+pub mod Operators
+pub mod Grammar
 pub mod Limits

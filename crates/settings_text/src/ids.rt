@@ -14,7 +14,7 @@ fn is_taken(id: &str, taken: &[Text]) -> bool
 fn with_number(alloc: Global, name: &str, number: usize) -> Result<Text, AllocError>
     ensures { IfOk result (λ id. id ≡ name.now ++ decimal number) }
 {
-    Ok(Text::new(format!(in alloc; "{name}{number}")?))
+    Text::new(format!(in alloc; "{name}{number}")?)
 }
 
 /// The name, and where that is taken, the name with the least number from 1 on that is not.

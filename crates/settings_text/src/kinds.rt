@@ -1,17 +1,15 @@
 // The kinds of a key. `at` and `key` name the place: what stands before the key, and the key.
-ghost use Rattle.std.specs.Prelude.{◌≡◌, ◌++◌, [], map, option_map, None, Ok};
-ghost use Rattle.std.specs.Str.{bytes_eq};
-ghost use Rattle.std.specs.List.{list_any};
-ghost use Rattle.entry_model.specs.Datum.{no_members, datum};
-ghost use Rattle.serde_json.specs.Find.{get};
+ghost use Rattle.std.specs.Prelude.{◌≡◌, ◌++◌, ◌≤ℤ◌, ℕ, List, Bool, [], None, IfOk};
+ghost use Rattle.entry_model.specs.Datum.{no_members};
 ghost use Rattle.serde_json.specs.View.{view, items_view, members_view};
 ghost use Rattle.settings_text.specs.Kinds as kinds;
 ghost use Rattle.settings_text.specs.Outcome.{Gives};
 ghost use Rattle.settings_text.specs.Place.{item_place, member_place};
-ghost use Rattle.settings_text.specs.SettingsData.{fields_data};
 
 use crate::fault::SettingsFault;
+use crate::literal::Literal;
 use crate::place::{item_place, member_place, place};
+use crate::texts::{NamedTexts, Texts};
 use crate::values::{fields_of, has_fraction, nests_past, value_of};
 use entry_model::{Fields, Text};
 use serde_json::{Map, Value};
@@ -20,25 +18,27 @@ use std::alloc::Global;
 /// How deep lists and objects may nest in a value.
 const MOST_NESTED: usize = 64;
 
-fn is_among(name: &str, keys: &[&str]) -> bool
-    ensures { result ≡ list_any (λ key. bytes_eq name.now key.now) keys.now }
-{
-    keys.iter().any(|key| name == *key)
+/// Which keys an object may have.
+pub trait Keys {
+    ghost test: { Self → List ℕ → Bool };
+
+    fn has(&self, name: &str) -> bool
+        ensures { result ≡ test self.now name.now };
 }
 
-/// Refuses the least key of the members that is not one of these.
-#[tactic(auto, using(crate::proofs::Lists::among), unfolding(crate::specs::Kinds::known))]
-pub fn check_known(
+/// Refuses the least key of the members that is none of these.
+#[tactic(auto, unfolding(crate::specs::Kinds::known))]
+pub fn check_known<K: Keys>(
     alloc: Global,
     members: &Map<String, Value>,
     at: &str,
-    keys: &[&str],
+    keys: &K,
 ) -> Result<(), SettingsFault>
     ensures { Gives (λ done. done) result
-        (kinds.known (map (λ key. key.now) keys.now) at.now (members_view members.now.entries)) }
+        (kinds.known (K.test keys.now) at.now (members_view members.now.entries)) }
 {
     for (name, _value) in members.iter() {
-        if !is_among(name.as_str(), keys) {
+        if !keys.has(name.as_str()) {
             return Err(SettingsFault::Unknown {
                 key: place(alloc, at, name.as_str())?,
             });
@@ -118,6 +118,36 @@ pub fn flag(
 }
 
 /// A whole number from `low` to `high`.
+pub fn integer(
+    alloc: Global,
+    value: &Value,
+    at: &str,
+    key: &str,
+    low: i64,
+    high: i64,
+) -> Result<i64, SettingsFault>
+    ensures read { Gives (λ number. number) result (kinds.integer low high (at.now ++ key.now) (view value.now)) }
+    ensures within { IfOk result (λ number. (low ≤ℤ number) × (number ≤ℤ high)) }
+{
+    let Some(number) = value.as_number() else {
+        return Err(SettingsFault::WrongKind {
+            key: place(alloc, at, key)?,
+        });
+    };
+    if number.is_f64() {
+        return Err(SettingsFault::Fraction {
+            key: place(alloc, at, key)?,
+        });
+    }
+    match number.as_i64() {
+        Some(number) if low <= number && number <= high => Ok(number),
+        _ => Err(SettingsFault::OutOfRange {
+            key: place(alloc, at, key)?,
+        }),
+    }
+}
+
+/// A whole number from `low` to `high`, which may be missing.
 pub fn whole(
     alloc: Global,
     object: &Value,
@@ -133,20 +163,37 @@ pub fn whole(
     let Some(value) = object.get(key) else {
         return Ok(default);
     };
-    let Some(number) = value.as_number() else {
-        return Err(SettingsFault::WrongKind {
-            key: place(alloc, at, key)?,
-        });
-    };
-    if number.is_f64() {
-        return Err(SettingsFault::Fraction {
-            key: place(alloc, at, key)?,
-        });
-    }
-    match number.as_u64() {
-        Some(number) if u64::from(low) <= number && number <= u64::from(high) => Ok(number as u32),
-        _ => Err(SettingsFault::OutOfRange {
-            key: place(alloc, at, key)?,
+    let number = integer(alloc, value, at, key, i64::from(low), i64::from(high))?;
+    Ok(number.unsigned_abs() as u32)
+}
+
+/// The text at exactly one of two keys of an object, and whether it is that of the first. `object_key` is the place of the
+/// object itself, which both keys together are a fault of; where none is there, the first is missing.
+pub fn either_text(
+    alloc: Global,
+    object: &Value,
+    object_key: &str,
+    at: &str,
+    first: &str,
+    second: &str,
+) -> Result<(bool, Text), SettingsFault>
+    ensures { Gives (λ text. text) result
+        (kinds.either_text object_key.now at.now first.now second.now (view object.now)) }
+{
+    match (object.get(first), object.get(second)) {
+        (None, None) => Err(SettingsFault::Missing {
+            key: place(alloc, at, first)?,
+        }),
+        (Some(value), None) => {
+            let content = name(alloc, value, at, first)?;
+            Ok((true, Text::from_str(alloc, content)?))
+        }
+        (None, Some(value)) => {
+            let content = name(alloc, value, at, second)?;
+            Ok((false, Text::from_str(alloc, content)?))
+        }
+        (Some(_), Some(_)) => Err(SettingsFault::OutOfRange {
+            key: Text::from_str(alloc, object_key)?,
         }),
     }
 }
@@ -173,8 +220,8 @@ fn item_texts(
     values: &Vec<Value>,
     at: &str,
     key: &str,
-) -> Result<Vec<Text>, SettingsFault>
-    ensures { Gives (λ texts. texts.items) result
+) -> Result<Texts, SettingsFault>
+    ensures { Gives (λ texts. texts) result
         (kinds.item_texts (at.now ++ key.now) (items_view values.now.items)) }
 {
     let mut texts = Vec::new(alloc);
@@ -182,15 +229,15 @@ fn item_texts(
         let text = item_text(alloc, value, at, key, index)?;
         texts.push(text)?;
     }
-    Ok(texts)
+    Ok(Texts::new(texts))
 }
 
 /// A list of texts, none where the key is missing.
-pub fn texts(alloc: Global, object: &Value, at: &str, key: &str) -> Result<Vec<Text>, SettingsFault>
-    ensures { Gives (λ texts. texts.items) result (kinds.may at.now key.now kinds.texts [] (view object.now)) }
+pub fn texts(alloc: Global, object: &Value, at: &str, key: &str) -> Result<Texts, SettingsFault>
+    ensures { Gives (λ texts. texts) result (kinds.may at.now key.now kinds.texts [] (view object.now)) }
 {
     let Some(value) = object.get(key) else {
-        return Ok(Vec::new(alloc));
+        return Ok(Texts::new(Vec::new(alloc)));
     };
     match value.as_array() {
         Some(values) => item_texts(alloc, values, at, key),
@@ -201,13 +248,8 @@ pub fn texts(alloc: Global, object: &Value, at: &str, key: &str) -> Result<Vec<T
 }
 
 /// A list of at least one text.
-fn listed_texts(
-    alloc: Global,
-    value: &Value,
-    at: &str,
-    key: &str,
-) -> Result<Vec<Text>, SettingsFault>
-    ensures { Gives (λ texts. texts.items) result (kinds.some_texts (at.now ++ key.now) (view value.now)) }
+fn listed_texts(alloc: Global, value: &Value, at: &str, key: &str) -> Result<Texts, SettingsFault>
+    ensures { Gives (λ texts. texts) result (kinds.some_texts (at.now ++ key.now) (view value.now)) }
 {
     match value.as_array() {
         Some(values) if values.as_slice().is_empty() => Err(SettingsFault::OutOfRange {
@@ -226,8 +268,8 @@ pub fn some_texts(
     object: &Value,
     at: &str,
     key: &str,
-) -> Result<Vec<Text>, SettingsFault>
-    ensures { Gives (λ texts. texts.items) result (kinds.must at.now key.now kinds.some_texts (view object.now)) }
+) -> Result<Texts, SettingsFault>
+    ensures { Gives (λ texts. texts) result (kinds.must at.now key.now kinds.some_texts (view object.now)) }
 {
     match object.get(key) {
         Some(value) => listed_texts(alloc, value, at, key),
@@ -238,16 +280,11 @@ pub fn some_texts(
 }
 
 /// A text, which stands for a list of one, or a list of at least one text.
-fn one_or_listed(
-    alloc: Global,
-    value: &Value,
-    at: &str,
-    key: &str,
-) -> Result<Vec<Text>, SettingsFault>
-    ensures { Gives (λ texts. texts.items) result (kinds.text_or_texts (at.now ++ key.now) (view value.now)) }
+fn one_or_listed(alloc: Global, value: &Value, at: &str, key: &str) -> Result<Texts, SettingsFault>
+    ensures { Gives (λ texts. texts) result (kinds.text_or_texts (at.now ++ key.now) (view value.now)) }
 {
     match value.as_str() {
-        Some(content) => Ok(vec![in alloc; Text::from_str(alloc, content)?]?),
+        Some(content) => Ok(Texts::new(vec![in alloc; Text::from_str(alloc, content)?]?)),
         None => listed_texts(alloc, value, at, key),
     }
 }
@@ -258,8 +295,8 @@ pub fn text_or_texts(
     object: &Value,
     at: &str,
     key: &str,
-) -> Result<Vec<Text>, SettingsFault>
-    ensures { Gives (λ texts. texts.items) result (kinds.must at.now key.now kinds.text_or_texts (view object.now)) }
+) -> Result<Texts, SettingsFault>
+    ensures { Gives (λ texts. texts) result (kinds.must at.now key.now kinds.text_or_texts (view object.now)) }
 {
     match object.get(key) {
         Some(value) => one_or_listed(alloc, value, at, key),
@@ -275,8 +312,8 @@ pub fn optional_texts(
     object: &Value,
     at: &str,
     key: &str,
-) -> Result<Option<Vec<Text>>, SettingsFault>
-    ensures { Gives (option_map (λ texts. texts.items)) result
+) -> Result<Option<Texts>, SettingsFault>
+    ensures { Gives (λ texts. texts) result
         (kinds.may at.now key.now (kinds.given kinds.text_or_texts) None (view object.now)) }
 {
     match object.get(key) {
@@ -306,11 +343,16 @@ fn check_texts(
 }
 
 /// An object of texts, without members where the key is missing.
-pub fn fields(alloc: Global, object: &Value, at: &str, key: &str) -> Result<Fields, SettingsFault>
-    ensures { Gives fields_data result (kinds.may at.now key.now kinds.fields no_members (view object.now)) }
+pub fn fields(
+    alloc: Global,
+    object: &Value,
+    at: &str,
+    key: &str,
+) -> Result<NamedTexts, SettingsFault>
+    ensures { Gives (λ texts. texts) result (kinds.may at.now key.now kinds.fields no_members (view object.now)) }
 {
     let Some(value) = object.get(key) else {
-        return Ok(Fields::new(alloc));
+        return Ok(NamedTexts::new(Fields::new(alloc)));
     };
     let Some(members) = value.as_object() else {
         return Err(SettingsFault::WrongKind {
@@ -318,17 +360,12 @@ pub fn fields(alloc: Global, object: &Value, at: &str, key: &str) -> Result<Fiel
         });
     };
     check_texts(alloc, members, at, key)?;
-    Ok(fields_of(alloc, members)?)
+    Ok(NamedTexts::new(fields_of(alloc, members)?))
 }
 
 /// Any value, which must be there.
-pub fn value(
-    alloc: Global,
-    object: &Value,
-    at: &str,
-    key: &str,
-) -> Result<entry_model::Value, SettingsFault>
-    ensures { Gives datum result (kinds.must at.now key.now kinds.value (view object.now)) }
+pub fn value(alloc: Global, object: &Value, at: &str, key: &str) -> Result<Literal, SettingsFault>
+    ensures { Gives (λ value. value) result (kinds.must at.now key.now kinds.value (view object.now)) }
 {
     let Some(value) = object.get(key) else {
         return Err(SettingsFault::Missing {
@@ -345,5 +382,5 @@ pub fn value(
             key: place(alloc, at, key)?,
         });
     }
-    Ok(value_of(alloc, value)?)
+    Ok(Literal::new(value_of(alloc, value)?))
 }

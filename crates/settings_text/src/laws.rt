@@ -3,11 +3,11 @@ ghost use Rattle.std.specs.Prelude.{◌≡◌, ℕ, ◌+◌, ◌^◌, ◌<◌, �
 ghost use Rattle.settings_text.specs.Grammar as grammar;
 ghost use Rattle.settings_text.specs.Ids.{is_taken, default_id};
 ghost use Rattle.settings_text.specs.Limits.{KeepsLimits};
-ghost use Rattle.settings_text.specs.SettingsData.{SettingsData};
+ghost use Rattle.settings_text.specs.declared.settings.Settings.{Settings};
 
 /// Whatever settings say is within the limits.
 pub fn settings_keep_limits()
-    ensures { (bytes : List ℕ) (said : SettingsData) → grammar.settings bytes ≡ Ok said → KeepsLimits said }
+    ensures { (bytes : List ℕ) (said : Settings) → grammar.settings bytes ≡ Ok said → KeepsLimits said }
 {}
 
 /// The id of an operator that has none written isn't taken: it is the type's name, or where that is taken, the name with the

@@ -3,8 +3,8 @@
 //! **The contract for the layer above.** `grammar.settings` of `specs/Grammar.antt` gives, for a list of bytes,
 //! what the settings say, or the one reason for which they are refused, with the key that it is about. [`read`]
 //! answers `Ok` exactly where the definition gives settings, and with those; it answers each refusal exactly where
-//! the definition does. Want of memory alone is free. `settings_data` of `specs/SettingsData.antt` says what a
-//! [`Settings`] says, whatever its place in memory.
+//! the definition does. Want of memory alone is free. The declared types are themselves what the definition gives: their
+//! lists, maps and values are small types that contracts see as their content, whatever their place in memory.
 //!
 //! **The order of refusals.** A text that is too long is refused before it is looked into, then one that is not
 //! an object. In each object the least unknown key in byte order comes first, then its keys in the order of the
@@ -13,14 +13,12 @@
 //! `type` comes before its other keys; those that types share come next, as `id`, `output`, `if`, `on_error`, and
 //! then the type's own. Of a key that stands twice the last counts. `1.0`, `1e3` and `-0` are no whole numbers.
 //!
-//! **A key more** is one name in `top_keys` and one line in `settings_of`, in the definition and in the code alike;
-//! a type of operators is one line in each function over [`OpKind`]'s names.
+//! **A key more** is one name in `is_top_key` and one line in `settings_of`, in the definition and in the code alike;
+//! a type of operators is one file in `types`, and one line in each function over `OpType`.
 #![tactic(auto)]
 
-ghost use Rattle.settings_text.specs.FlagsView.{flags_data};
 ghost use Rattle.settings_text.specs.Grammar as grammar;
 ghost use Rattle.settings_text.specs.Outcome.{Gives, or_fault};
-ghost use Rattle.settings_text.specs.SettingsData.{settings_data};
 ghost use Rattle.std.specs.Prelude.{◌≡◌, codes, Some, []};
 ghost use Rattle.serde_json.specs.View.{view};
 ghost use Rattle.settings_text.specs.Kinds as kinds;
@@ -29,23 +27,29 @@ mod fault;
 mod ids;
 mod kinds;
 pub mod laws;
+mod lists;
+mod literal;
 #[cfg(test)]
 mod operator_tests;
 mod operators;
 mod place;
-mod routes;
 mod settings;
 #[cfg(test)]
 mod tests;
+mod texts;
+mod types;
 mod values;
 
 pub use fault::SettingsFault;
-use kinds::{check_known, fields, flag, name, some_texts, texts, whole};
+use kinds::{Keys, check_known, fields, flag, name, some_texts, texts, whole};
+pub use lists::{Operators, Routes};
+pub use literal::Literal;
 use operators::operators;
 use place::place;
 use serde_json::Value;
 pub use settings::{OnError, OpKind, OpSpec, RouteSpec, Settings, StartAt};
 use std::alloc::Global;
+pub use texts::{NamedTexts, Texts};
 
 /// The greatest length of a text, in bytes.
 pub const MAX_LENGTH: usize = 1_048_576;
@@ -69,6 +73,31 @@ fn start_at(alloc: Global, object: &Value) -> Result<StartAt, SettingsFault>
     }
 }
 
+/// The keys of the whole.
+struct TopKeys;
+
+impl Keys for TopKeys {
+    ghost use Rattle.settings_text.specs.Grammar.{is_top_key};
+
+    ghost test = { λ _. is_top_key };
+
+    fn has(&self, name: &str) -> bool {
+        name == "include"
+            || name == "exclude"
+            || name == "start_at"
+            || name == "fingerprint_size"
+            || name == "max_log_size"
+            || name == "preserve_leading_whitespaces"
+            || name == "preserve_trailing_whitespaces"
+            || name == "include_file_name"
+            || name == "include_file_path"
+            || name == "include_file_record_number"
+            || name == "attributes"
+            || name == "resource"
+            || name == "operators"
+    }
+}
+
 #[derive(Clone, Copy)]
 struct Flags {
     preserve_leading_whitespaces: bool,
@@ -79,7 +108,7 @@ struct Flags {
 }
 
 fn flags_of(alloc: Global, object: &Value) -> Result<Flags, SettingsFault>
-    ensures { Gives flags_data result (grammar.flags_of (view object.now)) }
+    ensures { Gives (λ flags. flags) result (grammar.flags_of (view object.now)) }
 {
     Ok(Flags {
         preserve_leading_whitespaces: flag(
@@ -104,31 +133,12 @@ fn flags_of(alloc: Global, object: &Value) -> Result<Flags, SettingsFault>
 
 #[tactic(auto, unfolding(crate::specs::Grammar::settings_of))]
 fn settings_of(alloc: Global, object: &Value) -> Result<Settings, SettingsFault>
-    ensures { Gives settings_data result (grammar.settings_of (view object.now)) }
+    ensures { Gives (λ settings. settings) result (grammar.settings_of (view object.now)) }
 {
     let Some(members) = object.as_object() else {
         return Err(SettingsFault::NotJson);
     };
-    check_known(
-        alloc,
-        members,
-        "",
-        &[
-            "include",
-            "exclude",
-            "start_at",
-            "fingerprint_size",
-            "max_log_size",
-            "preserve_leading_whitespaces",
-            "preserve_trailing_whitespaces",
-            "include_file_name",
-            "include_file_path",
-            "include_file_record_number",
-            "attributes",
-            "resource",
-            "operators",
-        ],
-    )?;
+    check_known(alloc, members, "", &TopKeys)?;
     let include = some_texts(alloc, object, "", "include")?;
     let exclude = texts(alloc, object, "", "exclude")?;
     let start_at = start_at(alloc, object)?;
@@ -172,7 +182,7 @@ fn json_of(alloc: Global, bytes: &[u8]) -> Result<Value, SettingsFault>
 /// The settings of a text.
 #[tactic(auto, unfolding(crate::specs::Grammar::settings))]
 pub fn read(alloc: Global, bytes: &[u8]) -> Result<Settings, SettingsFault>
-    ensures { Gives settings_data result (grammar.settings bytes.now) }
+    ensures { Gives (λ settings. settings) result (grammar.settings bytes.now) }
 {
     if bytes.len() > MAX_LENGTH {
         return Err(SettingsFault::TooLong {

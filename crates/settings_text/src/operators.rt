@@ -1,18 +1,18 @@
 // The list of operators.
-ghost use Rattle.std.specs.Prelude.{◌≡◌, ◌≤◌, ◌++◌, [], map, length, codes, None, IfOk, string_bytes};
+ghost use Rattle.std.specs.Prelude.{◌≡◌, ◌++◌, [], codes, IfOk, string_bytes};
 ghost use Rattle.serde_json.specs.View.{view, items_view};
 ghost use Rattle.settings_text.specs.Kinds as kinds;
 ghost use Rattle.settings_text.specs.Operators as operators;
 ghost use Rattle.settings_text.specs.Outcome.{Gives};
-ghost use Rattle.settings_text.specs.SettingsData.{operator_data, kind_data};
-ghost use Rattle.settings_text.specs.DraftView.{draft_data};
 
 use crate::fault::SettingsFault;
 use crate::ids::default_id;
-use crate::kinds::{check_known, name, optional_text, optional_texts, some_texts, text, value};
+use crate::kinds::{Keys, check_known, name, optional_text, optional_texts, text};
+use crate::lists::Operators;
 use crate::place::{item_place, place};
-use crate::routes::router;
 use crate::settings::{OnError, OpKind, OpSpec};
+use crate::texts::Texts;
+use crate::types::{adding, copying, filtering, flattening, moving, removing, retaining, routing};
 use entry_model::Text;
 use serde_json::Value;
 use std::alloc::{AllocError, Global};
@@ -60,47 +60,66 @@ impl OpType {
         }
     }
 
-    fn name(self) -> &'static str
-        ensures { result.now ≡ operators.name_of self }
+    fn has_own_key(self, name: &str) -> bool
+        ensures { result ≡ operators.is_own_key self name.now }
     {
         match self {
-            OpType::Noop => "noop",
-            OpType::Move => "move",
-            OpType::Copy => "copy",
-            OpType::Add => "add",
-            OpType::Remove => "remove",
-            OpType::Flatten => "flatten",
-            OpType::Retain => "retain",
-            OpType::Filter => "filter",
-            OpType::Router => "router",
+            OpType::Noop => false,
+            OpType::Move => moving::is_key(name),
+            OpType::Copy => copying::is_key(name),
+            OpType::Add => adding::is_key(name),
+            OpType::Remove => removing::is_key(name),
+            OpType::Flatten => flattening::is_key(name),
+            OpType::Retain => retaining::is_key(name),
+            OpType::Filter => filtering::is_key(name),
+            OpType::Router => routing::is_key(name),
         }
     }
 
-    fn keys(self) -> &'static [&'static str]
-        ensures { map (λ key. key.now) result.now ≡ operators.keys_of self }
+    /// What the type's own keys say.
+    fn read(self, alloc: Global, object: &Value, at: &str) -> Result<OpKind, SettingsFault>
+        ensures { Gives (λ kind. kind) result (operators.kind_of self at.now (view object.now)) }
     {
         match self {
-            OpType::Noop => &["type", "id", "output", "if", "on_error"],
-            OpType::Move | OpType::Copy => &[
-                "type", "id", "output", "if", "on_error", "from", "to",
-            ],
-            OpType::Add => &["type", "id", "output", "if", "on_error", "field", "value"],
-            OpType::Remove | OpType::Flatten => {
-                &["type", "id", "output", "if", "on_error", "field"]
-            }
-            OpType::Retain => &["type", "id", "output", "if", "on_error", "fields"],
-            OpType::Filter => &["type", "id", "output", "if", "on_error", "expr"],
-            OpType::Router => &["type", "id", "on_error", "routes", "default"],
+            OpType::Noop => Ok(OpKind::Noop),
+            OpType::Move => moving::read(alloc, object, at),
+            OpType::Copy => copying::read(alloc, object, at),
+            OpType::Add => adding::read(alloc, object, at),
+            OpType::Remove => removing::read(alloc, object, at),
+            OpType::Flatten => flattening::read(alloc, object, at),
+            OpType::Retain => retaining::read(alloc, object, at),
+            OpType::Filter => filtering::read(alloc, object, at),
+            OpType::Router => routing::read(alloc, object, at),
         }
+    }
+
+    fn has_shared_key(self, name: &str) -> bool
+        ensures { result ≡ operators.is_shared_key self name.now }
+    {
+        let common = name == "type" || name == "id" || name == "on_error";
+        match self {
+            OpType::Router => common,
+            _ => common || name == "output" || name == "if",
+        }
+    }
+}
+
+impl Keys for OpType {
+    ghost use Rattle.settings_text.specs.Operators.{is_key_of};
+
+    ghost test = { is_key_of };
+
+    fn has(&self, name: &str) -> bool {
+        self.has_shared_key(name) || self.has_own_key(name)
     }
 }
 
 /// An operator before its id is settled.
 #[derive(Drop)]
 struct Draft {
-    op_type: OpType,
+    type_name: Text,
     id: Option<Text>,
-    output: Option<Vec<Text>>,
+    output: Option<Texts>,
     condition: Option<Text>,
     on_error: OnError,
     kind: OpKind,
@@ -112,24 +131,6 @@ fn front(alloc: Global, index: usize) -> Result<String, AllocError>
 {
     let place = item_place(alloc, "", "operators", index)?;
     format!(in alloc; "{place}.")
-}
-
-fn op_type(alloc: Global, object: &Value, at: &str) -> Result<OpType, SettingsFault>
-    ensures { Gives (λ op_type. op_type) result
-        (kinds.must at.now (codes "type") (kinds.name operators.type_named) (view object.now)) }
-{
-    let Some(value) = object.get("type") else {
-        return Err(SettingsFault::Missing {
-            key: place(alloc, at, "type")?,
-        });
-    };
-    let name = name(alloc, value, at, "type")?;
-    match OpType::named(name) {
-        Some(op_type) => Ok(op_type),
-        None => Err(SettingsFault::OutOfRange {
-            key: place(alloc, at, "type")?,
-        }),
-    }
 }
 
 fn on_error(alloc: Global, object: &Value, at: &str) -> Result<OnError, SettingsFault>
@@ -155,42 +156,9 @@ fn on_error(alloc: Global, object: &Value, at: &str) -> Result<OnError, Settings
     }
 }
 
-fn kind(alloc: Global, object: &Value, at: &str, op_type: OpType) -> Result<OpKind, SettingsFault>
-    ensures { Gives kind_data result (operators.kind_of op_type at.now (view object.now)) }
-{
-    match op_type {
-        OpType::Noop => Ok(OpKind::Noop),
-        OpType::Move => Ok(OpKind::Move {
-            from: text(alloc, object, at, "from")?,
-            to: text(alloc, object, at, "to")?,
-        }),
-        OpType::Copy => Ok(OpKind::Copy {
-            from: text(alloc, object, at, "from")?,
-            to: text(alloc, object, at, "to")?,
-        }),
-        OpType::Add => Ok(OpKind::Add {
-            field: text(alloc, object, at, "field")?,
-            value: value(alloc, object, at, "value")?,
-        }),
-        OpType::Remove => Ok(OpKind::Remove {
-            field: text(alloc, object, at, "field")?,
-        }),
-        OpType::Flatten => Ok(OpKind::Flatten {
-            field: text(alloc, object, at, "field")?,
-        }),
-        OpType::Retain => Ok(OpKind::Retain {
-            fields: some_texts(alloc, object, at, "fields")?,
-        }),
-        OpType::Filter => Ok(OpKind::Filter {
-            expr: text(alloc, object, at, "expr")?,
-        }),
-        OpType::Router => router(alloc, object, at),
-    }
-}
-
 #[tactic(auto, unfolding(crate::specs::Operators::draft))]
 fn draft_of(alloc: Global, object: &Value, index: usize) -> Result<Draft, SettingsFault>
-    ensures { Gives draft_data result (operators.draft index (view object.now)) }
+    ensures { Gives (λ draft. draft) result (operators.draft index (view object.now)) }
 {
     let Some(members) = object.as_object() else {
         return Err(SettingsFault::WrongKind {
@@ -199,15 +167,20 @@ fn draft_of(alloc: Global, object: &Value, index: usize) -> Result<Draft, Settin
     };
     let front = front(alloc, index)?;
     let at = front.as_str();
-    let op_type = op_type(alloc, object, at)?;
-    check_known(alloc, members, at, op_type.keys())?;
+    let type_name = text(alloc, object, at, "type")?;
+    let Some(op_type) = OpType::named(type_name.as_str()) else {
+        return Err(SettingsFault::OutOfRange {
+            key: place(alloc, at, "type")?,
+        });
+    };
+    check_known(alloc, members, at, &op_type)?;
     let id = optional_text(alloc, object, at, "id")?;
     let output = optional_texts(alloc, object, at, "output")?;
     let condition = optional_text(alloc, object, at, "if")?;
     let on_error = on_error(alloc, object, at)?;
-    let kind = kind(alloc, object, at, op_type)?;
+    let kind = op_type.read(alloc, object, at)?;
     Ok(Draft {
-        op_type,
+        type_name,
         id,
         output,
         condition,
@@ -217,7 +190,7 @@ fn draft_of(alloc: Global, object: &Value, index: usize) -> Result<Draft, Settin
 }
 
 fn drafts_of(alloc: Global, values: &Vec<Value>) -> Result<Vec<Draft>, SettingsFault>
-    ensures { Gives (λ drafts. map draft_data drafts.items) result
+    ensures { Gives (λ drafts. drafts.items) result
         (kinds.each operators.draft 0 (items_view values.now.items)) }
 {
     let mut drafts = Vec::new(alloc);
@@ -229,23 +202,22 @@ fn drafts_of(alloc: Global, values: &Vec<Value>) -> Result<Vec<Draft>, SettingsF
 }
 
 fn written_ids(alloc: Global, drafts: &[Draft]) -> Result<Vec<Text>, AllocError>
-    ensures { IfOk result (λ ids. ids.items ≡ operators.written_ids (map draft_data drafts.now)) }
+    ensures { IfOk result (λ ids. ids.items ≡ operators.written_ids drafts.now) }
 {
     let mut ids = Vec::new(alloc);
     for draft in drafts {
         if let Some(id) = &draft.id {
-            ids.push(Text::from_str(alloc, id.as_str())?)?;
+            ids.push(id.share()?)?;
         }
     }
     Ok(ids)
 }
 
 fn settle(alloc: Global, taken: &[Text], draft: Draft) -> Result<OpSpec, AllocError>
-    ensures { IfOk result (λ operator. operator_data operator
-        ≡ operators.settled taken.now (draft_data draft)) }
+    ensures { IfOk result (λ operator. operator ≡ operators.settled taken.now draft) }
 {
     let Draft {
-        op_type,
+        type_name,
         id,
         output,
         condition,
@@ -254,7 +226,7 @@ fn settle(alloc: Global, taken: &[Text], draft: Draft) -> Result<OpSpec, AllocEr
     } = draft;
     let id = match id {
         Some(id) => id,
-        None => default_id(alloc, op_type.name(), taken)?,
+        None => default_id(alloc, type_name.as_str(), taken)?,
     };
     Ok(OpSpec {
         id,
@@ -270,25 +242,24 @@ fn settle_all(
     mut taken: Vec<Text>,
     mut drafts: Vec<Draft>,
 ) -> Result<Vec<OpSpec>, AllocError>
-    ensures { IfOk result (λ settled. map operator_data settled.items
-        ≡ operators.with_ids taken.items (map draft_data drafts.items)) }
+    ensures { IfOk result (λ settled. settled.items ≡ operators.with_ids taken.items drafts.items) }
 {
     let mut settled = Vec::new(alloc);
     'settling: while !drafts.as_slice().is_empty() {
         let operator = settle(alloc, &taken, drafts.remove(0))?;
-        taken.push(Text::from_str(alloc, operator.id.as_str())?)?;
+        taken.push(operator.id.share()?)?;
         settled.push(operator)?;
     }
     Ok(settled)
 }
 
 /// The operators, none where the key is missing.
-pub fn operators(alloc: Global, object: &Value) -> Result<Vec<OpSpec>, SettingsFault>
-    ensures { Gives (λ all. map operator_data all.items) result
+pub fn operators(alloc: Global, object: &Value) -> Result<Operators, SettingsFault>
+    ensures { Gives (λ all. all) result
         (kinds.may [] (codes "operators") operators.operators [] (view object.now)) }
 {
     let Some(value) = object.get("operators") else {
-        return Ok(Vec::new(alloc));
+        return Ok(Operators::new(Vec::new(alloc)));
     };
     let Some(values) = value.as_array() else {
         return Err(SettingsFault::WrongKind {
@@ -302,5 +273,5 @@ pub fn operators(alloc: Global, object: &Value) -> Result<Vec<OpSpec>, SettingsF
     }
     let drafts = drafts_of(alloc, values)?;
     let taken = written_ids(alloc, &drafts)?;
-    Ok(settle_all(alloc, taken, drafts)?)
+    Ok(Operators::new(settle_all(alloc, taken, drafts)?))
 }

@@ -9,19 +9,19 @@ use std::alloc::{AllocError, Global};
 pub fn place(alloc: Global, at: &str, key: &str) -> Result<Text, AllocError>
     ensures { IfOk result (λ text. text ≡ at.now ++ key.now) }
 {
-    Ok(Text::new(format!(in alloc; "{at}{key}")?))
+    Ok(Text::new(format!(in alloc; "{at}{key}")?)?)
 }
 
 /// A member of the list at a key.
 pub fn item_place(alloc: Global, at: &str, key: &str, index: usize) -> Result<Text, AllocError>
     ensures { IfOk result (λ text. text ≡ item_place (at.now ++ key.now) index) }
 {
-    Ok(Text::new(format!(in alloc; "{at}{key}[{index}]")?))
+    Ok(Text::new(format!(in alloc; "{at}{key}[{index}]")?)?)
 }
 
 /// A member of the object at a key.
 pub fn member_place(alloc: Global, at: &str, key: &str, name: &str) -> Result<Text, AllocError>
     ensures { IfOk result (λ text. text ≡ member_place (at.now ++ key.now) name.now) }
 {
-    Ok(Text::new(format!(in alloc; "{at}{key}.{name}")?))
+    Ok(Text::new(format!(in alloc; "{at}{key}.{name}")?)?)
 }

@@ -1,5 +1,8 @@
 // What settings say.
-use entry_model::{Fields, Text, Value};
+use crate::lists::{Operators, Routes};
+use crate::literal::Literal;
+use crate::texts::{NamedTexts, Texts};
+use entry_model::Text;
 
 /// Where reading of a file begins that is found by the first poll.
 #[derive(Clone, Copy, Debug, PartialEq, Eq)]
@@ -21,8 +24,8 @@ pub enum OnError {
 #[derive(Drop)]
 pub struct Settings {
     /// At least one.
-    pub include: Vec<Text>,
-    pub exclude: Vec<Text>,
+    pub include: Texts,
+    pub exclude: Texts,
     pub start_at: StartAt,
     /// In bytes, 16 to 4,096.
     pub fingerprint_size: u32,
@@ -33,12 +36,10 @@ pub struct Settings {
     pub include_file_name: bool,
     pub include_file_path: bool,
     pub include_file_record_number: bool,
-    /// Texts.
-    pub attributes: Fields,
-    /// Texts.
-    pub resource: Fields,
+    pub attributes: NamedTexts,
+    pub resource: NamedTexts,
     /// At most 64.
-    pub operators: Vec<OpSpec>,
+    pub operators: Operators,
 }
 
 /// An operator. Field paths and expressions in it are as they were written.
@@ -50,7 +51,7 @@ pub struct OpSpec {
     pub on_error: OnError,
     /// The ids of the operators that take what comes out, at least one. None where the key isn't written: then the
     /// next operator takes it, or it goes out behind the last. A router has none.
-    pub output: Option<Vec<Text>>,
+    pub output: Option<Texts>,
     pub kind: OpKind,
 }
 
@@ -68,7 +69,7 @@ pub enum OpKind {
     },
     Add {
         field: Text,
-        value: Value,
+        value: Literal,
     },
     Remove {
         field: Text,
@@ -78,16 +79,16 @@ pub enum OpKind {
     },
     /// At least one.
     Retain {
-        fields: Vec<Text>,
+        fields: Texts,
     },
     Filter {
         expr: Text,
     },
     Router {
         /// 1 to 65,534.
-        routes: Vec<RouteSpec>,
+        routes: Routes,
         /// As the output of a route.
-        default: Option<Vec<Text>>,
+        default: Option<Texts>,
     },
 }
 
@@ -96,5 +97,5 @@ pub enum OpKind {
 pub struct RouteSpec {
     pub expr: Text,
     /// The ids of operators, at least one.
-    pub output: Vec<Text>,
+    pub output: Texts,
 }

@@ -1,5 +1,5 @@
 // Texts with their answers, each worked out by hand from the tables of keys.
-use crate::{OnError, OpKind, OpSpec, RouteSpec, Settings, SettingsFault, StartAt, read};
+use crate::{OnError, OpKind, OpSpec, Routes, Settings, SettingsFault, StartAt, Texts, read};
 use entry_model::{Fields, Text, Value};
 use std::alloc::{AllocError, Global};
 use std::test::Fail;
@@ -345,23 +345,19 @@ fn show_fields(fields: &Fields, out: &mut String) -> Result<(), AllocError> {
     Ok(())
 }
 
-fn show_routes(routes: &[RouteSpec], out: &mut String) -> Result<(), AllocError> {
-    for route in routes {
+fn show_routes(routes: &Routes, out: &mut String) -> Result<(), AllocError> {
+    for route in routes.as_slice() {
         write!(out, "{}>", route.expr)?;
-        show_texts(&route.output, out)?;
+        show_texts(route.output.as_slice(), out)?;
         out.push_str(";")?;
     }
     Ok(())
 }
 
-fn show_targets(
-    front: &str,
-    targets: &Option<Vec<Text>>,
-    out: &mut String,
-) -> Result<(), AllocError> {
+fn show_targets(front: &str, targets: &Option<Texts>, out: &mut String) -> Result<(), AllocError> {
     if let Some(targets) = targets {
         out.push_str(front)?;
-        show_texts(targets, out)?;
+        show_texts(targets.as_slice(), out)?;
     }
     Ok(())
 }
@@ -373,13 +369,13 @@ fn show_kind(kind: &OpKind, out: &mut String) -> Result<(), AllocError> {
         OpKind::Copy { from, to } => write!(out, "copy {from} {to}"),
         OpKind::Add { field, value } => {
             write!(out, "add {field} ")?;
-            show_value(value, out)
+            show_value(value.value(), out)
         }
         OpKind::Remove { field } => write!(out, "remove {field}"),
         OpKind::Flatten { field } => write!(out, "flatten {field}"),
         OpKind::Retain { fields } => {
             out.push_str("retain ")?;
-            show_texts(fields, out)
+            show_texts(fields.as_slice(), out)
         }
         OpKind::Filter { expr } => write!(out, "filter {expr}"),
         OpKind::Router { routes, default } => {
@@ -411,10 +407,10 @@ fn bit(flag: bool) -> &'static str {
 
 fn show(alloc: Global, settings: &Settings) -> Result<String, AllocError> {
     let mut out = String::new(alloc);
-    show_texts(&settings.include, &mut out)?;
+    show_texts(settings.include.as_slice(), &mut out)?;
     out.push_str(" - ")?;
-    if !settings.exclude.is_empty() {
-        show_texts(&settings.exclude, &mut out)?;
+    if !settings.exclude.as_slice().is_empty() {
+        show_texts(settings.exclude.as_slice(), &mut out)?;
         out.push_str(" - ")?;
     }
     match settings.start_at {
@@ -432,17 +428,17 @@ fn show(alloc: Global, settings: &Settings) -> Result<String, AllocError> {
     out.push_str(bit(settings.include_file_path))?;
     out.push_str(bit(settings.include_file_record_number))?;
     out.push_str(" ")?;
-    show_fields(&settings.attributes, &mut out)?;
-    if !settings.attributes.is_empty() {
+    show_fields(settings.attributes.as_fields(), &mut out)?;
+    if !settings.attributes.as_fields().is_empty() {
         out.push_str(" ")?;
     }
     out.push_str("- ")?;
-    show_fields(&settings.resource, &mut out)?;
-    if !settings.resource.is_empty() {
+    show_fields(settings.resource.as_fields(), &mut out)?;
+    if !settings.resource.as_fields().is_empty() {
         out.push_str(" ")?;
     }
     out.push_str("- -")?;
-    for operator in &settings.operators {
+    for operator in settings.operators.as_slice() {
         show_operator(operator, &mut out)?;
     }
     Ok(out)

@@ -2,7 +2,7 @@
 ghost use Rattle.std.specs.Prelude.{◌≡◌, IfOk, map, nat_lt};
 ghost use Rattle.entry_model.specs.Datum.{datum, items_of};
 ghost use Rattle.serde_json.specs.View.{view, items_view, members_view, number_view};
-ghost use Rattle.settings_text.specs.SettingsData.{fields_data};
+ghost use Rattle.settings_text.specs.Content.{members_in_memory};
 ghost use Rattle.settings_text.specs.ValueData.{value_data, items_data, members_data, number_data, has_fraction, items_have_fraction, members_have_fraction};
 ghost use Rattle.serde_json.specs.Data.{depth, items_depth, members_depth};
 
@@ -17,7 +17,7 @@ fn number_of(alloc: Global, number: &serde_json::Number) -> Result<Value, AllocE
         return Ok(Value::Int(number));
     }
     match number.as_u64() {
-        Some(number) => Ok(Value::Text(Text::new(format!(in alloc; "{number}")?))),
+        Some(number) => Ok(Value::Text(Text::new(format!(in alloc; "{number}")?)?)),
         None => Ok(Value::Null),
     }
 }
@@ -52,7 +52,7 @@ pub fn fields_of(
     alloc: Global,
     members: &Map<String, serde_json::Value>,
 ) -> Result<Fields, AllocError>
-    ensures { IfOk result (λ copies. fields_data copies ≡ members_data (members_view members.now.entries)) }
+    ensures { IfOk result (λ copies. members_in_memory copies ≡ members_data (members_view members.now.entries)) }
 {
     let mut copies = Fields::new(alloc);
     for (key, value) in members.iter() {

@@ -7,14 +7,15 @@ ghost use Rattle.op_kinds.specs.Readings.{Caused};
 
 use crate::OpCause;
 use crate::reading::path;
-use entry_model::{Text, Value};
+use entry_model::Text;
 use field_ops::Add;
+use settings_text::Literal;
 use std::alloc::Global;
 
-pub(crate) fn compile(alloc: Global, field: &Text, value: &Value) -> Result<Add, OpCause>
-    ensures ok { IfOk result (λ op. IsPathText field.now op.field × (datum op.value ≡ datum value.now)) }
+pub(crate) fn compile(alloc: Global, field: &Text, value: &Literal) -> Result<Add, OpCause>
+    ensures ok { IfOk result (λ op. IsPathText field.now op.field × (datum op.value ≡ value.now)) }
     ensures cause { IfErr result (Caused (readings.path field.now ∷ [])) }
 {
     let field = path(alloc, field)?;
-    Ok(Add::new(field, value.copy(alloc)?))
+    Ok(Add::new(field, value.value().copy(alloc)?))
 }

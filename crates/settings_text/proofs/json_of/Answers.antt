@@ -1,6 +1,6 @@
 use Rattle.std.proofs.Common.{refl, sym, true≢false}
 use Rattle.serde_json.specs.View.{view}
-use Rattle.settings_text.proofs.Texts.{is_json, no_json}
+use Rattle.settings_text.proofs.JsonTexts.{is_json, no_json}
 use Rattle.settings_text.proofs.json_of.Goals as goal
 
 pub returns-in-Ok : goal.returns-in-Ok

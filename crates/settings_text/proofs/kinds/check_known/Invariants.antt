@@ -1,7 +1,7 @@
-use Rattle.std.proofs.Common.{◌≡◌, map}
+use Rattle.std.proofs.Common.{◌≡◌}
 use Rattle.serde_json.specs.View.{members_view}
 use Rattle.settings_text.specs.Kinds.{known}
 use Rattle.settings_text.proofs.kinds.check_known.Given as goal
 
 abbrev pub invariant-loop-name : goal.invariant-loop-name
-invariant-loop-name l = known (map (λ key. key.now) l.keys) l.at (members_view l.name-iterator) ≡ known (map (λ key. key.now) l.keys) l.at (members_view l.members.entries)
+invariant-loop-name g l = known (g.K.Keys.test l.keys) l.at (members_view l.name-iterator) ≡ known (g.K.Keys.test l.keys) l.at (members_view l.members.entries)

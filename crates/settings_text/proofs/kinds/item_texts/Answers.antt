@@ -3,7 +3,7 @@ use Rattle.std.proofs.lemmas.Result.{err_from_is_err_and}
 use Rattle.serde_json.specs.View.{items_view}
 use Rattle.settings_text.specs.Kinds.{text, item_texts}
 use Rattle.settings_text.specs.Place.{item_place}
-use Rattle.settings_text.proofs.Lists.{goes_on, ends, is_done}
+use Rattle.settings_text.proofs.InTurn.{goes_on, ends, is_done}
 use Rattle.settings_text.proofs.kinds.item_texts.Goals as goal
 
 pub returns-in_err-text : goal.returns-in_err-text
@@ -20,5 +20,5 @@ loop-index-preserved c =
 
 pub returns : goal.returns
 returns c =
-    rw (← c.deref-value-items.ensures.value) (is_done (λ n. text (item_place (c.args.at.now ++ c.args.key.now) n)) c.deref-value-items.result.now c.loop-index.texts.items c.loop-index.index
+    rw (c.new.ensures, ← c.deref-value-items.ensures.value) (is_done (λ n. text (item_place (c.args.at.now ++ c.args.key.now) n)) c.deref-value-items.result.now c.loop-index.texts.items c.loop-index.index
     (item_texts (c.args.at.now ++ c.args.key.now) (items_view c.deref-value-items.result.now)) c.loop-index-test.false c.loop-index.invariant)

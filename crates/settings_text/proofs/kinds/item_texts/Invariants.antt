@@ -2,7 +2,7 @@ use Rattle.std.proofs.Common.{◌≡◌, ◌++◌, drop}
 use Rattle.serde_json.specs.View.{items_view}
 use Rattle.settings_text.specs.Kinds.{each, text, item_texts}
 use Rattle.settings_text.specs.Place.{item_place}
-use Rattle.settings_text.proofs.Lists.{with_front}
+use Rattle.settings_text.proofs.InTurn.{with_front}
 use Rattle.settings_text.proofs.kinds.item_texts.Given as goal
 
 abbrev pub invariant-loop-index : goal.invariant-loop-index

@@ -2,7 +2,7 @@ use Rattle.std.proofs.Common.{◌≡◌, List, ◌++◌, ◌==◌, length, ap, �
 use Rattle.serde_json.specs.declared.value.Value.{Value}
 use Rattle.serde_json.specs.View.{view, items_view}
 use Rattle.settings_text.specs.Kinds.{some_texts, item_texts}
-use Rattle.settings_text.proofs.Lists.{some_is, nonempty}
+use Rattle.settings_text.proofs.InTurn.{some_is, nonempty}
 use Rattle.settings_text.proofs.kinds.listed_texts.Goals as goal
 
 pub returns-in-Some-2 : goal.returns-in-Some-2

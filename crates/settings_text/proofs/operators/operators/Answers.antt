@@ -1,6 +1,6 @@
 use Rattle.std.proofs.Common.{◌≤◌, ◌<◌, codes, length, refl}
 use Rattle.std.proofs.lemmas.Result.{err_from_is_err_and}
-use Rattle.settings_text.proofs.Lists.{few, too_many}
+use Rattle.settings_text.proofs.InTurn.{few, too_many}
 use Rattle.settings_text.proofs.operators.operators.Goals as goal
 
 pub returns-then-as_slice-gt-MOST_OPERATORS : goal.returns-then-as_slice-gt-MOST_OPERATORS
@@ -21,4 +21,4 @@ pub returns : goal.returns
 returns c =
     let vs = c.in-Some-as_array.values.now.items in
     let le : length vs ≤ 64 = rw (← c.as_slice.ensures.value) c.if-as_slice-gt-MOST_OPERATORS.false in
-    rw (← c.in-Some.ensures, ← c.in-Some-as_array.ensures, few (codes "operators") vs le, c.in_ok-drafts.ensures, c.in_ok-settle_all.ensures, c.in_ok-taken.ensures, c.deref.ensures.value) refl
+    rw (← c.in-Some.ensures, ← c.in-Some-as_array.ensures, few (codes "operators") vs le, c.in_ok-drafts.ensures, c.new-2.ensures, c.in_ok-settle_all.ensures, c.in_ok-taken.ensures, c.deref.ensures.value) refl

@@ -1,28 +1,24 @@
-use Rattle.std.proofs.Common.{◌≡◌, ℕ, List, ◌==◌, map, length, ◌∙◌, ap}
-use Rattle.std.proofs.lemmas.List.{map_push}
+use Rattle.std.proofs.Common.{◌≡◌, ℕ, List, ◌==◌, length, ◌∙◌, ap}
 use Rattle.settings_text.specs.declared.operators.Draft.{Draft}
-use Rattle.settings_text.specs.DraftView.{draft_data}
-use Rattle.settings_text.specs.Operators.{with_ids, settled, id_of}
-use Rattle.settings_text.specs.SettingsData.{OperatorData, operator_data}
+use Rattle.settings_text.specs.Operators.{with_ids, settled}
 use Rattle.settings_text.proofs.Drafts.{settles_first, all_settled}
-use Rattle.settings_text.proofs.Lists.{nonempty, empty}
+use Rattle.settings_text.proofs.InTurn.{nonempty, empty}
 use Rattle.settings_text.proofs.operators.settle_all.Goals as goal
 
 pub settling-preserved : goal.settling-preserved
 settling-preserved c =
-    let total = with_ids c.args.taken.items (map draft_data c.args.drafts.items) in
+    let total = with_ids c.args.taken.items c.args.drafts.items in
     let taken = c.settling.taken.items in
     let drafts = c.settling.drafts.items in
     let d = c.remove.result in
     let op = c.in_ok-operator.operator in
-    let is : operator_data op ≡ settled taken (draft_data d) = c.in_ok-operator.ensures ∙ ap (λ (l : List (List ℕ)). settled l (draft_data d)) c.deref.ensures.value in
-    let id : op.id ≡ id_of taken (draft_data d) = ap (λ (o : OperatorData). o.id) is in
+    let is : op ≡ settled taken d = c.in_ok-operator.ensures ∙ ap (λ (l : List (List ℕ)). settled l d) c.deref.ensures.value in
     let some = nonempty (length drafts) c.is_empty.result (c.is_empty.ensures ∙ ap (λ (l : List Draft). length l == 0) c.as_slice.ensures.value) c.settling-test.true in
-    rw (c.in_ok-push-2.ensures.items, map_push operator_data c.settling.settled.items op, c.in_ok-push.ensures.items, c.in_ok-from_str.ensures, c.as_str.ensures, is, id)
-    (settles_first taken drafts c.remove.new.self.items d (map operator_data c.settling.settled.items) total some c.remove.ensures.value c.remove.ensures.items c.settling.invariant)
+    rw (c.in_ok-push-2.ensures.items, c.in_ok-push.ensures.items, c.in_ok-share.ensures, is)
+    (settles_first taken drafts c.remove.new.self.items d c.settling.settled.items total some c.remove.ensures.value c.remove.ensures.items c.settling.invariant)
 
 pub returns : goal.returns
 returns c =
     let drafts = c.settling.drafts.items in
     let none = empty (length drafts) c.is_empty.result (c.is_empty.ensures ∙ ap (λ (l : List Draft). length l == 0) c.as_slice.ensures.value) c.settling-test.false in
-    all_settled c.settling.taken.items drafts (map operator_data c.settling.settled.items) (with_ids c.args.taken.items (map draft_data c.args.drafts.items)) none c.settling.invariant
+    all_settled c.settling.taken.items drafts c.settling.settled.items (with_ids c.args.taken.items c.args.drafts.items) none c.settling.invariant

@@ -1,11 +1,9 @@
-use Rattle.std.proofs.Common.{◌≡◌, ◌++◌, map, vec_len}
-use Rattle.settings_text.specs.DraftView.{draft_data}
+use Rattle.std.proofs.Common.{◌≡◌, ◌++◌, vec_len}
 use Rattle.settings_text.specs.Operators.{with_ids}
-use Rattle.settings_text.specs.SettingsData.{operator_data}
 use Rattle.settings_text.proofs.operators.settle_all.Given as goal
 
 abbrev pub decreases-settling : goal.decreases-settling
 decreases-settling l = vec_len l.drafts
 
 abbrev pub invariant-settling : goal.invariant-settling
-invariant-settling l = map operator_data l.settled.items ++ with_ids l.taken.items (map draft_data l.drafts.items) ≡ with_ids l.initial.taken.items (map draft_data l.initial.drafts.items)
+invariant-settling l = l.settled.items ++ with_ids l.taken.items l.drafts.items ≡ with_ids l.initial.taken.items l.initial.drafts.items

@@ -1,0 +1,15 @@
+-- What the type `flatten` says.
+use Rattle.std.specs.Prelude.{List, ℕ, Bool, codes, Result, Ok}
+use Rattle.std.specs.Str.{bytes_eq}
+use Rattle.serde_json.specs.Data.{Data}
+use Rattle.settings_text.specs.declared.fault.SettingsFault.{SettingsFault}
+use Rattle.settings_text.specs.declared.settings.OpKind.{OpKind}
+use Rattle.settings_text.specs.declared.settings.OpKind.TheVariants.{Flatten}
+use Rattle.settings_text.specs.Kinds.{must, text}
+use Rattle.settings_text.specs.Outcome.{◌>>=◌}
+
+abbrev pub is_key : List ℕ → Bool
+is_key name = bytes_eq name (codes "field")
+
+abbrev pub read : List ℕ → Data → Result OpKind SettingsFault
+read at d = must at (codes "field") text d >>= λ field. Ok (Flatten field)

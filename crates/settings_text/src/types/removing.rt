@@ -1,0 +1,25 @@
+// The type `remove`.
+ghost use Rattle.std.specs.Prelude.{◌≡◌};
+ghost use Rattle.serde_json.specs.View.{view};
+ghost use Rattle.settings_text.specs.Outcome.{Gives};
+ghost use Rattle.settings_text.specs.Types.Removing as removing;
+
+use crate::fault::SettingsFault;
+use crate::kinds::text;
+use crate::settings::OpKind;
+use serde_json::Value;
+use std::alloc::Global;
+
+pub fn is_key(name: &str) -> bool
+    ensures { result ≡ removing.is_key name.now }
+{
+    name == "field"
+}
+
+pub fn read(alloc: Global, object: &Value, at: &str) -> Result<OpKind, SettingsFault>
+    ensures { Gives (λ kind. kind) result (removing.read at.now (view object.now)) }
+{
+    Ok(OpKind::Remove {
+        field: text(alloc, object, at, "field")?,
+    })
+}
