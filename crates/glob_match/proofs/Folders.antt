@@ -13,7 +13,7 @@ use Rattle.glob_match.specs.Fits.{FitsPieces}
 use Rattle.glob_match.specs.GlobText.{IsGlobText}
 use Rattle.glob_match.specs.GlobMatch.{FitsNames, no_names, one_name, no_folder, one_folder, MatchesPath, ListsFolder}
 use Rattle.glob_match.specs.Path.{in_front, names, is_absolute, relative, is_name}
-use Rattle.glob_match.specs.Pattern.{Pattern, are_two_stars, component, components, last_components}
+use Rattle.glob_match.specs.Pattern.{Pattern, are_two_stars, component, components, last_components, ends_in_name}
 
 -- the names of a path that is cut at a slash
 names-cut : (folder rest : List ℕ) → names (folder ++ 47 ∷ rest) ≡ names folder ++ names rest
@@ -46,12 +46,12 @@ all_front [] ys h = refl
 all_front (x ∷ xs) ys h = let parts = and_parts (is_name x) (list_all is_name (xs ++ ys)) h in and_from (is_name x) (list_all is_name xs) parts.0 (all_front xs ys parts.1)
 
 -- the last component is a name
-record EndsInName (components : List Component) : Type 0 where
-  before : List Component
-  pieces : List Piece
-  is : components ≡ before ++ Name pieces ∷ []
+pub record EndsInName (components : List Component) : Type 0 where
+  pub before : List Component
+  pub pieces : List Piece
+  pub is : components ≡ before ++ Name pieces ∷ []
 
-ends_behind : (component : Component) (components : List Component) → EndsInName (component ∷ components) → ((pieces : List Piece) × (component ∷ components ≡ Name pieces ∷ [])) ⊎ EndsInName components
+pub ends_behind : (component : Component) (components : List Component) → EndsInName (component ∷ components) → ((pieces : List Piece) × (component ∷ components ≡ Name pieces ∷ [])) ⊎ EndsInName components
 ends_behind component components ends = by ends.before ends.is
   where
     by : (before : List Component) → component ∷ components ≡ before ++ Name ends.pieces ∷ [] → ((pieces : List Piece) × (component ∷ components ≡ Name pieces ∷ [])) ⊎ EndsInName components
@@ -67,6 +67,29 @@ last_ends pieces = by (are_two_stars pieces)
     by : (b : Bool) → EndsInName (cond b (Folders ∷ Name (Single Star ∷ []) ∷ []) (Name pieces ∷ []))
     by true = record { before = Folders ∷ []; pieces = Single Star ∷ []; is = refl }
     by false = record { before = []; pieces = pieces; is = refl }
+
+-- by the test
+pub ends_by : (components : List Component) → ends_in_name components ≡ true → EndsInName components
+ends_by [] h = absurd (cc h)
+ends_by (Folders ∷ []) h = absurd (cc h)
+ends_by (Name pieces ∷ []) h = record { before = []; pieces = pieces; is = refl }
+ends_by (component ∷ next ∷ others) h = ends_more component (next ∷ others) (ends_by (next ∷ others) h)
+
+ends_in_last : (pieces : List Piece) → ends_in_name (last_components pieces) ≡ true
+ends_in_last pieces = by (are_two_stars pieces)
+  where
+    by : (b : Bool) → ends_in_name (cond b (Folders ∷ Name (Single Star ∷ []) ∷ []) (Name pieces ∷ [])) ≡ true
+    by true = refl
+    by false = refl
+
+ends_behind_all : (before components : List Component) → ends_in_name components ≡ true → ends_in_name (before ++ components) ≡ true
+ends_behind_all [] components h = h
+ends_behind_all (first ∷ []) [] h = absurd (cc h)
+ends_behind_all (first ∷ []) (component ∷ others) h = h
+ends_behind_all (first ∷ next ∷ before) components h = ends_behind_all (next ∷ before) components h
+
+pub ends_read : (all before : List Component) (pieces : List Piece) → all ≡ before ++ last_components pieces → ends_in_name all ≡ true
+ends_read all before pieces is = rw is (ends_behind_all before (last_components pieces) (ends_in_last pieces))
 
 components_end : (pieces : List Piece) (others : List (List Piece)) → EndsInName (components pieces others)
 components_end pieces [] = last_ends pieces
@@ -137,12 +160,11 @@ some_first text = by (names text) refl
     by [] e = absurd (some_name text e)
     by (name ∷ others) e = (name, others, e)
 
-pub folder_listed : (text : List ℕ) (pattern : Pattern) (folder rest : List ℕ) → IsGlobText text pattern → folder ≢ [] → MatchesPath pattern (folder ++ 47 ∷ rest) → ListsFolder pattern folder
-folder_listed text pattern folder rest is some matches =
+pub folder_behind : (pattern : Pattern) (folder rest : List ℕ) → EndsInName pattern.components → folder ≢ [] → MatchesPath pattern (folder ++ 47 ∷ rest) → ListsFolder pattern folder
+folder_behind pattern folder rest ends some matches =
     let cut : names (relative (folder ++ 47 ∷ rest)) ≡ names (relative folder) ++ names rest = ap names (relative-cut folder rest some) ∙ names-cut (relative folder) rest in
     let behind = some_first rest in
     let whole : names (relative (folder ++ 47 ∷ rest)) ≡ names (relative folder) ++ behind.0 ∷ behind.1 = cut ∙ ap (λ (n : List (List ℕ)). names (relative folder) ++ n) behind.2 in
-    let ends : EndsInName pattern.components = subst EndsInName (sym (ap (λ (p : Pattern). p.components) is.means)) (components_end is.pieces is.others) in
     let front = front_fits pattern.components (names (relative (folder ++ 47 ∷ rest))) (names (relative folder)) behind.0 behind.1 ends whole matches.fits in
     inr (
       front.count,
@@ -153,3 +175,6 @@ folder_listed text pattern folder rest is some matches =
         fits = front.fits;
       },
     )
+
+pub folder_listed : (text : List ℕ) (pattern : Pattern) (folder rest : List ℕ) → IsGlobText text pattern → folder ≢ [] → MatchesPath pattern (folder ++ 47 ∷ rest) → ListsFolder pattern folder
+folder_listed text pattern folder rest is = folder_behind pattern folder rest (subst EndsInName (sym (ap (λ (p : Pattern). p.components) is.means)) (components_end is.pieces is.others))

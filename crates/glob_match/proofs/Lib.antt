@@ -8,4 +8,5 @@ mod Places
 mod Rows
 mod Searching
 mod Sound
+mod Starts
 mod Walks

@@ -20,7 +20,7 @@ use Rattle.glob_match.specs.Path.{in_front, names, is_absolute, relative, is_nam
 use Rattle.glob_match.specs.Pattern.{Pattern, is_component, are_two_stars, components}
 use Rattle.glob_match.proofs.Walks.{fits_first, fits_none, some_name}
 
-abbrev plain_pieces : List ℕ → List Piece
+abbrev pub plain_pieces : List ℕ → List Piece
 plain_pieces [] = []
 plain_pieces (c ∷ name) = Single (Plain c) ∷ plain_pieces name
 
@@ -91,7 +91,7 @@ components_plain : (first : List ℕ) (rest : List (List ℕ)) → components (p
 components_plain first [] = rw (no_stars first) refl
 components_plain first (next ∷ others) = rw (no_stars first) (ap (λ (c : List Component). Name (plain_pieces first) ∷ c) (components_plain next others))
 
-fits_plain : (name text : List ℕ) → FitsPieces (plain_pieces name) text → text ≡ name
+pub fits_plain : (name text : List ℕ) → FitsPieces (plain_pieces name) text → text ≡ name
 fits_plain [] text fits = fits
 fits_plain (c ∷ name) text fits = fits.2 ∙ ap (λ (t : List ℕ). t ++ fits.1) fits.3 ∙ ap (λ (t : List ℕ). c ∷ t) (fits_plain name fits.1 fits.4)
 
@@ -177,7 +177,7 @@ decoded (name ∷ others) h =
     ap (λ (n : List ℕ). n ∷ map chars (map encode_utf8_all others)) (chars-encodes name parts.0) ∙ ap (λ (n : List (List ℕ)). name ∷ n) (decoded others parts.1)
 
 -- names tell their text
-joined : (text : List ℕ) → join_with_byte 47 (names text) ≡ text
+pub joined : (text : List ℕ) → join_with_byte 47 (names text) ≡ text
 joined [] = refl
 joined (c ∷ text) = by (nat_eq c 47) refl (names text) refl (joined text)
   where
@@ -284,12 +284,12 @@ ordinary_behind (c ∷ text) h = by (nat_eq c 47)
     by false = h
 
 -- the names of a path's bytes are those of its characters
-record PathOf (path text : List ℕ) : Type 0 where
-  all : names (relative path) ≡ map encode_utf8_all (names (without_slash text))
-  characters : map chars (names (relative path)) ≡ names (without_slash text)
-  rooted : is_absolute path ≡ begins_with_slash text
+pub record PathOf (path text : List ℕ) : Type 0 where
+  pub all : names (relative path) ≡ map encode_utf8_all (names (without_slash text))
+  pub characters : map chars (names (relative path)) ≡ names (without_slash text)
+  pub rooted : is_absolute path ≡ begins_with_slash text
 
-path_of : (path text : List ℕ) → scalars text ≡ true → encode_utf8_all text ≡ path → PathOf path text
+pub path_of : (path text : List ℕ) → scalars text ≡ true → encode_utf8_all text ≡ path → PathOf path text
 path_of path text s e =
     let front = same_front text in
     let all : names (relative path) ≡ map encode_utf8_all (names (without_slash text)) = ap (λ (p : List ℕ). names (relative p)) (sym e) ∙ ap names front.relative_is ∙ names_encoded (without_slash text) in

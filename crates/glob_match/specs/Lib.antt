@@ -1,10 +1,12 @@
 pub mod CharacterSet
 pub mod Fits
 pub mod FitsBoth
+pub mod Folder
 pub mod Front
 pub mod GlobFaults
 pub mod GlobMatch
 pub mod GlobText
+pub mod Leading
 pub mod Leads
 pub mod Path
 pub mod Pattern

@@ -45,3 +45,13 @@ last_components pieces = if are_two_stars pieces then Folders ∷ Name (Single S
 abbrev pub components : List Piece → List (List Piece) → List Component
 components pieces [] = last_components pieces
 components pieces (next ∷ others) = component pieces ∷ components next others
+
+abbrev pub is_name : Component → Bool
+is_name Folders = false
+is_name (Name _) = true
+
+-- Whatever a pattern matches, its last component is a name of it.
+abbrev pub ends_in_name : List Component → Bool
+ends_in_name [] = false
+ends_in_name (component ∷ []) = is_name component
+ends_in_name (component ∷ next ∷ others) = ends_in_name (next ∷ others)

@@ -18,11 +18,14 @@ pub struct Glob {
 }
 
 impl Model for Glob {
-    ghost use Rattle.glob_match.specs.Pattern.{Pattern};
+    ghost use Rattle.std.specs.Prelude.{IsTrue};
+    ghost use Rattle.glob_match.specs.Pattern.{Pattern, ends_in_name};
 
     ghost Value = { Pattern };
 
     ghost view = { λ glob. record { is_absolute = glob.is_absolute; components = glob.components.items } };
+
+    ghost invariant = { λ glob. IsTrue (ends_in_name glob.components.items) };
 }
 
 /// Why a text is no glob.

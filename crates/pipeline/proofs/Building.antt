@@ -1,15 +1,14 @@
 -- The nodes of operators, one after another.
 use Rattle.std.proofs.Common.{◌≡◌, ◌≢◌, ◌⊎◌, ℕ, zero, suc, ◌+◌, ◌<◌, ◌≤◌, List, [], ◌∷◌, ◌++◌, length, map, take, get_or, Bool, true, false, true≢false, ◌||◌, inl, inr, refl, sym, ◌∙◌, ap, subst, arith, add-one, rules}
 use Rattle.std.proofs.lemmas.List.{map-append, take_all}
-use Rattle.std.proofs.lemmas.Option.{slice_get_within, get_or_from_slice_get, slice_get-map, slice_get_read}
+use Rattle.std.proofs.lemmas.Option.{slice_get_within, get_or_from_slice_get, slice_get_read}
 use Rattle.std.proofs.Math.Seq.{take-suc}
 use Rattle.std.proofs.lemmas.Slice.Eq.{bytes_eq-Decides}
 use Rattle.std.specs.List.{list_any}
-use Rattle.std.specs.Prelude.{Some, option_map, slice_get, not, if◌then◌else◌}
+use Rattle.std.specs.Prelude.{Some, slice_get, not, if◌then◌else◌}
 use Rattle.std.specs.Str.{bytes_eq}
 use Rattle.std.proofs.Common.{Bor}
 use Rattle.std.proofs.lemmas.Bool.{cases_lt}
-use Rattle.settings_text.proofs.Lists.{among}
 use Rattle.graph_core.specs.declared.NodeSpec.{NodeSpec}
 use Rattle.entry_model.specs.LogRecord.{LogRecord}
 use Rattle.graph_core.specs.Traces.{Network, network_of}
@@ -17,16 +16,20 @@ use Rattle.graph_core.specs.Wiring.{wiring_of}
 use Rattle.op_kinds.proofs.Compiled.{one_operator}
 use Rattle.op_kinds.specs.Kept.{Kept}
 use Rattle.op_kinds.specs.Operator.{Operator, behavior_of}
-use Rattle.pipeline.specs.BuildFaults.{IsFineAt, IsBuildFault, ids_before, refusal}
+use Rattle.pipeline.specs.BuildFaults.{IsFineAt, IsOperatorFault, ids_before, refusal}
 use Rattle.op_kinds.specs.Compiled.{IsCompiledTo}
 use Rattle.op_kinds.specs.declared.cause.OpCause.{OpCause}
 use Rattle.op_kinds.specs.declared.cause.OpCause.TheVariants as cause
 use Rattle.op_kinds.specs.Readings.{Caused, readings}
-use Rattle.pipeline.specs.Listed.{AreFirstOperators, AreOperatorsFrom}
+use Rattle.pipeline.specs.Listed.{ArePaired, AreOperatorsFrom}
 use Rattle.pipeline.specs.Wired.{IsNode, AreNodes, AreFirstNodes, HaveOwnIds, IsNetwork, ids_of}
 use Rattle.settings_text.specs.Ids.{is_taken}
-use Rattle.settings_text.specs.SettingsData.{OperatorData, operator_data}
 use Rattle.settings_text.specs.declared.settings.OpSpec.{OpSpec}
+
+-- a name among keys behind references
+among : (name : List ℕ) (keys : List (Bor (List ℕ))) → list_any (bytes_eq name) (map (λ key. key.now) keys) ≡ list_any (λ key. bytes_eq name key.now) keys
+among name [] = refl
+among name (key ∷ keys) = rw (among name keys) refl
 
 -- an element of a list with one more at its end is one of the list, or that one
 pub last_or_before : {A : Type 0} (xs : List A) (y x : A) (k : ℕ) → slice_get (xs ++ y ∷ []) k ≡ Some x → (slice_get xs k ≡ Some x) ⊎ ((k ≡ length xs) × (x ≡ y))
@@ -41,18 +44,18 @@ last_or_before (z ∷ xs) y x (suc k) at = elim (last_or_before xs y x k at) [
   | inr last ↦ inr (ap suc last.0, last.1)
 ]
 
-pub one_more_operator : (specs : List OperatorData) (operators new : List Operator) (spec : OperatorData) (operator : Operator) (count : ℕ)
-    → length operators ≡ count → AreFirstOperators specs operators → slice_get specs count ≡ Some spec → IsCompiledTo spec operator → new ≡ operators ++ operator ∷ [] → AreFirstOperators specs new
-one_more_operator specs operators new spec operator count many so_far there next is place other made at of_new =
-    elim (last_or_before operators operator made place (rw is at of_new)) [
+pub one_more_pair : {A B : Type 0} (Belongs : A → B → Type 0) (xs : List A) (ys new : List B) (x : A) (y : B) (count : ℕ)
+    → length ys ≡ count → ArePaired Belongs xs ys → slice_get xs count ≡ Some x → Belongs x y → new ≡ ys ++ y ∷ [] → ArePaired Belongs xs new
+one_more_pair {A = A} Belongs xs ys new x y count many so_far there next is place other made at of_new =
+    elim (last_or_before ys y made place (rw is at of_new)) [
       | inl before ↦ so_far place other made at before
-      | inr last ↦ subst (λ o. IsCompiledTo other o) (sym last.1) (subst (λ s. IsCompiledTo s operator) (same (last.0 ∙ many) at) next)
+      | inr last ↦ subst (λ b. Belongs other b) (sym last.1) (subst (λ a. Belongs a y) (same (last.0 ∙ many) at) next)
     ]
   where
-    same : place ≡ count → slice_get specs place ≡ Some other → spec ≡ other
+    same : place ≡ count → slice_get xs place ≡ Some other → x ≡ other
     same e here = search (rules, there, here, e)
 
-pub one_more_node : (operators : List OperatorData) (nodes new : List (NodeSpec Operator)) (spec : OperatorData) (node : NodeSpec Operator)
+pub one_more_node : (operators : List OpSpec) (nodes new : List (NodeSpec Operator)) (spec : OpSpec) (node : NodeSpec Operator)
     → AreFirstNodes operators nodes → slice_get operators (length nodes) ≡ Some spec → IsNode operators (length nodes) spec node → new ≡ nodes ++ node ∷ [] → AreFirstNodes operators new
 one_more_node operators nodes new spec node so_far there next is place other made at of_new =
     elim (last_or_before nodes node made place (rw is at of_new)) [
@@ -64,19 +67,19 @@ one_more_node operators nodes new spec node so_far there next is place other mad
     same e here = search (rules, there, here, e)
 
 -- without the first of them
-pub operators_behind : (specs : List OperatorData) (from : ℕ) (first : Operator) (operators all : List Operator) → all ≡ first ∷ operators → AreOperatorsFrom from specs all → AreOperatorsFrom (from + 1) specs operators
+pub operators_behind : (specs : List OpSpec) (from : ℕ) (first : Operator) (operators all : List Operator) → all ≡ first ∷ operators → AreOperatorsFrom from specs all → AreOperatorsFrom (from + 1) specs operators
 operators_behind specs from first operators all is are place spec operator at of_rest =
     are (suc place) spec operator (subst (λ k. slice_get specs k ≡ Some spec) (omega arith) at) (rw is of_rest)
 
-pub first_operator : (specs : List OperatorData) (from : ℕ) (spec : OperatorData) (first : Operator) (operators all : List Operator) → all ≡ first ∷ operators → AreOperatorsFrom from specs all → slice_get specs from ≡ Some spec → IsCompiledTo spec first
+pub first_operator : (specs : List OpSpec) (from : ℕ) (spec : OpSpec) (first : Operator) (operators all : List Operator) → all ≡ first ∷ operators → AreOperatorsFrom from specs all → slice_get specs from ≡ Some spec → IsCompiledTo spec first
 first_operator specs from spec first operators all is are there =
     are 0 spec first (subst (λ k. slice_get specs k ≡ Some spec) (omega arith) there) (rw is refl)
 
 -- what a list of settings has at a place
-pub spec_at : (specs : List OpSpec) (place : ℕ) (spec : OpSpec) → place < length specs → spec ≡ get_or specs place spec → slice_get (map operator_data specs) place ≡ Some (operator_data spec)
-spec_at specs place spec within at = slice_get-map operator_data specs place ∙ ap (option_map operator_data) (slice_get_read specs (length specs) place spec refl within at)
+pub spec_at : {A : Type 0} (specs : List A) (place : ℕ) (spec : A) → place < length specs → spec ≡ get_or specs place spec → slice_get specs place ≡ Some spec
+spec_at specs place spec within at = slice_get_read specs (length specs) place spec refl within at
 
-pub one_more_id : (operators : List OperatorData) (place : ℕ) (spec : OperatorData) → slice_get operators place ≡ Some spec → ids_before operators (place + 1) ≡ ids_before operators place ++ spec.id ∷ []
+pub one_more_id : (operators : List OpSpec) (place : ℕ) (spec : OpSpec) → slice_get operators place ≡ Some spec → ids_before operators (place + 1) ≡ ids_before operators place ++ spec.id ∷ []
 one_more_id operators place spec there =
     let within = slice_get_within operators place spec there in
     let grown : take (place + 1) operators ≡ take place operators ++ spec ∷ [] = rw (add-one, take-suc operators place spec within, get_or_from_slice_get operators place spec spec there) refl in
@@ -97,15 +100,15 @@ grown keys new k ids are fresh is =
     let longer : new ≡ keys ++ k ∷ [] = is ∙ ap (λ b. if b then keys else keys ++ k ∷ []) none in
     ap (map (λ id. id.now)) longer ∙ map-append (λ id. id.now) keys (k ∷ []) ∙ ap (λ l. l ++ k.now ∷ []) are
 
-pub one_more_fine : (operators : List OperatorData) (place : ℕ) → ((k : ℕ) → k < place → IsFineAt operators k) → IsFineAt operators place → (k : ℕ) → k < place + 1 → IsFineAt operators k
+pub one_more_fine : (operators : List OpSpec) (place : ℕ) → ((k : ℕ) → k < place → IsFineAt operators k) → IsFineAt operators place → (k : ℕ) → k < place + 1 → IsFineAt operators k
 one_more_fine operators place fine next k within = elim (cases_lt k place) [
   | inl before ↦ fine k before
   | inr last ↦ subst (IsFineAt operators) (omega (arith, within, last)) next
 ]
 
 -- the operator at this place can't be made
-pub refused : (operators : List OperatorData) (place : ℕ) (spec : OperatorData) (found : OpCause) → ((k : ℕ) → k < place → IsFineAt operators k) → slice_get operators place ≡ Some spec → is_taken spec.id (ids_before operators place) ≡ false
-    → Caused (readings spec) found → IsBuildFault operators (refusal place found)
+pub refused : (operators : List OpSpec) (place : ℕ) (spec : OpSpec) (found : OpCause) → ((k : ℕ) → k < place → IsFineAt operators k) → slice_get operators place ≡ Some spec → is_taken spec.id (ids_before operators place) ≡ false
+    → Caused (readings spec) found → IsOperatorFault operators (refusal place found)
 refused operators place spec cause.Path fine there new_id given =
     let some : cause.Path ≢ cause.Memory = λ is. cc is in
     (some, record { fine_before = fine; spec = spec; there = there; new_id = new_id; faulty = given some })
@@ -114,17 +117,17 @@ refused operators place spec cause.Expr fine there new_id given =
     (some, record { fine_before = fine; spec = spec; there = there; new_id = new_id; faulty = given some })
 refused operators place spec cause.Memory fine there new_id given = tt
 
-pub all_ids : (operators : List OperatorData) (place : ℕ) (ids : List (List ℕ)) → length operators ≤ place → ids ≡ ids_before operators place → ids ≡ ids_of operators
+pub all_ids : (operators : List OpSpec) (place : ℕ) (ids : List (List ℕ)) → length operators ≤ place → ids ≡ ids_before operators place → ids ≡ ids_of operators
 all_ids operators place ids within is = is ∙ ap ids_of (take_all place operators within)
 
 -- ---- ids
 
-taken_before : (operators : List OperatorData) (place count : ℕ) (one : OperatorData) (id : List ℕ) → slice_get operators place ≡ Some one → place < count → one.id ≡ id → is_taken id (ids_of (take count operators)) ≡ true
+taken_before : (operators : List OpSpec) (place count : ℕ) (one : OpSpec) (id : List ℕ) → slice_get operators place ≡ Some one → place < count → one.id ≡ id → is_taken id (ids_of (take count operators)) ≡ true
 taken_before [] place count one id there before same = absurd (search (rules, there))
 taken_before (o ∷ operators) place zero one id there before same = absurd (omega (arith, before))
 taken_before (o ∷ operators) zero (suc count) one id there before same =
     let is : o ≡ one = search (rules, there) in
-    let found : bytes_eq id o.id ≡ true = rw (ap (λ (x : OperatorData). x.id) is ∙ same) ((bytes_eq-Decides id id).1 refl) in
+    let found : bytes_eq id o.id ≡ true = rw (ap (λ (x : OpSpec). x.id) is ∙ same) ((bytes_eq-Decides id id).1 refl) in
     rw found refl
 taken_before (o ∷ operators) (suc place) (suc count) one id there before same =
     let later = taken_before operators place count one id there (omega (arith, before)) same in
@@ -134,14 +137,14 @@ taken_before (o ∷ operators) (suc place) (suc count) one id there before same 
     or_true true b is = refl
     or_true false b is = is
 
-not_before : (operators : List OperatorData) → ((k : ℕ) → k < length operators → IsFineAt operators k) → (place other : ℕ) (one another : OperatorData) → slice_get operators place ≡ Some one → slice_get operators other ≡ Some another → one.id ≡ another.id → place < other → ⊥
+not_before : (operators : List OpSpec) → ((k : ℕ) → k < length operators → IsFineAt operators k) → (place other : ℕ) (one another : OpSpec) → slice_get operators place ≡ Some one → slice_get operators other ≡ Some another → one.id ≡ another.id → place < other → ⊥
 not_before operators fine place other one another at also same before =
     let here = fine other (slice_get_within operators other another also) in
     let is : here.spec ≡ another = search (rules, here.there, also) in
     let taken = taken_before operators place other one another.id at before same in
-    true≢false (sym taken ∙ ap (λ (s : OperatorData). is_taken s.id (ids_before operators other)) (sym is) ∙ here.new_id)
+    true≢false (sym taken ∙ ap (λ (s : OpSpec). is_taken s.id (ids_before operators other)) (sym is) ∙ here.new_id)
 
-pub own_ids : (operators : List OperatorData) → ((k : ℕ) → k < length operators → IsFineAt operators k) → HaveOwnIds operators
+pub own_ids : (operators : List OpSpec) → ((k : ℕ) → k < length operators → IsFineAt operators k) → HaveOwnIds operators
 own_ids operators fine place other one another at also same = elim (cases_lt place other) [
   | inl before ↦ absurd (not_before operators fine place other one another at also same before)
   | inr not_before_it ↦ elim (cases_lt other place) [
@@ -166,8 +169,8 @@ slice_get_there [] k within = absurd (omega (arith, within))
 slice_get_there (x ∷ xs) zero within = (x, refl)
 slice_get_there (x ∷ xs) (suc k) within = slice_get_there xs k (omega (arith, within))
 
-module _ (operators : List OperatorData) (xs ys : List (NodeSpec Operator)) (are : AreNodes operators xs) (also : AreNodes operators ys) where
-  at_place : {B : Type 0} (f : NodeSpec Operator → B) → ((place : ℕ) (spec : OperatorData) (x y : NodeSpec Operator) → IsNode operators place spec x → IsNode operators place spec y → f x ≡ f y) → map f xs ≡ map f ys
+module _ (operators : List OpSpec) (xs ys : List (NodeSpec Operator)) (are : AreNodes operators xs) (also : AreNodes operators ys) where
+  at_place : {B : Type 0} (f : NodeSpec Operator → B) → ((place : ℕ) (spec : OpSpec) (x y : NodeSpec Operator) → IsNode operators place spec x → IsNode operators place spec y → f x ≡ f y) → map f xs ≡ map f ys
   at_place f same = same_maps f xs ys (are.many ∙ sym also.many) (λ k x y at of_y.
       let within : k < length operators = omega (arith, slice_get_within xs k x at, are.many) in
       let spec = slice_get_there operators k within in
@@ -184,5 +187,5 @@ module _ (operators : List OperatorData) (xs ys : List (NodeSpec Operator)) (are
       ap (λ w. let n : Network Kept LogRecord = record { wiring = w; behaviors = map (λ (node : NodeSpec Operator). behavior_of node.op) xs } in n) same_wiring
       ∙ ap (λ b. let n : Network Kept LogRecord = record { wiring = wiring_of ys; behaviors = b } in n) same_behaviors
 
-pub one_network : (operators : List OperatorData) (network other : Network Kept LogRecord) → IsNetwork operators network → IsNetwork operators other → network ≡ other
+pub one_network : (operators : List OpSpec) (network other : Network Kept LogRecord) → IsNetwork operators network → IsNetwork operators other → network ≡ other
 one_network operators network other is also = is.is ∙ same_networks operators is.nodes also.nodes is.are also.are ∙ sym also.is

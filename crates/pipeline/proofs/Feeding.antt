@@ -16,7 +16,7 @@ use Rattle.pipeline.specs.Fed.{Fed, GoesOn}
 use Rattle.pipeline.specs.GraphOutput.{graph_output, kept_from, given_from, StandsFor}
 use Rattle.pipeline.specs.Tokens.{cuts_of, tokens_of, used_of}
 use Rattle.pipeline.specs.declared.state.FileState.{FileState}
-use Rattle.settings_text.specs.SettingsData.{SettingsData}
+use Rattle.settings_text.specs.declared.settings.Settings.{Settings}
 
 -- the laws of lines in a row and of requests after requests, as the crates that make them state them
 pub record LineLaws : Type 0 where
@@ -28,14 +28,14 @@ pub record GraphLaws (network : Network Kept LogRecord) : Type 0 where
   pub states : (from : List Kept) (earlier later : List (Target × Option LogRecord)) → states_after network from (earlier ++ later) ≡ states_after network (states_after network from earlier) later
   pub items : (from : List Kept) (earlier later : List (Target × Option LogRecord)) → outputs network from (earlier ++ later) ≡ outputs network from earlier ++ outputs network (states_after network from earlier) later
 
-records_append : (settings : SettingsData) (path : List ℕ) (n : ℕ) (a b : List (List ℕ)) → records_behind settings path n (a ++ b) ≡ records_behind settings path n a ++ records_behind settings path (n + length a) b
+records_append : (settings : Settings) (path : List ℕ) (n : ℕ) (a b : List (List ℕ)) → records_behind settings path n (a ++ b) ≡ records_behind settings path n a ++ records_behind settings path (n + length a) b
 records_append settings path n [] b = ap (λ k. records_behind settings path k b) (omega arith)
 records_append settings path n (token ∷ a) b =
     ap (λ rest. records_of settings path (n + 1) (text_of settings token) ++ rest)
     (records_append settings path (n + 1) a b ∙ ap (λ k. records_behind settings path (n + 1) a ++ records_behind settings path k b) (omega arith))
     ∙ sym (append_assoc (records_of settings path (n + 1) (text_of settings token)) (records_behind settings path (n + 1) a) (records_behind settings path (n + length (token ∷ a)) b))
 
-module _ (settings : SettingsData) (network : Network Kept LogRecord) (path : List ℕ) (graph : GraphLaws network) where
+module _ (settings : Settings) (network : Network Kept LogRecord) (path : List ℕ) (graph : GraphLaws network) where
   inputs_append : (n : ℕ) (a b : List (List ℕ)) (m : ℕ) → m ≡ n + length a → inputs network (records_behind settings path n (a ++ b)) ≡ inputs network (records_behind settings path n a) ++ inputs network (records_behind settings path m b)
   inputs_append n a b m e =
       ap (inputs network) (records_append settings path n a b)
@@ -93,13 +93,13 @@ module _ (settings : SettingsData) (network : Network Kept LogRecord) (path : Li
       }
 
 -- some tokens of the bytes were fed, and those of the rest are left
-pub record FeedsOn (settings : SettingsData) (network : Network Kept LogRecord) (id : ℕ) (path bytes rest : List ℕ) (at : ℕ) (before after : FileState) (out grown : List ℕ) : Type 0 where
+pub record FeedsOn (settings : Settings) (network : Network Kept LogRecord) (id : ℕ) (path bytes rest : List ℕ) (at : ℕ) (before after : FileState) (out grown : List ℕ) : Type 0 where
   pub done : List (List ℕ)
   pub left : tokens_of settings bytes ≡ done ++ tokens_of settings rest
   pub used_so_far : used_of settings bytes ≡ at + used_of settings rest
   pub fed : Fed settings network id path done before after out grown
 
-module _ (settings : SettingsData) (network : Network Kept LogRecord) (id : ℕ) (path : List ℕ) (graph : GraphLaws network) (laws : LineLaws) (bytes : List ℕ) (s : FileState) (o : List ℕ) where
+module _ (settings : Settings) (network : Network Kept LogRecord) (id : ℕ) (path : List ℕ) (graph : GraphLaws network) (laws : LineLaws) (bytes : List ℕ) (s : FileState) (o : List ℕ) where
   pub feeds_from_start : FeedsOn settings network id path bytes bytes 0 s s o o
   feeds_from_start = record { done = []; left = refl; used_so_far = omega arith; fed = fed_none settings network path graph laws id s o }
 
@@ -116,7 +116,7 @@ module _ (settings : SettingsData) (network : Network Kept LogRecord) (id : ℕ)
       let all : so_far.done ≡ tokens_of settings bytes = sym (so_far.left ∙ ap (λ cs. so_far.done ++ texts cs) ends.no_cuts ∙ append-nil so_far.done) in
       (omega (arith, so_far.used_so_far, ap used_by ends.no_cuts), subst (λ ts. Fed settings network id path ts s t o r) all so_far.fed)
 
-pub prefix_kept : (settings : SettingsData) (network : Network Kept LogRecord) → GraphLaws network → (path : List ℕ) (earlier more : List (List ℕ)) → (rest : List LogRecord) × (graph_output settings network path (earlier ++ more) ≡ graph_output settings network path earlier ++ rest)
+pub prefix_kept : (settings : Settings) (network : Network Kept LogRecord) → GraphLaws network → (path : List ℕ) (earlier more : List (List ℕ)) → (rest : List LogRecord) × (graph_output settings network path (earlier ++ more) ≡ graph_output settings network path earlier ++ rest)
 prefix_kept settings network graph path earlier more =
     let start = start_states network in
     let front = inputs network (records_behind settings path 0 earlier) in
@@ -124,23 +124,23 @@ prefix_kept settings network graph path earlier more =
     (outputs network (states_after network start front) back, ap (outputs network start) (inputs_append settings network path graph 0 earlier more (length earlier) (omega arith)) ∙ graph.items start front back)
 
 -- one list of tokens after another
-pub kept_on : (settings : SettingsData) (network : Network Kept LogRecord) → GraphLaws network → (path : List ℕ) (before : ℕ) (states : List Kept) (earlier later : List (List ℕ))
+pub kept_on : (settings : Settings) (network : Network Kept LogRecord) → GraphLaws network → (path : List ℕ) (before : ℕ) (states : List Kept) (earlier later : List (List ℕ))
     → kept_from settings network path before states (earlier ++ later) ≡ kept_from settings network path (before + length earlier) (kept_from settings network path before states earlier) later
 kept_on settings network graph path before states earlier later =
     ap (states_after network states) (inputs_append settings network path graph before earlier later (before + length earlier) refl)
     ∙ graph.states states (inputs network (records_behind settings path before earlier)) (inputs network (records_behind settings path (before + length earlier) later))
 
-pub given_on : (settings : SettingsData) (network : Network Kept LogRecord) → GraphLaws network → (path : List ℕ) (before : ℕ) (states : List Kept) (earlier later : List (List ℕ))
+pub given_on : (settings : Settings) (network : Network Kept LogRecord) → GraphLaws network → (path : List ℕ) (before : ℕ) (states : List Kept) (earlier later : List (List ℕ))
     → given_from settings network path before states (earlier ++ later) ≡ given_from settings network path before states earlier ++ given_from settings network path (before + length earlier) (kept_from settings network path before states earlier) later
 given_on settings network graph path before states earlier later =
     ap (outputs network states) (inputs_append settings network path graph before earlier later (before + length earlier) refl)
     ∙ graph.items states (inputs network (records_behind settings path before earlier)) (inputs network (records_behind settings path (before + length earlier) later))
 
 -- the records of one token
-pub record_none : (settings : SettingsData) (path : List ℕ) (before : ℕ) (token : List ℕ) → text_of settings token ≡ [] → records_behind settings path before (token ∷ []) ≡ []
+pub record_none : (settings : Settings) (path : List ℕ) (before : ℕ) (token : List ℕ) → text_of settings token ≡ [] → records_behind settings path before (token ∷ []) ≡ []
 record_none settings path before token empty = ap (λ body. records_of settings path (before + 1) body ++ []) empty
 
-pub record_one : (settings : SettingsData) (path : List ℕ) (before : ℕ) (token : List ℕ) → 0 < length (text_of settings token) → records_behind settings path before (token ∷ []) ≡ record_with settings path (before + 1) (text_of settings token) ∷ []
+pub record_one : (settings : Settings) (path : List ℕ) (before : ℕ) (token : List ℕ) → 0 < length (text_of settings token) → records_behind settings path before (token ∷ []) ≡ record_with settings path (before + 1) (text_of settings token) ∷ []
 record_one settings path before token some = append-nil _ ∙ by (text_of settings token) some
   where
     by : (body : List ℕ) → 0 < length body → records_of settings path (before + 1) body ≡ record_with settings path (before + 1) body ∷ []
@@ -148,7 +148,7 @@ record_one settings path before token some = append-nil _ ∙ by (text_of settin
     by (byte ∷ more) some = refl
 
 -- a token with a record, which went through the network
-pub one_fed : (settings : SettingsData) (network : Network Kept LogRecord) (id : ℕ) (path token : List ℕ) (record_of_it : LogRecord) (made : List LogRecord) (s t : FileState) (o r : List ℕ)
+pub one_fed : (settings : Settings) (network : Network Kept LogRecord) (id : ℕ) (path token : List ℕ) (record_of_it : LogRecord) (made : List LogRecord) (s t : FileState) (o r : List ℕ)
     → records_behind settings path s.records (token ∷ []) ≡ record_of_it ∷ [] → Served network s.states.items [] (inputs network (record_of_it ∷ [])) t.states.items made
     → t.records ≡ s.records + 1 → t.lines ≡ s.lines + length made → r ≡ o ++ output_lines id (s.lines + 1) made → Fed settings network id path (token ∷ []) s t o r
 one_fed settings network id path token record_of_it made s t o r one served records lines written = record {

@@ -3,3 +3,5 @@ pub mod Paths
 pub mod Building
 pub mod Targets
 pub mod StateKinds
+pub mod GlobsRead
+pub mod Ruled

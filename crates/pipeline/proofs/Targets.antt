@@ -1,5 +1,6 @@
 -- Operators that are found by their ids.
 use Rattle.std.proofs.Common.{◌≡◌, ℕ, ◌+◌, ◌<◌, List, [], ◌∷◌, ◌++◌, length, map, take, get_or, cond, Bool, true, false, refl, sym, ap, ◌∙◌, arith, Bor}
+use Rattle.std.proofs.Math.Seq.{take-suc}
 use Rattle.std.proofs.lemmas.Bool.{ltb-false}
 use Rattle.std.proofs.lemmas.List.{map_more, map-append}
 use Rattle.std.proofs.lemmas.List.Sums.{prefix_len-le-length}
@@ -10,7 +11,6 @@ use Rattle.std.specs.Str.{bytes_eq}
 use Rattle.graph_core.specs.declared.Target.{Target}
 use Rattle.graph_core.specs.declared.Target.TheVariants.{Node}
 use Rattle.pipeline.specs.Wired.{target_named, targets_named}
-use Rattle.settings_text.specs.SettingsData.{RouteData, route_data}
 use Rattle.settings_text.specs.declared.settings.RouteSpec.{RouteSpec}
 
 first_or_end : {X : Type 0} (p : X → Bool) (xs : List X) → unwrap_or (position p xs) (length xs) ≡ position_or_len p xs
@@ -33,13 +33,13 @@ one_more_target ids names index name targets new target within at so_far is next
     next ∙ ap (λ t. t ++ target ∷ []) so_far ∙ ap (λ t. targets_named ids (take index names) ++ t ∷ []) (is ∙ ap (target_named ids) at) ∙ sym (map_more (target_named ids) names index name within)
 
 -- the targets of a router's ports
-abbrev pub route_targets : List (List ℕ) → List RouteData → List (List Target)
+abbrev pub route_targets : List (List ℕ) → List RouteSpec → List (List Target)
 route_targets ids routes = map (λ route. targets_named ids route.output) routes
 
-pub one_more_port : (ids : List (List ℕ)) (routes : List RouteSpec) (index : ℕ) (route : RouteSpec) (ports new : List (Vec Target Global)) (port : Vec Target Global) → index < length routes → route ≡ get_or routes index route → map (λ p. p.items) ports ≡ route_targets ids (map route_data (take index routes)) → port.items ≡ targets_named ids route.output.items → new ≡ ports ++ port ∷ []
-    → map (λ p. p.items) new ≡ route_targets ids (map route_data (take (index + 1) routes))
+pub one_more_port : (ids : List (List ℕ)) (routes : List RouteSpec) (index : ℕ) (route : RouteSpec) (ports new : List (Vec Target Global)) (port : Vec Target Global) → index < length routes → route ≡ get_or routes index route → map (λ p. p.items) ports ≡ route_targets ids (take index routes) → port.items ≡ targets_named ids route.output → new ≡ ports ++ port ∷ []
+    → map (λ p. p.items) new ≡ route_targets ids (take (index + 1) routes)
 one_more_port ids routes index route ports new port within at so_far is next =
-    let grown : map route_data (take (index + 1) routes) ≡ map route_data (take index routes) ++ route_data route ∷ [] = map_more route_data routes index route within ∙ ap (λ (r : RouteSpec). map route_data (take index routes) ++ route_data r ∷ []) (sym at) in
+    let grown : take (index + 1) routes ≡ take index routes ++ route ∷ [] = grind (arith, take-suc routes index route within, at) in
     ap (map (λ (p : Vec Target Global). p.items)) next ∙ map-append (λ (p : Vec Target Global). p.items) ports (port ∷ [])
-    ∙ ap (λ t. t ++ port.items ∷ []) so_far ∙ ap (λ t. route_targets ids (map route_data (take index routes)) ++ t ∷ []) is
-    ∙ sym (map-append (λ (r : RouteData). targets_named ids r.output) (map route_data (take index routes)) (route_data route ∷ [])) ∙ ap (route_targets ids) (sym grown)
+    ∙ ap (λ t. t ++ port.items ∷ []) so_far ∙ ap (λ t. route_targets ids (take index routes) ++ t ∷ []) is
+    ∙ sym (map-append (λ (r : RouteSpec). targets_named ids r.output) (take index routes) (route ∷ [])) ∙ ap (route_targets ids) (sym grown)

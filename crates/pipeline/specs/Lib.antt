@@ -2,7 +2,9 @@ pub mod Tokens
 pub mod Entries
 pub mod Wired
 pub mod Listed
+pub mod Globs
 pub mod BuildFaults
 pub mod Parts
 pub mod GraphOutput
 pub mod Fed
+pub mod AsRules

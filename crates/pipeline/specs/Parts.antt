@@ -5,10 +5,10 @@ use Rattle.graph_core.specs.Traces.{Network, network_of}
 use Rattle.op_kinds.specs.Operator.{behavior_of, has_groups}
 use Rattle.op_kinds.specs.Kept.{Kept, keeps_groups}
 use Rattle.pipeline.specs.declared.Pipeline.{Pipeline}
-use Rattle.settings_text.specs.SettingsData.{SettingsData, settings_data}
+use Rattle.settings_text.specs.declared.settings.Settings.{Settings}
 
-abbrev pub settings_of : Pipeline → SettingsData
-settings_of pipeline = settings_data pipeline.settings
+abbrev pub settings_of : Pipeline → Settings
+settings_of pipeline = pipeline.settings
 
 abbrev pub network : Pipeline → Network Kept LogRecord
 network pipeline = network_of behavior_of pipeline.graph

@@ -12,9 +12,11 @@ use Rattle.entry_model.specs.LogRecord.{LogRecord}
 use Rattle.op_kinds.specs.Compiled.{IsCompiledTo}
 use Rattle.op_kinds.specs.Operator.{Operator, behavior_of}
 use Rattle.op_kinds.specs.Kept.{Kept}
-use Rattle.settings_text.specs.SettingsData.{OperatorData, KindData, router}
+use Rattle.settings_text.specs.declared.settings.OpSpec.{OpSpec}
+use Rattle.settings_text.specs.declared.settings.OpKind.{OpKind}
+use Rattle.settings_text.specs.declared.settings.OpKind.TheVariants.{Router}
 
-abbrev pub ids_of : List OperatorData → List (List ℕ)
+abbrev pub ids_of : List OpSpec → List (List ℕ)
 ids_of operators = map (λ operator. operator.id) operators
 
 -- ---- where an operator sends
@@ -41,31 +43,31 @@ default_ports ids None = []
 default_ports ids (Some names) = targets_named ids names ∷ []
 
 -- a port for each route of a router and one for its default, or the one port of another operator
-abbrev pub ports_for : List (List ℕ) → ℕ → Option (List (List ℕ)) → KindData → List (List Target)
-ports_for ids place output (router routes default) = map (λ route. targets_named ids route.output) routes ++ default_ports ids default
+abbrev pub ports_for : List (List ℕ) → ℕ → Option (List (List ℕ)) → OpKind → List (List Target)
+ports_for ids place output (Router routes default) = map (λ route. targets_named ids route.output) routes ++ default_ports ids default
 ports_for ids place output _ = output_targets ids place output ∷ []
 
 -- ---- the nodes
 
-pub record IsNode (operators : List OperatorData) (place : ℕ) (spec : OperatorData) (node : NodeSpec Operator) : Type 0 where
+pub record IsNode (operators : List OpSpec) (place : ℕ) (spec : OpSpec) (node : NodeSpec Operator) : Type 0 where
   pub compiled : IsCompiledTo spec node.op
   pub wired : map (λ port. port.items) node.ports.items ≡ ports_for (ids_of operators) place spec.output spec.kind
 
 -- each of these nodes is that of the operator at its place
-abbrev pub AreFirstNodes : List OperatorData → List (NodeSpec Operator) → Type 0
-AreFirstNodes operators nodes = (place : ℕ) (spec : OperatorData) (node : NodeSpec Operator)
+abbrev pub AreFirstNodes : List OpSpec → List (NodeSpec Operator) → Type 0
+AreFirstNodes operators nodes = (place : ℕ) (spec : OpSpec) (node : NodeSpec Operator)
     → slice_get operators place ≡ Some spec → slice_get nodes place ≡ Some node → IsNode operators place spec node
 
-pub record AreNodes (operators : List OperatorData) (nodes : List (NodeSpec Operator)) : Type 0 where
+pub record AreNodes (operators : List OpSpec) (nodes : List (NodeSpec Operator)) : Type 0 where
   pub many : length nodes ≡ length operators
   pub each : AreFirstNodes operators nodes
 
 -- no two operators have one id
-abbrev pub HaveOwnIds : List OperatorData → Type 0
-HaveOwnIds operators = (place other : ℕ) (one another : OperatorData) → slice_get operators place ≡ Some one → slice_get operators other ≡ Some another → one.id ≡ another.id → place ≡ other
+abbrev pub HaveOwnIds : List OpSpec → Type 0
+HaveOwnIds operators = (place other : ℕ) (one another : OpSpec) → slice_get operators place ≡ Some one → slice_get operators other ≡ Some another → one.id ≡ another.id → place ≡ other
 
 -- the network is that of the operators, whose ids differ and whose graph was accepted
-pub record IsNetwork (operators : List OperatorData) (network : Network Kept LogRecord) : Type 0 where
+pub record IsNetwork (operators : List OpSpec) (network : Network Kept LogRecord) : Type 0 where
   pub differ : HaveOwnIds operators
   pub nodes : List (NodeSpec Operator)
   pub are : AreNodes operators nodes

@@ -1,15 +1,18 @@
 // Pipelines of settings.
 ghost use Rattle.std.specs.Prelude.{◌≡◌, ◌≤◌, ◌<◌, ℕ, [], length, map, OnOk, IfOk, IfErr};
 ghost use Rattle.graph_core.specs.Traces.{start_states};
-ghost use Rattle.pipeline.specs.BuildFaults.{IsBuildFault, IsFineAt, HaveFewRoutes, refusal};
+ghost use Rattle.pipeline.specs.BuildFaults.{IsBuildFault, IsOperatorFault, IsFineAt, HaveFewRoutes, refusal};
+ghost use Rattle.pipeline.specs.Globs.{ArePatterns};
 ghost use Rattle.pipeline.specs.GraphOutput.{StandsFor};
 ghost use Rattle.pipeline.specs.Listed.{AreOperators};
 ghost use Rattle.pipeline.specs.Parts.{settings_of, network, node_count, HaveKinds};
 ghost use Rattle.pipeline.specs.Wired.{AreNodes, IsNetwork, ids_of};
-ghost use Rattle.settings_text.specs.SettingsData.{settings_data, operator_data};
+ghost use Rattle.settings_text.specs.Limits.{KeepsLimits};
 
+use crate::globs::globs_of;
 use crate::wiring::wired;
 use crate::{BuildFault, FileState, Pipeline};
+use glob_match::Glob;
 use graph_core::{Graph, GraphFault, NodeSpec, Step, laws as graph};
 use indexmap::IndexSet;
 use op_kinds::{AnyOp, OpCause, compile};
@@ -20,25 +23,46 @@ use std::collections::VecDeque;
 impl Pipeline {
     /// The operators, each of which sends to those that its output names, or to the next one.
     pub fn build(alloc: Global, settings: Settings) -> Result<Pipeline, BuildFault>
-        requires operators { length settings.operators.items ≤ 64 }
-        requires routes { HaveFewRoutes (map operator_data settings.operators.items) }
-        requires max_log_size { 64 ≤ settings.max_log_size }
-        ensures settings { IfOk result (λ pipeline. settings_of pipeline ≡ settings_data settings) }
-        ensures network { IfOk result (λ pipeline. IsNetwork (settings_data settings).operators (network pipeline)) }
-        ensures fault { IfErr result (IsBuildFault (settings_data settings).operators) }
+        requires { KeepsLimits settings }
+        ensures settings { IfOk result (λ pipeline. settings_of pipeline ≡ settings) }
+        ensures network { IfOk result (λ pipeline. IsNetwork settings.operators (network pipeline)) }
+        ensures include { IfOk result (λ pipeline. ArePatterns settings.include pipeline.include.items) }
+        ensures exclude { IfOk result (λ pipeline. ArePatterns settings.exclude pipeline.exclude.items) }
+        ensures fault { IfErr result (IsBuildFault settings) }
     {
-        let nodes = nodes_of(alloc, &settings.operators)?;
+        let include = globs_of(alloc, false, settings.include.as_slice())?;
+        let exclude = globs_of(alloc, true, settings.exclude.as_slice())?;
+        let nodes = nodes_of(alloc, settings.operators.as_slice())?;
         match Graph::build(alloc, nodes) {
-            Ok(graph) => Ok(Pipeline { settings, graph }),
+            Ok(graph) => Ok(Pipeline {
+                settings,
+                include,
+                exclude,
+                graph,
+            }),
             Err(GraphFault::Memory) => Err(BuildFault::Memory),
             Err(fault) => Err(BuildFault::Graph(fault)),
         }
     }
 
     pub fn settings(&self) -> &Settings
-        ensures { settings_data result.now ≡ settings_of self.now }
+        ensures { result.now ≡ settings_of self.now }
     {
         &self.settings
+    }
+
+    /// The globs of the files that are read.
+    pub fn include(&self) -> &[Glob]
+        ensures { result.now ≡ self.now.include.items }
+    {
+        &self.include
+    }
+
+    /// The globs of the files that are passed over, though an include matches them.
+    pub fn exclude(&self) -> &[Glob]
+        ensures { result.now ≡ self.now.exclude.items }
+    {
+        &self.exclude
     }
 
     /// The state of a file of which nothing was taken.
@@ -64,10 +88,10 @@ impl Pipeline {
 // The nodes of the operators, or the first fault among these.
 fn nodes_of(alloc: Global, specs: &[OpSpec]) -> Result<Vec<NodeSpec<AnyOp>>, BuildFault>
     requires few { length specs.now ≤ 64 }
-    requires routes { HaveFewRoutes (map operator_data specs.now) }
-    ensures nodes { IfOk result (λ nodes. AreNodes (map operator_data specs.now) nodes.items) }
-    ensures fine { OnOk result ((k : ℕ) → k < length (map operator_data specs.now) → IsFineAt (map operator_data specs.now) k) }
-    ensures fault { IfErr result (IsBuildFault (map operator_data specs.now)) }
+    requires routes { HaveFewRoutes specs.now }
+    ensures nodes { IfOk result (λ nodes. AreNodes specs.now nodes.items) }
+    ensures fine { OnOk result ((k : ℕ) → k < length specs.now → IsFineAt specs.now k) }
+    ensures fault { IfErr result (IsOperatorFault specs.now) }
 {
     let mut ids = IndexSet::new(alloc);
     let ops = ops_of(alloc, specs, &mut ids)?;
@@ -81,11 +105,11 @@ fn ops_of<'s>(
     ids: &mut IndexSet<&'s str>,
 ) -> Result<VecDeque<AnyOp>, BuildFault>
     requires none { ids.old.keys ≡ [] }
-    requires routes { HaveFewRoutes (map operator_data specs.now) }
-    ensures ids { OnOk result (map (λ id. id.now) ids.new.keys ≡ ids_of (map operator_data specs.now)) }
-    ensures ops { IfOk result (λ ops. AreOperators (map operator_data specs.now) ops.items) }
-    ensures fine { OnOk result ((k : ℕ) → k < length (map operator_data specs.now) → IsFineAt (map operator_data specs.now) k) }
-    ensures fault { IfErr result (IsBuildFault (map operator_data specs.now)) }
+    requires routes { HaveFewRoutes specs.now }
+    ensures ids { OnOk result (map (λ id. id.now) ids.new.keys ≡ ids_of specs.now) }
+    ensures ops { IfOk result (λ ops. AreOperators specs.now ops.items) }
+    ensures fine { OnOk result ((k : ℕ) → k < length specs.now → IsFineAt specs.now k) }
+    ensures fault { IfErr result (IsOperatorFault specs.now) }
 {
     let mut ops = VecDeque::new(alloc);
     for (place, spec) in specs.iter().enumerate() {

@@ -20,13 +20,13 @@ impl Pipeline {
     pub(crate) fn file_attributes(&self, alloc: Global, path: &str) -> Result<Fields, AllocError>
         ensures { IfOk result (λ members. members_seen members.entries ≡ file_attributes (settings_of self.now) path.now) }
     {
-        let own = copy_fields(alloc, &self.settings.attributes)?;
+        let own = copy_fields(alloc, self.settings.attributes.as_fields())?;
         let named = self.with_name(alloc, own, path)?;
         self.with_path(alloc, named, path)
     }
 
     fn with_name(&self, alloc: Global, attributes: Fields, path: &str) -> Result<Fields, AllocError>
-        ensures { IfOk result (λ members. members_seen members.entries ≡ with_asked (settings_of self.now).flags.include_file_name
+        ensures { IfOk result (λ members. members_seen members.entries ≡ with_asked (settings_of self.now).include_file_name
             (codes "log.file.name") (model.text (base_name path.now)) (members_seen attributes.entries)) }
     {
         if !self.settings.include_file_name {
@@ -37,7 +37,7 @@ impl Pipeline {
     }
 
     fn with_path(&self, alloc: Global, attributes: Fields, path: &str) -> Result<Fields, AllocError>
-        ensures { IfOk result (λ members. members_seen members.entries ≡ with_asked (settings_of self.now).flags.include_file_path
+        ensures { IfOk result (λ members. members_seen members.entries ≡ with_asked (settings_of self.now).include_file_path
             (codes "log.file.path") (model.text path.now) (members_seen attributes.entries)) }
     {
         if !self.settings.include_file_path {
@@ -77,12 +77,12 @@ impl Pipeline {
             → log_record entry ≡ record_with (settings_of self.now) path number (string_bytes body)) }
     {
         Ok(Entry {
-            body: Value::Text(Text::new(body)),
+            body: Value::Text(Text::new(body)?),
             attributes: Value::Map(self.attributes_at(alloc, shared, number)?),
-            resource: Value::Map(copy_fields(alloc, &self.settings.resource)?),
+            resource: Value::Map(copy_fields(alloc, self.settings.resource.as_fields())?),
             timestamp: None,
             severity: Severity { number: 0 },
-            severity_text: Text::new(String::new(alloc)),
+            severity_text: Text::empty(),
         })
     }
 }

@@ -7,6 +7,9 @@ use thiserror::Error;
 /// Why settings give no pipeline. Places count from 0.
 #[derive(Clone, Copy, Debug, PartialEq, Eq, Drop, Error)]
 pub enum BuildFault {
+    /// The pattern at this place of the includes, or of the excludes, is no glob.
+    #[error("pattern {place} is no glob (exclude: {exclude})")]
+    Glob { exclude: bool, place: u64 },
     /// The operator at this place has the id of one before it.
     #[error("operator {place} has the id of one before it")]
     SameId { place: u64 },

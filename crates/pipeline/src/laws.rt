@@ -4,15 +4,19 @@ ghost use Rattle.entry_model.specs.LogRecord.{LogRecord};
 ghost use Rattle.graph_core.specs.Traces.{Network};
 ghost use Rattle.line_splitter.specs.Cuts.{IsCutRule};
 ghost use Rattle.op_kinds.specs.Kept.{Kept};
+ghost use Rattle.pipeline.specs.AsRules.{rules_of};
 ghost use Rattle.pipeline.specs.GraphOutput.{graph_output, kept_from, given_from};
 ghost use Rattle.pipeline.specs.Parts.{settings_of, network};
 ghost use Rattle.pipeline.specs.Tokens.{first_cut_of};
 ghost use Rattle.pipeline.specs.Wired.{IsNetwork};
-ghost use Rattle.settings_text.specs.SettingsData.{OperatorData};
+ghost use Rattle.settings_text.specs.Limits.{KeepsLimits};
+ghost use Rattle.settings_text.specs.declared.settings.OpSpec.{OpSpec};
+ghost use Rattle.standing.specs.AreRules.{AreRules};
 
 use crate::Pipeline;
 use graph_core::laws as graph;
 use line_splitter::laws::lines_are_cut_by_a_rule;
+use otlp_json::laws::{line_is_one_line, line_tells_all};
 
 /// What comes out for some tokens is a prefix of what comes out for them and more.
 pub fn keep_prefix(pipeline: &Pipeline)
@@ -26,7 +30,7 @@ pub fn keep_prefix(pipeline: &Pipeline)
 
 /// Operators make one network: what is built of the same settings at a restart goes on as what was built before it.
 pub fn operators_make_one_network()
-    ensures { (operators : List OperatorData) (network other : Network Kept LogRecord) → IsNetwork operators network → IsNetwork operators other → network ≡ other }
+    ensures { (operators : List OpSpec) (network other : Network Kept LogRecord) → IsNetwork operators network → IsNetwork operators other → network ≡ other }
 {}
 
 /// The tokens of a file are cut by a rule, so the laws of line_splitter hold of them: more bytes change none of them, and
@@ -54,4 +58,16 @@ pub fn go_on(pipeline: &Pipeline)
 {
     graph::begin(&pipeline.graph);
     graph::go_on(&pipeline.graph);
+}
+
+/// A pipeline of settings within their limits is rules for the polls of files, with which a promise on what they leave can be
+/// made. `settings_text` is the text that the settings were read of.
+pub fn a_pipeline_is_rules(pipeline: &Pipeline)
+    ensures { (settings_text : List ℕ) → KeepsLimits (settings_of pipeline.now) → AreRules (rules_of settings_text pipeline.now) }
+{
+    graph::begin(&pipeline.graph);
+    graph::go_on(&pipeline.graph);
+    tokens_are_cut_by_a_rule(pipeline);
+    line_is_one_line();
+    line_tells_all();
 }

@@ -14,6 +14,7 @@ mod build;
 mod entry;
 mod fault;
 mod feed;
+mod globs;
 pub mod laws;
 mod state;
 #[cfg(test)]
@@ -21,6 +22,7 @@ mod tests;
 mod wiring;
 
 pub use fault::BuildFault;
+use glob_match::Glob;
 use graph_core::Graph;
 use op_kinds::AnyOp;
 use settings_text::Settings;
@@ -30,6 +32,8 @@ pub use state::FileState;
 #[derive(Drop)]
 pub struct Pipeline {
     settings: Settings,
+    include: Vec<Glob>,
+    exclude: Vec<Glob>,
     graph: Graph<AnyOp>,
     ghost some_bytes: { 1 ≤ settings.max_log_size },
 }

@@ -15,6 +15,20 @@ fn build(alloc: Global, text: &str) -> Result<Result<Pipeline, BuildFault>, Fail
 
 const REFUSED: &[(&str, BuildFault)] = &[
     (
+        "{\"include\":[\"a\",\"b/[\",\"{\"],\"exclude\":[\"[\"],\"operators\":[{\"type\":\"remove\",\"field\":\"bodyx\"}]}",
+        BuildFault::Glob {
+            exclude: false,
+            place: 1,
+        },
+    ),
+    (
+        "{\"include\":[\"a\"],\"exclude\":[\"b\",\"\"],\"operators\":[{\"type\":\"remove\",\"field\":\"bodyx\"}]}",
+        BuildFault::Glob {
+            exclude: true,
+            place: 1,
+        },
+    ),
+    (
         "{\"include\":[\"a\"],\"operators\":[{\"type\":\"noop\",\"id\":\"a\"},{\"type\":\"noop\",\"id\":\"a\"}]}",
         BuildFault::SameId { place: 1 },
     ),

@@ -1,15 +1,14 @@
 // Where operators send.
-ghost use Rattle.std.specs.Prelude.{◌≡◌, ◌≤◌, ◌<◌, ◌+◌, [], ◌∷◌, ◌++◌, length, map, option_map, IfOk};
+ghost use Rattle.std.specs.Prelude.{◌≡◌, ◌≤◌, ◌<◌, ◌+◌, [], ◌∷◌, ◌++◌, length, map, IfOk};
 ghost use Rattle.pipeline.specs.Listed.{AreOperators};
 ghost use Rattle.pipeline.specs.Wired as spec;
 ghost use Rattle.pipeline.specs.Wired.{AreNodes, ids_of, ports_for, default_ports, target_named, targets_named};
-ghost use Rattle.settings_text.specs.SettingsData.{operator_data, route_data};
 
 use entry_model::Text;
 use graph_core::{NodeSpec, Target};
 use indexmap::IndexSet;
 use op_kinds::AnyOp;
-use settings_text::{OpKind, OpSpec, RouteSpec};
+use settings_text::{OpKind, OpSpec, RouteSpec, Texts};
 use std::alloc::{AllocError, Global};
 use std::collections::VecDeque;
 
@@ -21,9 +20,9 @@ pub(crate) fn wired(
     mut ops: VecDeque<AnyOp>,
 ) -> Result<Vec<NodeSpec<AnyOp>>, AllocError>
     requires few { length specs.now ≤ 64 }
-    requires ids { map (λ id. id.now) ids.now.keys ≡ ids_of (map operator_data specs.now) }
-    requires ops { AreOperators (map operator_data specs.now) ops.items }
-    ensures { IfOk result (λ nodes. AreNodes (map operator_data specs.now) nodes.items) }
+    requires ids { map (λ id. id.now) ids.now.keys ≡ ids_of specs.now }
+    requires ops { AreOperators specs.now ops.items }
+    ensures { IfOk result (λ nodes. AreNodes specs.now nodes.items) }
 {
     let mut nodes = Vec::new(alloc);
     'wiring: while let Some(op) = ops.pop_front() {
@@ -43,10 +42,10 @@ fn ports_of(
     requires few { length ids.now.keys ≤ 64 }
     requires within { place < length ids.now.keys }
     ensures { IfOk result (λ ports. map (λ port. port.items) ports.items
-        ≡ ports_for (map (λ id. id.now) ids.now.keys) place (operator_data spec.now).output (operator_data spec.now).kind) }
+        ≡ ports_for (map (λ id. id.now) ids.now.keys) place spec.now.output spec.now.kind) }
 {
     match &spec.kind {
-        OpKind::Router { routes, default } => router_ports(alloc, ids, routes, default),
+        OpKind::Router { routes, default } => router_ports(alloc, ids, routes.as_slice(), default),
         _ => {
             let mut ports = Vec::new(alloc);
             ports.push(output_targets(alloc, ids, place, &spec.output)?)?;
@@ -59,19 +58,19 @@ fn router_ports(
     alloc: Global,
     ids: &IndexSet<&str>,
     routes: &[RouteSpec],
-    default: &Option<Vec<Text>>,
+    default: &Option<Texts>,
 ) -> Result<Vec<Vec<Target>>, AllocError>
     requires few { length ids.now.keys ≤ 64 }
     ensures { IfOk result (λ ports. map (λ port. port.items) ports.items
-        ≡ map (λ route. targets_named (map (λ id. id.now) ids.now.keys) route.output) (map route_data routes.now)
-        ++ default_ports (map (λ id. id.now) ids.now.keys) (option_map (λ names. names.items) default.now)) }
+        ≡ map (λ route. targets_named (map (λ id. id.now) ids.now.keys) route.output) routes.now
+        ++ default_ports (map (λ id. id.now) ids.now.keys) default.now) }
 {
     let mut ports = Vec::new(alloc);
     for route in routes {
-        ports.push(targets_of(alloc, ids, &route.output)?)?;
+        ports.push(targets_of(alloc, ids, route.output.as_slice())?)?;
     }
     if let Some(names) = default {
-        ports.push(targets_of(alloc, ids, names)?)?;
+        ports.push(targets_of(alloc, ids, names.as_slice())?)?;
     }
     Ok(ports)
 }
@@ -80,15 +79,15 @@ fn output_targets(
     alloc: Global,
     ids: &IndexSet<&str>,
     place: usize,
-    output: &Option<Vec<Text>>,
+    output: &Option<Texts>,
 ) -> Result<Vec<Target>, AllocError>
     requires few { length ids.now.keys ≤ 64 }
     requires within { place < length ids.now.keys }
     ensures { IfOk result (λ targets. targets.items
-        ≡ spec.output_targets (map (λ id. id.now) ids.now.keys) place (option_map (λ names. names.items) output.now)) }
+        ≡ spec.output_targets (map (λ id. id.now) ids.now.keys) place output.now) }
 {
     match output {
-        Some(names) => targets_of(alloc, ids, names),
+        Some(names) => targets_of(alloc, ids, names.as_slice()),
         None => {
             let mut targets = Vec::new(alloc);
             targets.push(next_target(ids.len(), place))?;

@@ -1,5 +1,5 @@
 -- After a poll that met no limit and no fault, in which no name changed, every file is reached.
-use Rattle.std.proofs.Common.{◌≡◌, ◌≢◌, ℕ, zero, suc, ◌+◌, ◌<◌, List, [], ◌∷◌, ◌++◌, length, min, get_or, Bool, true, false, cond, IsTrue, refl, sym, ap, subst, ◌∙◌, inl, inr, arith}
+use Rattle.std.proofs.Common.{◌≡◌, ◌≢◌, ℕ, zero, suc, ◌+◌, ◌<◌, List, [], ◌∷◌, ◌++◌, length, min, get_or, Bool, true, false, cond, refl, sym, ap, subst, ◌∙◌, inl, inr, arith}
 use Rattle.std.specs.Cmp.Lexicographic.{slice_cmp}
 use Rattle.std.specs.List.{All, Contains, count_by}
 use Rattle.std.specs.Ordering.{nat_cmp, is_lt, is_eq}
@@ -23,7 +23,7 @@ use Rattle.standing.specs.Moments.{IsLater, IsNamed, KeepsNames}
 use Rattle.standing.specs.Pass.{Stretch, Pass, is_short, IsReachable, start_at}
 use Rattle.standing.specs.Reached.{Reached}
 use Rattle.standing.specs.Rows.{Checkpoint, IsRowAt}
-use Rattle.standing.specs.Rules.{Rules}
+use Rattle.standing.specs.Rules.{Rules, Includes}
 use Rattle.standing.specs.Stands.{LinesStand, Stands}
 use Rattle.standing.specs.Sums.{Sums, AreSums, TellNothingLeft, IsReached, is_passed_as_compressed, is_left_out, has_more}
 use Rattle.standing.proofs.MomentLemmas.{past_look, look_later, later_then, later_none, apart_before, bytes_grow}
@@ -154,7 +154,7 @@ module _ (rules : Rules) (laws : AreRules rules) (first : Bool) (stretch : Stret
       }
 
   pub complete_pass : (output : List ℕ) (sums : Sums) (path : List ℕ) (file : ℕ) → Apart rules.front_size stretch.new → IsLawful stretch.new → KeepsNames stretch.old stretch.new → Stands rules stretch.old before.rows before.next_id output
-      → AreSums rules first stretch looks before after added pass sums → TellNothingLeft sums → IsTrue (rules.includes path) → IsReachable path → IsNamed stretch.new path file
+      → AreSums rules first stretch looks before after added pass sums → TellNothingLeft sums → Includes rules path → IsReachable path → IsNamed stretch.new path file
       → (here : Look) × Contains looks here × (here.file ≡ file) × (0 < size here → IsReached rules stretch.new after.rows here)
   complete_pass output sums path file apart lawful keeps stands are none included reachable named =
       let whole_stretch = come_later rules looks stretch.old stretch.new pass.come in

@@ -27,11 +27,11 @@ module _ (first : List ℕ → Option Cut) (rule : IsCutRule first) where
         | inr some ↦ subst P (sym some.1) (All-cons (λ (c : Cut). 1 ≤ c.used) some.0 (cuts_within first n (drop some.0.used b)) (rule_used first rule b some.0 some.1) (all_used_within n (drop some.0.used b)))
       ]
 
-  all_used : (b : List ℕ) → All (λ (c : Cut). 1 ≤ c.used) (cuts first b)
+  pub all_used : (b : List ℕ) → All (λ (c : Cut). 1 ≤ c.used) (cuts first b)
   unfolding cuts
   all_used b = all_used_within (length b) b
 
-  cuts_go_on : (b : List ℕ) (taken behind : List Cut) → cuts first b ≡ taken ++ behind → cuts first (drop (used_by taken) b) ≡ behind
+  pub cuts_go_on : (b : List ℕ) (taken behind : List Cut) → cuts first b ≡ taken ++ behind → cuts first (drop (used_by taken) b) ≡ behind
   cuts_go_on b [] behind is = is
   cuts_go_on b (c ∷ taken) behind is =
       elim (option_tells (first b)) [

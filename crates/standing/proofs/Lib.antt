@@ -17,6 +17,7 @@ pub mod ReachLemmas
 pub mod CompleteLemmas
 pub mod ShrinkLemmas
 pub mod RefusalLemmas
+pub mod GlobLemmas
 pub mod ExampleLemmas
 pub mod FindLemmas
 pub mod RotatedLemmas

@@ -8,6 +8,7 @@ use Rattle.std.proofs.lemmas.List.Elements.{All-nil, All-cons}
 use Rattle.line_splitter.specs.Cuts.{cuts_within, cuts}
 use Rattle.line_splitter.specs.LineTokens.{line_end, first_cut}
 use Rattle.outside.specs.World.{look, names, file_at}
+use Rattle.standing.proofs.GlobLemmas.{app_log_included, renamed_included}
 use Rattle.standing.specs.Example.{each_line, line_text, begun, polled, rotated, polled_again, first_stretch, second_stretch, first_looks, second_looks, first_checkpoint, second_checkpoint, first_lines, second_lines, look_at}
 use Rattle.standing.specs.Look.{Look, outcome, row_after, lines_added}
 use Rattle.standing.specs.Pass.{Pass, WasLookedAt}
@@ -47,7 +48,7 @@ first_poll = record {
   misses = [];
   unlisteds = [];
   calls = record { all_looks = refl; all_misses = refl; all_unlisteds = refl; counted = λ below. omega arith };
-  come = (later_none begun, record { looks = record { later = []; split = refl }; under = refl; included = refl; end_within = omega arith });
+  come = (later_none begun, record { looks = record { later = []; split = refl }; under = refl; included = app_log_included; end_within = omega arith });
   ascend = (All-nil (Below (look_at (codes "app.log") 1 begun 6)), tt);
   leaves_none_out = λ path file included reachable named. inl (first_named path file (named polled (at_look 1 begun) (later_none polled)));
   read_on = (tt, (λ near. omega arith));
@@ -61,8 +62,8 @@ second_poll = record {
   unlisteds = [];
   calls = record { all_looks = refl; all_misses = refl; all_unlisteds = refl; counted = λ below. omega arith };
   come = (
-    (later_none rotated, record { looks = record { later = []; split = refl }; under = refl; included = refl; end_within = omega arith }),
-    record { looks = record { later = []; split = refl }; under = refl; included = refl; end_within = omega arith },
+    (later_none rotated, record { looks = record { later = []; split = refl }; under = refl; included = app_log_included; end_within = omega arith }),
+    record { looks = record { later = []; split = refl }; under = refl; included = renamed_included; end_within = omega arith },
   );
   ascend = (
     All-cons (Below (look_at (codes "app.log.1") 1 (look 2 ∷ rotated) 8)) (look_at (codes "app.log") 2 rotated 6) [] refl (All-nil (Below (look_at (codes "app.log.1") 1 (look 2 ∷ rotated) 8))),

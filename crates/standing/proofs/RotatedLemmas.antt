@@ -5,6 +5,7 @@ use Rattle.std.proofs.lemmas.List.Elements.{All-nil, All-cons}
 use Rattle.line_splitter.specs.Cuts.{cut, cuts_within, cuts}
 use Rattle.line_splitter.specs.LineTokens.{line_end, first_cut}
 use Rattle.outside.specs.World.{create, append, rename, look}
+use Rattle.standing.proofs.GlobLemmas.{app_log_included}
 use Rattle.standing.specs.Example.{each_line, line_text, begun, rotated, polled_again, row_of, second_checkpoint, first_lines, second_lines, mark_of}
 use Rattle.standing.specs.Marks.{Mark, of_id}
 use Rattle.standing.specs.Prefixes.{IsPrefix}
@@ -32,7 +33,7 @@ renamed_stands = record {
     named_at = begun;
     named = record { later = look 1 ∷ look 2 ∷ append 2 (codes "three\n") ∷ create 2 (codes "app.log") ∷ append 1 (codes "o\n") ∷ rename 1 (codes "app.log.1") ∷ []; split = refl };
     under = refl;
-    included = refl;
+    included = app_log_included;
   };
   begins = inl refl;
   tokens = codes "one" ∷ codes "two" ∷ [];
@@ -59,7 +60,7 @@ newer_stands = record {
     named_at = rotated;
     named = record { later = look 1 ∷ []; split = refl };
     under = refl;
-    included = refl;
+    included = app_log_included;
   };
   begins = inl refl;
   tokens = codes "three" ∷ [];

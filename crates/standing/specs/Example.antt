@@ -2,12 +2,15 @@
 use Rattle.std.specs.Prelude.{ℕ, ◌+◌, List, [], ◌∷◌, ◌++◌, map, codes, Bool, true, false}
 use Rattle.entry_model.specs.Datum.{Datum, null, boolean, int, text, list, fields}
 use Rattle.entry_model.specs.LogRecord.{of_text}
+use Rattle.glob_match.specs.Pattern.{Pattern}
+use Rattle.glob_match.specs.declared.pattern.Component.TheVariants.{Name}
+use Rattle.glob_match.specs.declared.pattern.Piece.TheVariants.{Single}
+use Rattle.glob_match.specs.declared.pattern.Unit.TheVariants.{Plain, Star}
 use Rattle.line_splitter.specs.LineTokens.{line_cuts}
 use Rattle.outside.specs.World.{create, append, rename, look, History}
 use Rattle.standing.specs.Look.{Look}
 use Rattle.standing.specs.Marks.{Mark}
 use Rattle.standing.specs.Pass.{Stretch}
-use Rattle.standing.specs.Prefixes.{begins}
 use Rattle.standing.specs.Rows.{Row, Checkpoint}
 use Rattle.standing.specs.Rules.{Rules}
 
@@ -27,6 +30,10 @@ body_of (fields entries) = []
 unfoldable pub line_text : Mark → List ℕ
 line_text mark = (48 + mark.id) ∷ 32 ∷ (48 + mark.number) ∷ 32 ∷ (body_of mark.entry.body ++ codes "\n")
 
+-- `app.log*`
+abbrev pub app_logs : Pattern
+app_logs = record { is_absolute = false; components = Name (map (λ c. Single (Plain c)) (codes "app.log") ++ Single Star ∷ []) ∷ [] }
+
 -- lines of at most 64 bytes, of files from their beginning, which their first 16 bytes tell from each other
 abbrev pub each_line : Rules
 each_line = record {
@@ -38,7 +45,8 @@ each_line = record {
   is_state = is_empty;
   line = line_text;
   fits = λ mark. false;
-  includes = λ path. begins (codes "app.log") path;
+  include = app_logs ∷ [];
+  exclude = [];
   front_size = 16;
   from_end = false;
 }

@@ -17,3 +17,5 @@ pub mod Looks
 pub mod Pass
 pub mod Sums
 pub mod Example
+pub mod OwnNames
+pub mod Included

@@ -1,5 +1,5 @@
 -- One look of a poll at a file, what it finds, and what it makes of the rows.
-use Rattle.std.specs.Prelude.{ℕ, ◌+◌, ◌-◌, ◌≤◌, ◌==◌, nat_lt, min, List, [], ◌∷◌, ◌++◌, length, take, drop, Bool, ◌&&◌, if◌then◌else◌, Option, None, Some, slice_get, slice_set, IfSome, IsTrue}
+use Rattle.std.specs.Prelude.{ℕ, ◌+◌, ◌-◌, ◌≤◌, ◌==◌, nat_lt, min, List, [], ◌∷◌, ◌++◌, length, take, drop, Bool, ◌&&◌, if◌then◌else◌, Option, None, Some, slice_get, slice_set, IfSome}
 use Rattle.std.specs.List.{position_or_len}
 use Rattle.outside.specs.World.{History, bytes}
 use Rattle.standing.specs.Limits.{row_limit, most_taken, is_compressed}
@@ -7,7 +7,7 @@ use Rattle.standing.specs.Marks.{Mark, numbered}
 use Rattle.standing.specs.Moments.{LookAt, IsNamed}
 use Rattle.standing.specs.Prefixes.{begins}
 use Rattle.standing.specs.Rows.{Row}
-use Rattle.standing.specs.Rules.{Rules}
+use Rattle.standing.specs.Rules.{Rules, Includes}
 use Rattle.standing.specs.Tokens.{tokens_of, used}
 
 pub record Look : Type 0 where
@@ -34,7 +34,7 @@ front rules here = take rules.front_size (content here)
 pub record ComesAt (rules : Rules) (here : Look) (history : History) : Type 0 where
   pub looks : LookAt history here.file here.moment
   pub under : IsNamed here.moment here.path here.file
-  pub included : IsTrue (rules.includes here.path)
+  pub included : Includes rules here.path
   pub end_within : here.end ≤ size here
 
 pub data Outcome : Type 0 where

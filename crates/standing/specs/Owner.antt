@@ -1,9 +1,9 @@
 -- The file that a row stands for.
-use Rattle.std.specs.Prelude.{◌≡◌, ◌⊎◌, ℕ, ◌<◌, length, take, true, IsTrue}
+use Rattle.std.specs.Prelude.{◌≡◌, ◌⊎◌, ℕ, ◌<◌, length, take, true}
 use Rattle.outside.specs.World.{History, bytes}
 use Rattle.standing.specs.Moments.{LookAt, IsNamed}
 use Rattle.standing.specs.Rows.{Row}
-use Rattle.standing.specs.Rules.{Rules}
+use Rattle.standing.specs.Rules.{Rules, Includes}
 
 -- A look at the file saw exactly the row's front, which isn't empty; and a look found it under the row's path.
 pub record IsOwner (rules : Rules) (history : History) (row : Row) (file : ℕ) : Type 0 where
@@ -14,7 +14,7 @@ pub record IsOwner (rules : Rules) (history : History) (row : Row) (file : ℕ) 
   pub named_at : History
   pub named : LookAt history file named_at
   pub under : IsNamed named_at row.path file
-  pub included : IsTrue (rules.includes row.path)
+  pub included : Includes rules row.path
 
 -- files may begin at their end, and this was the file's length at one of its looks
 pub record BeginsAtEnd (rules : Rules) (history : History) (file start : ℕ) : Type 0 where

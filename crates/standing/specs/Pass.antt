@@ -10,7 +10,7 @@ use Rattle.standing.specs.Looks.{progress_by, Come, ReadOn, Ascend}
 use Rattle.standing.specs.Marks.{Mark}
 use Rattle.standing.specs.Moments.{NamesThroughout}
 use Rattle.standing.specs.Rows.{Checkpoint}
-use Rattle.standing.specs.Rules.{Rules, output_text}
+use Rattle.standing.specs.Rules.{Rules, output_text, Includes}
 
 -- a stretch of a history, and the tree's count of faults at its two ends
 pub record Stretch : Type 0 where
@@ -56,7 +56,7 @@ WasHidden misses unlisteds path = Contains misses path ⊎ ((folder : List ℕ) 
 -- no path that is to be read and names one file all the time was left out, unless it met a fault
 abbrev pub LeavesNoneOut : Rules → Stretch → List Look → List (List ℕ) → List (List ℕ) → Type 0
 LeavesNoneOut rules stretch looks misses unlisteds =
-    (path : List ℕ) (file : ℕ) → IsTrue (rules.includes path) → IsReachable path → NamesThroughout stretch.old stretch.new path file
+    (path : List ℕ) (file : ℕ) → Includes rules path → IsReachable path → NamesThroughout stretch.old stretch.new path file
     → WasLookedAt looks path ⊎ WasHidden misses unlisteds path
 
 abbrev pub start_at : Checkpoint → Progress

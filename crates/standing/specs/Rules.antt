@@ -1,7 +1,9 @@
 -- The settings as rules: all that the promises on polls need to know of them.
 use Rattle.std.specs.Prelude.{ℕ, List, Bool, flat_map}
 use Rattle.entry_model.specs.LogRecord.{LogRecord}
+use Rattle.glob_match.specs.Pattern.{Pattern}
 use Rattle.line_splitter.specs.Cuts.{Cut}
+use Rattle.standing.specs.Included.{IsIncluded}
 use Rattle.standing.specs.Marks.{Mark}
 
 pub record Rules : Type 0 where
@@ -22,12 +24,16 @@ pub record Rules : Type 0 where
   pub line : Mark → List ℕ
   -- the line tells what it was made of
   pub fits : Mark → Bool
-  -- the path is one of those to be read
-  pub includes : List ℕ → Bool
+  -- the globs of the paths to be read, and of those among them that are not
+  pub include : List Pattern
+  pub exclude : List Pattern
   -- how many of a file's first bytes tell it from others
   pub front_size : ℕ
   -- a file that the first poll finds begins at its end
   pub from_end : Bool
+
+abbrev pub Includes : Rules → List ℕ → Type 0
+Includes rules path = IsIncluded rules.include rules.exclude path
 
 -- the output that has these lines
 abbrev pub output_text : Rules → List Mark → List ℕ

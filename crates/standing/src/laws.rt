@@ -13,7 +13,7 @@ ghost use Rattle.standing.specs.Pass.{IsReachable, Pass, Stretch};
 ghost use Rattle.standing.specs.Prefixes.{IsPrefix};
 ghost use Rattle.standing.specs.Reached.{Reached};
 ghost use Rattle.standing.specs.Rows.{Checkpoint, IsRowAt, Row, no_checkpoint};
-ghost use Rattle.standing.specs.Rules.{Rules, entries_of, output_text};
+ghost use Rattle.standing.specs.Rules.{Rules, entries_of, output_text, Includes};
 ghost use Rattle.standing.specs.Standing.{Found, Lengthens, Sound, Standing, checkpoint_of, found, kept};
 ghost use Rattle.standing.specs.Stands.{CheckpointStands, IsSound, LinesStand, RowStands, Stands};
 ghost use Rattle.standing.specs.Sums.{AreSums, IsReached, Sums, TellNothingLeft};
@@ -109,7 +109,7 @@ pub fn a_complete_pass_reaches_all()
         → IsLawful stretch.new → KeepsNames stretch.old stretch.new
         → Stands rules stretch.old before.rows before.next_id output
         → AreSums rules first stretch looks before after added pass sums → TellNothingLeft sums
-        → IsTrue (rules.includes path) → IsReachable path → IsNamed stretch.new path file
+        → Includes rules path → IsReachable path → IsNamed stretch.new path file
         → (here : Look) × Contains looks here × (here.file ≡ file)
         × (0 < size here → IsReached rules stretch.new after.rows here) }
 {}

@@ -1,7 +1,6 @@
-use Rattle.std.proofs.Common.{ap, List, map, length, subst, ℕ, ◌<◌}
+use Rattle.std.proofs.Common.{ap, List, length, subst, ℕ, ◌<◌}
 use Rattle.graph_core.specs.Traces.{network_of}
 use Rattle.op_kinds.specs.Operator.{behavior_of}
-use Rattle.settings_text.specs.SettingsData.{settings_data, operator_data}
 use Rattle.settings_text.specs.declared.settings.OpSpec.{OpSpec}
 use Rattle.pipeline.specs.BuildFaults.{IsFineAt}
 use Rattle.pipeline.specs.Wired.{AreNodes}
@@ -10,10 +9,10 @@ use Rattle.pipeline.proofs.Pipeline.build.Goals as goal
 
 pub returns-in-Ok-clause-network : goal.returns-in-Ok-clause-network
 returns-in-Ok-clause-network c =
-    let fine = subst (λ (specs : List OpSpec). (k : ℕ) → k < length (map operator_data specs) → IsFineAt (map operator_data specs) k) c.deref.ensures.value c.in_ok-nodes.ensures.fine in
-    let are = subst (λ (specs : List OpSpec). AreNodes (map operator_data specs) c.in_ok-nodes.nodes.items) c.deref.ensures.value c.in_ok-nodes.ensures.nodes in
+    let fine = subst (λ (specs : List OpSpec). (k : ℕ) → k < length specs → IsFineAt specs k) c.as_slice-3.ensures c.in_ok-nodes.ensures.fine in
+    let are = subst (λ (specs : List OpSpec). AreNodes specs c.in_ok-nodes.nodes.items) c.as_slice-3.ensures c.in_ok-nodes.ensures.nodes in
     record {
-      differ = own_ids (settings_data c.args.settings).operators fine;
+      differ = own_ids c.args.settings.operators fine;
       nodes = c.in_ok-nodes.nodes.items;
       are = are;
       accepted = c.in-Ok.ensures.accepted.1;

@@ -1,12 +1,11 @@
 use Rattle.std.proofs.Common.{◌≡◌, ℕ, ◌<◌, length, map}
 use Rattle.pipeline.specs.BuildFaults.{IsFineAt, ids_before}
 use Rattle.pipeline.specs.Listed.{AreFirstOperators}
-use Rattle.settings_text.specs.SettingsData.{operator_data}
 use Rattle.pipeline.proofs.build.ops_of.Given as goal
 
 abbrev pub invariant-loop-place : goal.invariant-loop-place
 invariant-loop-place l =
-    let operators = map operator_data l.specs in
+    let operators = l.specs in
     record {
       many : length l.ops.items ≡ l.place;
       ops : AreFirstOperators operators l.ops.items;

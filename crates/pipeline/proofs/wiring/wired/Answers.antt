@@ -1,16 +1,15 @@
-use Rattle.std.proofs.Common.{◌≡◌, ◌+◌, ◌<◌, ◌∷◌, [], length, map, ap, sym, subst, ◌∙◌, arith, length-append}
+use Rattle.std.proofs.Common.{◌≡◌, ◌+◌, ◌<◌, ◌∷◌, [], length, ap, sym, subst, ◌∙◌, arith, length-append}
 use Rattle.std.specs.Prelude.{Some, slice_get}
 use Rattle.pipeline.specs.Listed.{AreOperatorsFrom}
 use Rattle.pipeline.specs.Wired.{ids_of, ports_for}
-use Rattle.settings_text.specs.SettingsData.{operator_data}
 use Rattle.pipeline.proofs.Building.{spec_at, one_more_node, operators_behind, first_operator}
 use Rattle.pipeline.proofs.wiring.wired.Goals as goal
 
 pub wiring-preserved : goal.wiring-preserved
 wiring-preserved c =
-    let operators = map operator_data c.args.specs.now in
+    let operators = c.args.specs.now in
     let count = length c.wiring.nodes.items in
-    let spec = operator_data c.index-specs-place.result in
+    let spec = c.index-specs-place.result in
     let place : c.len-place.result ≡ count = omega (arith, c.len-place.ensures, c.wiring.nodes.ok.0) in
     let within : count < length c.args.specs.now = omega (arith, c.wiring.invariant.many, ap length c.in-Some.ensures.items) in
     let there : slice_get operators count ≡ Some spec = spec_at c.args.specs.now count c.index-specs-place.result within (rw place at c.index-specs-place.is) in

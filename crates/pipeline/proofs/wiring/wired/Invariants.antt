@@ -1,12 +1,11 @@
-use Rattle.std.proofs.Common.{◌≡◌, ◌+◌, length, map}
+use Rattle.std.proofs.Common.{◌≡◌, ◌+◌, length}
 use Rattle.pipeline.specs.Listed.{AreOperatorsFrom}
 use Rattle.pipeline.specs.Wired.{AreFirstNodes}
-use Rattle.settings_text.specs.SettingsData.{operator_data}
 use Rattle.pipeline.proofs.wiring.wired.Given as goal
 
 abbrev pub invariant-wiring : goal.invariant-wiring
 invariant-wiring l =
-    let operators = map operator_data l.specs in
+    let operators = l.specs in
     record {
       many : length l.nodes.items + length l.ops.items ≡ length l.specs;
       left : AreOperatorsFrom (length l.nodes.items) operators l.ops.items;

@@ -1,0 +1,9 @@
+pub mod Calls
+pub mod Depth
+pub mod Entered
+pub mod Finished
+pub mod Gained
+pub mod Starts
+pub mod Reached
+pub mod Times
+pub mod Walked

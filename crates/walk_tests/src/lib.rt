@@ -1,0 +1,5 @@
+//! Walks for patterns over the tree in memory. Tests alone.
+#![tactic(auto)]
+
+#[cfg(test)]
+mod walks;
