@@ -8,13 +8,13 @@ use Rattle.std.proofs.lemmas.List.{append-nil, nil_from_length}
 use Rattle.file_tracker.specs.declared.tracker.TheConstants.{ROW_LIMIT}
 use Rattle.state_codec.specs.Spelling.{bytes_spelling}
 use Rattle.state_codec.specs.Reading.{Reading, ◌>>=◌, bytes_at}
-use Rattle.state_codec.proofs.Numbers.{IsBytes, bytes_behind, Takes, takes_both, bind_ok, ok_is, test_ok, guard_ok, err_or_ok, wide32, wide64, bytes_takes, bytes_again}
+use Rattle.state_codec.proofs.Numbers.{IsBytes, bytes_behind, Takes, takes_both, bind_ok, ok_is, test_ok, guard_ok, wide32, wide64, bytes_takes, bytes_again}
 use Rattle.checkpoint_store.specs.declared.TheConstants.{OUTPUT_LIMIT}
 use Rattle.checkpoint_store.specs.declared.Checkpoint.{Checkpoint}
 use Rattle.checkpoint_store.specs.Rules.{IsCheckpoint}
 use Rattle.checkpoint_store.specs.Spelling.{row_spelling, rows_spelling, checkpoint_spelling}
 use Rattle.checkpoint_store.specs.Reading.{number_within, rows_at, version_at, checkpoint_at, whole_checkpoint}
-use Rattle.checkpoint_store.specs.Decodes.{Spells, SpellsNone}
+use Rattle.checkpoint_store.specs.Decodes.{Spells}
 use Rattle.checkpoint_store.proofs.RowLaws.{both_true, within_takes, within_again, rows_take, rows_again}
 
 version_takes : (bytes : List ℕ) (x : ℕ × List ℕ) → IsBytes bytes → version_at bytes ≡ Ok x → Takes bytes (1 ∷ []) x.1
@@ -124,9 +124,3 @@ whole_step bytes c read = rw read refl
 
 pub whole_again : (c : Checkpoint) → IsCheckpoint c → whole_checkpoint (checkpoint_spelling c) ≡ Ok c
 whole_again c lawful = whole_step (checkpoint_spelling c) c (ap checkpoint_at (sym (append-nil (checkpoint_spelling c))) ∙ checkpoint_again c [] lawful)
-
-pub spells_none : (bytes : List ℕ) (left fault : ℕ) → whole_checkpoint bytes ≡ Err left → fault ≡ length bytes - left → SpellsNone bytes fault
-spells_none bytes left fault fails is = record {
-  none = λ c lawful spelled. err_or_ok (whole_checkpoint bytes) left c fails (ap whole_checkpoint spelled ∙ whole_again c lawful);
-  place = (left, fails, is);
-}

@@ -2,3 +2,11 @@ pub mod PutLemmas
 pub mod RowLoop
 pub mod RowLaws
 pub mod CheckpointLaws
+pub mod Ascending
+pub mod ChangeLaws
+pub mod Changing
+pub mod Told
+pub mod Determined
+pub mod FairCheckpoints
+pub mod CheckpointEnds
+pub mod ChangeEnds

@@ -1,4 +1,8 @@
 pub mod Rules
 pub mod Spelling
 pub mod Reading
+pub mod DeadEnds
 pub mod Decodes
+pub mod Fits
+pub mod Changed
+pub mod Applied

@@ -1,11 +1,13 @@
 -- What stands at the front of some bytes, or where it can't go on.
-use Rattle.std.specs.Prelude.{ℕ, zero, suc, ◌+◌, ◌-◌, if◌then◌else◌, List, [], ◌∷◌, length, nat_lt, nat_le, ◌&&◌, Result, Ok, Err}
+use Rattle.std.specs.Prelude.{ℕ, zero, suc, ◌+◌, ◌-◌, if◌then◌else◌, List, [], ◌∷◌, length, nat_lt, nat_le, ◌&&◌, ◌==◌, Bool, Result, Ok, Err}
+use Rattle.std.specs.List.{filter}
 use Rattle.std.specs.Int.{Width, w32, w64}
 use Rattle.file_tracker.specs.declared.row.Row.{Row}
 use Rattle.file_tracker.specs.declared.tracker.TheConstants.{ROW_LIMIT}
 use Rattle.state_codec.specs.Reading.{Reading, ◌>>=◌, number_at, bytes_at, text_at}
 use Rattle.checkpoint_store.specs.declared.TheConstants.{FRONT_LIMIT, OFFSET_LIMIT, OUTPUT_LIMIT}
 use Rattle.checkpoint_store.specs.declared.Checkpoint.{Checkpoint}
+use Rattle.checkpoint_store.specs.declared.Change.{Change}
 
 -- a number against the rules can't be there at all
 unfoldable pub number_within : Width → ℕ → ℕ → List ℕ → Reading ℕ
@@ -68,3 +70,30 @@ checkpoint_at bytes = do
 -- a checkpoint, and nothing behind it
 unfoldable pub whole_checkpoint : List ℕ → Result Checkpoint ℕ
 whole_checkpoint bytes = checkpoint_at bytes >>= λ c. if nat_lt 0 (length c.1) then Err (length c.1) else Ok c.0
+
+-- ---- changes
+
+-- so many rows by ascending id, from `low` to `high`
+abbrev pub ascending_at : ℕ → ℕ → ℕ → ℕ → List ℕ → Reading (List Row)
+ascending_at output_length low high zero bytes = Ok ([], bytes)
+ascending_at output_length low high (suc n) bytes = do
+  row ← row_at output_length low high bytes
+  rows ← ascending_at output_length (row.0.id + 1) high n row.1
+  Ok (row.0 ∷ rows.0, rows.1)
+
+-- whether all ids from `first` up to `next` are there, in rows whose ids ascend below `next`
+abbrev pub has_new : ℕ → ℕ → List Row → Bool
+has_new first next rows = length (filter (λ row. nat_le first row.id) rows) == next - first
+
+-- a change of what has this output length and next id; where a new id is missing, the count of rows can't be there
+unfoldable pub change_at : ℕ → ℕ → List ℕ → Reading Change
+change_at output_length next_id bytes = do
+  output ← number_within w64 output_length OUTPUT_LIMIT bytes
+  next ← number_within w32 next_id (ROW_LIMIT + 1) output.1
+  count ← number_within w32 (next.0 - next_id) (next.0 - 1) next.1
+  rows ← ascending_at output.0 1 (next.0 - 1) count.0 count.1
+  if has_new next_id next.0 rows.0 then Ok (record { output_length = output.0; next_id = next.0; rows = rows.0 }, rows.1) else Err (length next.1)
+
+-- a change, and nothing behind it
+unfoldable pub whole_change : ℕ → ℕ → List ℕ → Result Change ℕ
+whole_change output_length next_id bytes = change_at output_length next_id bytes >>= λ c. if nat_lt 0 (length c.1) then Err (length c.1) else Ok c.0

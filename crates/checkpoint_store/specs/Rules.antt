@@ -6,6 +6,10 @@ use Rattle.state_codec.specs.Rules.{IsShortText}
 use Rattle.checkpoint_store.specs.declared.TheConstants.{FRONT_LIMIT, OFFSET_LIMIT, OUTPUT_LIMIT}
 use Rattle.checkpoint_store.specs.declared.Checkpoint.{Checkpoint}
 
+-- the first byte of a checkpoint
+abbrev pub IsVersion : ℕ → Type 0
+IsVersion version = version ≡ 1
+
 -- a row, beside an output of this length
 pub record KeepsRules (output_length : ℕ) (row : Row) : Type 0 where
   pub id : row.id < 2 ^ 32

@@ -2,22 +2,30 @@
 //! next.
 //!
 //! **The contract for the layer above.** A checkpoint has one spelling (`checkpoint_spelling`), which [`encode`] appends
-//! and [`decode`] reads; a row and a change have one each, which [`put_row`] and [`encode_change`] append. Each row keeps
-//! one set of rules (`KeepsRules`). What keeps the rules is read; all else is refused at the exact byte, a number against
-//! the rules at its first one.
+//! and [`decode`] reads. A change has one (`change_spelling`), which [`encode_change`] appends; [`apply`] reads it and
+//! answers what it makes of the checkpoint before it (`changed`). A row has one in both, which [`put_row`] appends, and
+//! keeps one set of rules (`KeepsRules`). What keeps the rules, and of a change what fits the checkpoint before it
+//! (`Fits`), is read; all else is refused at the exact byte, a number against the rules at its first one. No spelling
+//! begins another of its kind, and exactly the rows of a change are changed ([`laws`]).
 //!
 //! A checkpoint is the byte 01, the settings as bytes, a u64 output length (at most 2^40), a u32 next id, a u32 count of
 //! rows, the rows with the ids 1, 2, .. in order, and nothing after. A row is a u32 id, the path as text, the front as
 //! bytes (1 to 4,096), u64 start, offset, records and lines, and the state as bytes. A change is a u64 output length, a
-//! u32 next id, a u32 count of rows, the rows by ascending id, and nothing after.
+//! u32 next id, a u32 count of rows, the rows by ascending id, and nothing after. Neither number falls by a change, and
+//! each id from the next one before up to the new one is there; where one is missing, the count of rows is refused.
 #![tactic(auto)]
 
+#[cfg(test)]
+mod change_tests;
+mod changes;
+pub mod laws;
 mod put;
 mod read;
 mod rows;
 #[cfg(test)]
 mod tests;
 
+pub use changes::apply;
 use file_tracker::Bytes;
 pub use put::{encode, encode_change, put_row};
 pub use read::decode;

@@ -1,5 +1,5 @@
 // The readers of rows and checkpoints.
-ghost use Rattle.std.specs.Prelude.{◌≡◌, ◌+◌, ◌-◌};
+ghost use Rattle.std.specs.Prelude.{◌≡◌, ◌+◌, ◌-◌, ◌≤◌, IfOk};
 ghost use Rattle.std.specs.Int.{w32, w64};
 ghost use Rattle.state_codec.specs.Gives.{Gives};
 ghost use Rattle.checkpoint_store.specs.Decodes.{Decodes};
@@ -13,8 +13,9 @@ use state_codec::read::{read_bytes, read_text, read_u32, read_u64};
 use std::alloc::Global;
 
 #[tactic(auto, unfolding(crate::specs::Reading::number_within))]
-fn read_u32_within(low: u32, high: u32, bytes: &[u8]) -> Result<(u32, &[u8]), Fault>
-    ensures { Gives (λ x. (x.0, x.1.now)) result (number_within w32 low high bytes.now) }
+pub fn read_u32_within(low: u32, high: u32, bytes: &[u8]) -> Result<(u32, &[u8]), Fault>
+    ensures exact { Gives (λ x. (x.0, x.1.now)) result (number_within w32 low high bytes.now) }
+    ensures within { IfOk result (λ x. x.0 ≤ high) }
 {
     let (number, rest) = read_u32(bytes)?;
     if number < low || number > high {
@@ -24,7 +25,7 @@ fn read_u32_within(low: u32, high: u32, bytes: &[u8]) -> Result<(u32, &[u8]), Fa
 }
 
 #[tactic(auto, unfolding(crate::specs::Reading::number_within))]
-fn read_u64_within(low: u64, high: u64, bytes: &[u8]) -> Result<(u64, &[u8]), Fault>
+pub fn read_u64_within(low: u64, high: u64, bytes: &[u8]) -> Result<(u64, &[u8]), Fault>
     ensures { Gives (λ x. (x.0, x.1.now)) result (number_within w64 low high bytes.now) }
 {
     let (number, rest) = read_u64(bytes)?;
@@ -45,14 +46,15 @@ fn read_front(alloc: Global, bytes: &[u8]) -> Result<(Bytes, &[u8]), Fault>
 
 /// A row beside an output of this length, whose id is between the two.
 #[tactic(auto, unfolding(crate::specs::Reading::row_at))]
-fn read_row(
+pub fn read_row(
     alloc: Global,
     output_length: u64,
     low: u32,
     high: u32,
     bytes: &[u8],
 ) -> Result<(Row, &[u8]), Fault>
-    ensures { Gives (λ x. (x.0, x.1.now)) result (row_at output_length low high bytes.now) }
+    ensures exact { Gives (λ x. (x.0, x.1.now)) result (row_at output_length low high bytes.now) }
+    ensures within { IfOk result (λ x. x.0.id ≤ high) }
 {
     let (id, rest) = read_u32_within(low, high, bytes)?;
     let (path, rest) = read_text(alloc, rest)?;

@@ -19,23 +19,29 @@ const ONE_ROW: [u8; 71] = [
 // Which byte is changed to what, and where the bytes are then no checkpoint.
 type Damage = (usize, u8, usize);
 
-const DAMAGES: [Damage; 14] = [
+const DAMAGES: [Damage; 20] = [
     (0, 2, 0),
-    // Settings and state longer than what is there.
+    // Settings, path and state longer than what is there.
     (4, 200, 71),
+    (28, 200, 71),
     (70, 1, 71),
     // Output longer than 2^40 bytes.
     (7, 1, 5),
     (6, 1, 5),
-    // Next id 0 and past the limit, and another count than it says.
+    // Next id 0 and past the limit, and a smaller and a larger count than it says.
     (16, 0, 13),
     (14, 1, 13),
+    (20, 0, 17),
     (20, 2, 17),
-    // Id 2, a path that is no text, an empty front.
+    // Ids 0 and 2, a path that is no text, fronts of no bytes and of 4,097.
+    (24, 0, 21),
     (24, 2, 21),
     (29, 0xFF, 29),
     (33, 0, 30),
-    // Start above the offset, more records than bytes, more lines than the output has bytes.
+    (32, 0x10, 30),
+    // Start and offset above 2^62, start above the offset, more records than bytes, more lines than the output has bytes.
+    (35, 0x80, 35),
+    (43, 0x80, 43),
     (42, 4, 43),
     (58, 3, 51),
     (66, 10, 59),

@@ -5,6 +5,8 @@
 #![tactic(auto)]
 
 #[cfg(test)]
+mod journals;
+#[cfg(test)]
 mod logs;
 #[cfg(test)]
 mod slots;

@@ -1,4 +1,10 @@
-use crate::slots::Told;
+ghost use Rattle.std.specs.Prelude.{◌≤◌, length, IfOk};
+ghost use Rattle.mem_world.specs.MemDisk.{disk_images};
+ghost use Rattle.record_log.specs.LogOf.{EndsWith};
+ghost use Rattle.slot_store.specs.ChosenSlot.{IsSlotFile};
+ghost use Rattle.slot_store.specs.Synced.{EachLeft};
+
+use crate::slots::{Fault, Told};
 use mem_world::MemDisk;
 use outside::DiskFile;
 use record_log::{Log, read, rewrite};
@@ -105,6 +111,120 @@ fn a_stopped_rewrite_leaves_the_old_log_or_the_new(rt: HostRuntime) -> Result<()
                 expected,
                 "{calls} calls, outcome {outcome}"
             );
+        }
+    }
+    Ok(())
+}
+
+// A disk with a log of this base alone.
+fn started(alloc: Global, base: &[u8]) -> Result<(MemDisk, Log), Fail>
+    requires { length base.now ≤ 100 }
+    ensures stands { IfOk result (λ made. EachLeft disk_images made.0 (EndsWith made.1)) }
+    ensures file { IfOk result (λ made. IsSlotFile made.1.slot.file) }
+    ensures end { IfOk result (λ made. made.1.end ≤ 117) }
+{
+    let mut disk = MemDisk::new(alloc)?;
+    let log = rewrite(alloc, &mut disk, None, base)?;
+    Ok((disk, log))
+}
+
+// The append of `more` over a base and a record, the crash and what it leaves.
+fn crashed_append(alloc: Global, fault: Fault, outcome: u32) -> Result<(bool, MemDisk), Fail> {
+    let (mut disk, log) = started(alloc, b"base")?;
+    let log = log.append(alloc, &mut disk, b"a")?;
+    fault.set(alloc, &mut disk)?;
+    let result = log.append(alloc, &mut disk, b"more");
+    Ok((result.is_ok(), disk.crash(alloc, outcome)?))
+}
+
+#[test]
+fn a_stopped_append_leaves_the_log_with_or_without_the_record(rt: HostRuntime) -> Result<(), Fail> {
+    let alloc = rt.alloc();
+    for calls in 0..7u32 {
+        for outcome in 0..5u32 {
+            let (appended, mut disk) = crashed_append(alloc, Fault::Stop(calls), outcome)?;
+            assert_eq!(rt; appended, calls == 6, "after {calls} calls");
+            // The fifth call writes the gate, and outcome 1 leaves it as it was written.
+            let is_new = calls == 6 || calls >= 4 && outcome == 1;
+            let expected = if is_new {
+                b"base,a,more,".as_slice()
+            } else {
+                b"base,a,"
+            };
+            let text = joined(alloc, &mut disk)?;
+            assert_eq!(rt;
+                text.as_slice(),
+                expected,
+                "{calls} calls, outcome {outcome}"
+            );
+        }
+    }
+    Ok(())
+}
+
+#[test]
+fn an_append_with_a_failing_call_leaves_the_log_with_or_without_the_record(
+    rt: HostRuntime,
+) -> Result<(), Fail> {
+    let alloc = rt.alloc();
+    for call in 1..7u32 {
+        for outcome in 0..5u32 {
+            let (appended, mut disk) = crashed_append(alloc, Fault::Fails(call), outcome)?;
+            assert!(rt; !appended, "call {call} failed");
+            // The sixth call is the sync of the gate.
+            let is_new = call == 6 && outcome == 1;
+            let expected = if is_new {
+                b"base,a,more,".as_slice()
+            } else {
+                b"base,a,"
+            };
+            let text = joined(alloc, &mut disk)?;
+            assert_eq!(rt; text.as_slice(), expected, "call {call}, outcome {outcome}");
+            let before = log_of(alloc, &mut disk)?;
+            let next = rewrite(alloc, &mut disk, before.as_ref(), b"new")?;
+            assert_eq!(rt; next.sequence, if is_new { 4 } else { 3 });
+        }
+    }
+    Ok(())
+}
+
+#[test]
+fn an_append_is_spelled_behind_the_last_record(rt: HostRuntime) -> Result<(), Fail> {
+    let alloc = rt.alloc();
+    let (mut disk, log) = started(alloc, b"base")?;
+    let log = log.append(alloc, &mut disk, b"a")?;
+    assert_eq!(rt; log.end, 39);
+    assert_eq!(rt; log.sequence, 2);
+    assert_eq!(rt; log.slot.file, DiskFile::SlotA);
+    let mut spelled = Told(0xa5, 1, 4, b"base").bytes(alloc)?;
+    spelled.extend_from_slice(&Told(0xa5, 2, 1, b"a").bytes(alloc)?)?;
+    assert_eq!(rt; disk.bytes(DiskFile::SlotA), spelled.as_slice());
+    assert!(rt; disk.bytes(DiskFile::SlotB).is_empty());
+    Ok(())
+}
+
+#[test]
+fn a_rewrite_with_a_failing_call_leaves_the_old_log_or_the_new(
+    rt: HostRuntime,
+) -> Result<(), Fail> {
+    let alloc = rt.alloc();
+    let frames = [BASE, Told(0xa5, 8, 1, b"a")];
+    for call in 1..9u32 {
+        for outcome in 0..5u32 {
+            let mut disk = disk_of(alloc, &frames)?;
+            let before = log_of(alloc, &mut disk)?;
+            disk.fail(alloc, call)?;
+            let result = rewrite(alloc, &mut disk, before.as_ref(), b"new");
+            assert!(rt; result.is_err(), "call {call} failed");
+            let mut disk = disk.crash(alloc, outcome)?;
+            // The eighth call is the sync of the gate.
+            let expected = if call == 8 && outcome == 1 {
+                b"new,".as_slice()
+            } else {
+                b"base,a,"
+            };
+            let text = joined(alloc, &mut disk)?;
+            assert_eq!(rt; text.as_slice(), expected, "call {call}, outcome {outcome}");
         }
     }
     Ok(())

@@ -41,23 +41,35 @@ fn payload(alloc: Global, disk: &mut MemDisk) -> Result<Vec<u8>, Fail> {
     }
 }
 
-// How a commit goes wrong.
+// How a commit, an append or a rewrite goes wrong.
 #[derive(Clone, Copy, PartialEq)]
-enum Fault {
+pub(crate) enum Fault {
     // The process stops after so many calls.
     Stop(u32),
     // The call with this number fails.
     Fails(u32),
 }
 
+impl Fault {
+    ghost use Rattle.std.specs.Prelude.{◌≡◌};
+    ghost use Rattle.mem_world.specs.MemDisk.{history_of};
+
+    pub(crate) fn set(self, alloc: Global, disk: &mut MemDisk) -> Result<(), AllocError>
+        ensures { history_of disk.new ≡ history_of disk.old }
+    {
+        match self {
+            Fault::Stop(calls) => disk.fuse(calls),
+            Fault::Fails(call) => disk.fail(alloc, call)?,
+        }
+        Ok(())
+    }
+}
+
 // The commit of `new` over OLD and STALE, the crash and what it leaves.
 fn crashed(alloc: Global, fault: Fault, outcome: u32) -> Result<(bool, MemDisk), Fail> {
     let mut disk = disk_of(alloc, OLD, STALE)?;
     let before = choose(&mut disk)?;
-    match fault {
-        Fault::Stop(calls) => disk.fuse(calls),
-        Fault::Fails(call) => disk.fail(alloc, call)?,
-    }
+    fault.set(alloc, &mut disk)?;
     let result = commit(alloc, &mut disk, before.as_ref(), b"new");
     Ok((result.is_ok(), disk.crash(alloc, outcome)?))
 }

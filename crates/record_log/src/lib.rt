@@ -10,6 +10,7 @@
 //! of the layer above.
 #![tactic(auto)]
 
+pub mod laws;
 mod log;
 mod parsing;
 mod reading;

@@ -1,5 +1,5 @@
 // The log of a disk.
-ghost use Rattle.std.specs.Prelude.{◌≡◌, Some, IsTrue, IfOk, IfSome};
+ghost use Rattle.std.specs.Prelude.{◌≡◌, length, Some, IsTrue, IfOk, IfSome};
 ghost use Rattle.outside.specs.Count.{HasCause};
 ghost use Rattle.slot_store.specs.ChosenSlot.{IsSlotFile, chosen_slot};
 ghost use Rattle.slot_store.specs.OnlyRead.{OnlyRead};
@@ -23,10 +23,11 @@ pub struct Contents {
 }
 
 /// The log that counts: that of the chosen slot, with the records behind its payload. None where no slot is open.
-/// Nothing is written.
+/// Nothing is written. The slot's length is that of the base, on a disk that tells nothing too.
 pub fn read<D: Disk>(alloc: Global, disk: &mut D) -> Result<Option<Contents>, CallFault>
     ensures found { IfOk result (λ found. IsTrue (D.meaning.images.tells disk.old) → FoundIn found (D.meaning.images.seen disk.old)) }
     ensures file { IfOk result (λ found. IfSome found (λ found. IsSlotFile found.log.slot.file)) }
+    ensures whole { IfOk result (λ found. IfSome found (λ found. found.log.slot.length ≡ length found.base.items)) }
     ensures only_read { OnlyRead D.meaning disk.old disk.new }
     ensures cause { HasCause result (D.meaning.faults disk.old) (D.meaning.faults disk.new) }
 {
@@ -44,11 +45,17 @@ pub fn read<D: Disk>(alloc: Global, disk: &mut D) -> Result<Option<Contents>, Ca
 fn read_behind<D: Disk>(alloc: Global, disk: &mut D, slot: Slot) -> Result<Contents, CallFault>
     ensures found { IfOk result (λ found. IsTrue (D.meaning.images.tells disk.old)
         → chosen_slot (D.meaning.images.seen disk.old) ≡ Some slot → FoundIn (Some found) (D.meaning.images.seen disk.old)) }
-    ensures slot { IfOk result (λ found. found.log.slot ≡ slot) }
+    ensures file { IfOk result (λ found. found.log.slot.file ≡ slot.file) }
+    ensures whole { IfOk result (λ found. found.log.slot.length ≡ length found.base.items) }
     ensures only_read { OnlyRead D.meaning disk.old disk.new }
     ensures cause { HasCause result (D.meaning.faults disk.old) (D.meaning.faults disk.new) }
 {
     let base = load(alloc, disk, &slot)?;
+    // A file that gets shorter meanwhile ends there.
+    let slot = Slot {
+        length: base.len() as u64,
+        ..slot
+    };
     let size = match disk.length(slot.file) {
         Ok(size) => size,
         Err(Failed) => return Err(CallFault::Failed),

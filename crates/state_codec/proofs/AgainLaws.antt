@@ -5,7 +5,8 @@ use Rattle.std.proofs.lemmas.Int.{to_z-of_z}
 use Rattle.std.proofs.Math.Facts.{Fits-of_z}
 use Rattle.entry_model.specs.Datum.{Datum, null, boolean, int, text, list, fields, Items, no_items, item, Members, no_members, member, items_of, members_of}
 use Rattle.state_codec.specs.Spelling.{bytes_spelling, value_spelling, items_spelling, members_spelling, item_count, member_count}
-use Rattle.state_codec.specs.Rules.{KeysAscend, IsLawful, AreLawful, AreLawfulMembers, nesting, items_nesting, members_nesting}
+use Rattle.entry_model.specs.Lawful.{KeysAscend, nesting, items_nesting, members_nesting}
+use Rattle.state_codec.specs.Rules.{IsSpellable, AreSpellable, AreSpellableMembers}
 use Rattle.state_codec.specs.Reading.{DatumReader, number_at, text_at, items_at, members_at, is_behind, list_at, map_at, leaf_at, value_at, fields_at}
 use Rattle.state_codec.proofs.Values.{value_of_list, value_of_map, value_of_other}
 use Rattle.state_codec.proofs.Numbers.{wide32, wide64, number_again, text_again}
@@ -77,7 +78,7 @@ map_read : (room : ℕ) (bytes rest : List ℕ) (members : Members) → 0 < room
 map_read room bytes rest members some read = value_of_map room bytes some ∙ rw read (ap (λ (m : Members). Ok (fields m, rest)) (members_of-pairs_of members))
 
 mutual
-  pub value_again : (d : Datum) (room : ℕ) (rest : List ℕ) → IsLawful d → nesting d ≤ room → value_at room (value_spelling d ++ rest) ≡ Ok (d, rest)
+  pub value_again : (d : Datum) (room : ℕ) (rest : List ℕ) → IsSpellable d → nesting d ≤ room → value_at room (value_spelling d ++ rest) ≡ Ok (d, rest)
   value_again null room rest lawful shallow = value_of_other room 0 rest (λ e. omega (arith, e)) (λ e. omega (arith, e)) ∙ leaf_null rest
   value_again (boolean false) room rest lawful shallow = value_of_other room 1 rest (λ e. omega (arith, e)) (λ e. omega (arith, e)) ∙ leaf_false rest
   value_again (boolean true) room rest lawful shallow = value_of_other room 2 rest (λ e. omega (arith, e)) (λ e. omega (arith, e)) ∙ leaf_true rest
@@ -101,14 +102,14 @@ mutual
       (number_again w32 (2 ^ 32) wide32 (member_count members) (members_spelling members ++ rest) lawful.0)
       (members_again members None (room - 1) rest lawful.1.0 lawful.1.1 (omega arith)))
 
-  items_again : (items : Items) (room : ℕ) (rest : List ℕ) → AreLawful items → items_nesting items ≤ room → items_at (value_at room) (item_count items) (items_spelling items ++ rest) ≡ Ok (list_of items, rest)
+  items_again : (items : Items) (room : ℕ) (rest : List ℕ) → AreSpellable items → items_nesting items ≤ room → items_at (value_at room) (item_count items) (items_spelling items ++ rest) ≡ Ok (list_of items, rest)
   items_again no_items room rest lawful shallow = refl
   items_again (item first more) room rest lawful shallow =
       ap (items_at (value_at room) (suc (item_count more))) (append_assoc (value_spelling first) (items_spelling more) rest)
       ∙ item_step (value_at room) (item_count more) (value_spelling first ++ (items_spelling more ++ rest)) (items_spelling more ++ rest) rest first (list_of more)
       (value_again first room (items_spelling more ++ rest) lawful.0 (omega arith)) (items_again more room rest lawful.1 (omega arith))
 
-  members_again : (members : Members) (before : Option (List ℕ)) (room : ℕ) (rest : List ℕ) → AreLawfulMembers members → KeysAscend before members → members_nesting members ≤ room
+  members_again : (members : Members) (before : Option (List ℕ)) (room : ℕ) (rest : List ℕ) → AreSpellableMembers members → KeysAscend before members → members_nesting members ≤ room
       → members_at (value_at room) before (member_count members) (members_spelling members ++ rest) ≡ Ok (pairs_of members, rest)
   members_again no_members before room rest lawful ascend shallow = refl
   members_again (member key value more) before room rest lawful ascend shallow =
@@ -122,7 +123,7 @@ mutual
 
 -- ---- the maps of an entry
 
-map_again : (members : Members) (room : ℕ) (rest : List ℕ) → IsLawful (fields members) → members_nesting members ≤ room
+map_again : (members : Members) (room : ℕ) (rest : List ℕ) → IsSpellable (fields members) → members_nesting members ≤ room
     → map_at (value_at room) ((to_be_bytes w32 (member_count members) ++ members_spelling members) ++ rest) ≡ Ok (pairs_of members, rest)
 map_again members room rest lawful shallow =
     ap (map_at (value_at room)) (append_assoc (to_be_bytes w32 (member_count members)) (members_spelling members) rest)
@@ -130,7 +131,7 @@ map_again members room rest lawful shallow =
     (number_again w32 (2 ^ 32) wide32 (member_count members) (members_spelling members ++ rest) lawful.0)
     (members_again members None room rest lawful.1.0 lawful.1.1 shallow)
 
-pub fields_again : (members : Members) (room : ℕ) (rest : List ℕ) → IsLawful (fields members) → nesting (fields members) ≤ suc room
+pub fields_again : (members : Members) (room : ℕ) (rest : List ℕ) → IsSpellable (fields members) → nesting (fields members) ≤ suc room
     → fields_at room (value_spelling (fields members) ++ rest) ≡ Ok (pairs_of members, rest)
 unfolding fields_at
 fields_again members room rest lawful shallow = map_again members room rest lawful (omega arith)

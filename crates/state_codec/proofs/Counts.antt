@@ -10,7 +10,7 @@ use Rattle.entry_model.specs.LogRecord.{members_in}
 use Rattle.entry_model.specs.Seen.{seen}
 use Rattle.entry_model.specs.declared.value.Value.{Value}
 use Rattle.state_codec.specs.Spelling.{item_count, member_count}
-use Rattle.state_codec.specs.Rules.{KeysAscend}
+use Rattle.entry_model.specs.Lawful.{KeysAscend}
 use Rattle.state_codec.proofs.Keys.{cmp}
 use Rattle.std.proofs.Common.{true, true≢false}
 

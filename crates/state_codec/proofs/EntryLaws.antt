@@ -6,7 +6,8 @@ use Rattle.std.proofs.lemmas.Bool.{eqb-true, ne_eqb, leb-true, le-leb}
 use Rattle.entry_model.specs.Datum.{Datum, fields, members_of}
 use Rattle.entry_model.specs.LogRecord.{LogRecord}
 use Rattle.state_codec.specs.Spelling.{bytes_spelling, value_spelling, time_spelling, entry_spelling}
-use Rattle.state_codec.specs.Rules.{IsLawfulEntry, nesting}
+use Rattle.entry_model.specs.Lawful.{nesting}
+use Rattle.state_codec.specs.Rules.{IsSpellableEntry}
 use Rattle.state_codec.specs.Reading.{number_at, text_at, map_at, value_at, fields_at, severity_at, time_at, entry_within}
 use Rattle.state_codec.proofs.Numbers.{IsBytes, bytes_behind, Takes, takes_both, takes_tag, err_or_ok, bind_ok, ok_is, test_ok, wide64, number_takes, number_again, text_takes, text_again}
 use Rattle.state_codec.proofs.ValueLaws.{TakesDatum, value_behind, value_takes, map_takes}
@@ -31,7 +32,7 @@ severity_again : (n : ℕ) (rest : List ℕ) → n ≤ 24 → severity_at (n ∷
 unfolding severity_at
 severity_again n rest small = rw (le-leb n 24 small) refl
 
-time_other : (flag : ℕ) (rest : List ℕ) → 2 ≤ flag → time_at (flag ∷ rest) ≡ Err (suc (length rest))
+pub time_other : (flag : ℕ) (rest : List ℕ) → 2 ≤ flag → time_at (flag ∷ rest) ≡ Err (suc (length rest))
 unfolding time_at
 time_other flag rest over = rw (ne_eqb flag 0 (λ h. omega (arith, h)), ne_eqb flag 1 (λ h. omega (arith, h))) refl
 
@@ -55,7 +56,7 @@ time_again (Some n) rest h = rw (number_again w64 (2 ^ 64) wide64 n rest h) refl
 
 -- lawful, and nested no deeper than so many levels
 pub record IsEntryWithin (levels : ℕ) (r : LogRecord) : Type 0 where
-  pub lawful : IsLawfulEntry r
+  pub lawful : IsSpellableEntry r
   pub body : nesting r.body ≤ levels
   pub attributes : nesting (fields r.attributes) ≤ levels
   pub resource : nesting (fields r.resource) ≤ levels

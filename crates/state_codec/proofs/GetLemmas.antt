@@ -6,8 +6,10 @@ use Rattle.state_codec.specs.declared.CodecFault.{CodecFault}
 use Rattle.state_codec.specs.declared.cursor.Fault.{Fault}
 use Rattle.state_codec.specs.declared.cursor.Fault.TheVariants.{Malformed, Memory}
 use Rattle.state_codec.specs.Gives.{FailsAs, IsTold}
+use Rattle.state_codec.specs.DeadEnds.{IsUnit, IsDeadEnd}
 use Rattle.state_codec.specs.Reads.{StandsAt, FailsAt, Reads}
 use Rattle.state_codec.proofs.Numbers.{IsBytes, bytes_after, Takes, err_or_ok, ok_is}
+use Rattle.state_codec.proofs.Fair.{Fair, Blame}
 
 -- what is read is spelled, and what is spelled is read
 pub record IsReader {Y : Type 0} (spelling : Y → List ℕ) (Keeps : Y → Type 0) (reading : List ℕ → Reading Y) : Type 0 where
@@ -37,20 +39,32 @@ reads_ok spelling Keeps reading reader bytes at value rest fits e =
       omega (arith, sizes),
     )
 
-pub reads_err : {Y : Type 0} (spelling : Y → List ℕ) (Keeps : Y → Type 0) (reading : List ℕ → Reading Y) → IsReader spelling Keeps reading → (bytes : List ℕ) (at left fault : ℕ)
-    → reading (drop at bytes) ≡ Err left → fault ≡ length bytes - left → FailsAt spelling Keeps reading bytes at fault
-reads_err spelling Keeps reading reader bytes at left fault e is = record {
+pub reads_err : {Y : Type 0} (spelling : Y → List ℕ) (Keeps : Y → Type 0) (reading : List ℕ → Reading Y) → IsReader spelling Keeps reading → Fair IsUnit reading → (bytes : List ℕ) (at left fault : ℕ)
+    → IsBytes bytes → reading (drop at bytes) ≡ Err left → fault ≡ length bytes - left → FailsAt spelling Keeps reading bytes at fault
+reads_err {Y = Y} spelling Keeps reading reader fair bytes at left fault fits e is = record {
   none = λ value rest keeps spelled. err_or_ok (reading (drop at bytes)) left (value, rest) e (ap reading spelled ∙ reader.again value rest keeps);
   place = (left, e, is);
+  stops = λ inside. ends inside (fair.blames (drop at bytes) left (bytes_after at bytes fits) e (omega (arith, is, inside)));
 }
+  where
+    ends : fault < length bytes → Blame IsUnit reading (drop at bytes) left → IsDeadEnd spelling Keeps bytes at fault
+    ends inside b = record {
+      before = b.before;
+      unit = b.unit;
+      after = b.after;
+      parts = b.parts;
+      place = omega (arith, is, inside, b.left_is, length-drop at bytes, ap (λ (l : List ℕ). length l) b.parts, length-append b.before (b.unit ++ b.after));
+      whole = b.whole;
+      none = λ value more rest keeps same. b.stops more (value, rest) (ap reading same ∙ reader.again value rest keeps);
+    }
 
 -- the same, as a fault is told
-pub reads_told : {X Y : Type 0} (view : X → Y) (spelling : Y → List ℕ) (Keeps : Y → Type 0) (reading : List ℕ → Reading Y) → IsReader spelling Keeps reading → (bytes : List ℕ) (at : ℕ)
-    (fault : Fault) (told : CodecFault) → FailsAs fault (reading (drop at bytes)) → IsTold (length bytes) fault told → Reads view spelling Keeps reading bytes at (Err told)
-reads_told view spelling Keeps reading reader bytes at (Malformed left) told fails is =
+pub reads_told : {X Y : Type 0} (view : X → Y) (spelling : Y → List ℕ) (Keeps : Y → Type 0) (reading : List ℕ → Reading Y) → IsReader spelling Keeps reading → Fair IsUnit reading → (bytes : List ℕ) (at : ℕ)
+    (fault : Fault) (told : CodecFault) → IsBytes bytes → FailsAs fault (reading (drop at bytes)) → IsTold (length bytes) fault told → Reads view spelling Keeps reading bytes at (Err told)
+reads_told view spelling Keeps reading reader fair bytes at (Malformed left) told fits fails is =
     subst (λ (t : CodecFault). Reads view spelling Keeps reading bytes at (Err t)) (sym is)
-    (reads_err spelling Keeps reading reader bytes at left (length bytes - left) fails refl)
-reads_told view spelling Keeps reading reader bytes at Memory told fails is =
+    (reads_err spelling Keeps reading reader fair bytes at left (length bytes - left) fits fails refl)
+reads_told view spelling Keeps reading reader fair bytes at Memory told fits fails is =
     subst (λ (t : CodecFault). Reads view spelling Keeps reading bytes at (Err t)) (sym is) tt
 
 -- bytes that begin with a spelling tell the value and what follows

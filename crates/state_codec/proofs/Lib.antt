@@ -8,5 +8,9 @@ pub mod Numbers
 pub mod ValueLaws
 pub mod AgainLaws
 pub mod EntryLaws
+pub mod Fair
+pub mod Characters
+pub mod TextEnds
 pub mod GetLemmas
 pub mod Readers
+pub mod FairReaders

@@ -8,7 +8,8 @@ use Rattle.std.proofs.lemmas.Int.{of_z-to_z}
 use Rattle.std.proofs.Math.Facts.{sfits_to_z}
 use Rattle.entry_model.specs.Datum.{Datum, null, boolean, int, text, list, fields, items_of, members_of}
 use Rattle.state_codec.specs.Spelling.{bytes_spelling, value_spelling, items_spelling, members_spelling, item_count, member_count}
-use Rattle.state_codec.specs.Rules.{IsBehind, KeysAscend, IsLawful, AreLawful, AreLawfulMembers, nesting, items_nesting, members_nesting}
+use Rattle.entry_model.specs.Lawful.{IsBehind, KeysAscend, nesting, items_nesting, members_nesting}
+use Rattle.state_codec.specs.Rules.{IsSpellable, AreSpellable, AreSpellableMembers}
 use Rattle.state_codec.specs.Reading.{DatumReader, ◌>>=◌, number_at, text_at, items_at, members_at, is_behind, list_at, map_at, leaf_at, value_at}
 use Rattle.state_codec.proofs.Keys.{less_from_test}
 use Rattle.state_codec.proofs.Numbers.{IsBytes, bytes_behind, Takes, takes_both, takes_tag, err_or_ok, bind_ok, ok_is, wide32, wide64, number_takes, text_takes}
@@ -16,19 +17,19 @@ use Rattle.state_codec.proofs.Numbers.{IsBytes, bytes_behind, Takes, takes_both,
 -- what is read of a value is spelled, lawful, and nested no deeper than there is room
 pub record TakesDatum (room : ℕ) (bytes : List ℕ) (d : Datum) (rest : List ℕ) : Type 0 where
   pub takes : Takes bytes (value_spelling d) rest
-  pub lawful : IsLawful d
+  pub lawful : IsSpellable d
   pub shallow : nesting d ≤ room
 
 pub record TakesItems (room n : ℕ) (bytes : List ℕ) (ds : List Datum) (rest : List ℕ) : Type 0 where
   pub takes : Takes bytes (items_spelling (items_of ds)) rest
   pub count : item_count (items_of ds) ≡ n
-  pub lawful : AreLawful (items_of ds)
+  pub lawful : AreSpellable (items_of ds)
   pub shallow : items_nesting (items_of ds) ≤ room
 
 pub record TakesMembers (room n : ℕ) (before : Option (List ℕ)) (bytes : List ℕ) (ms : List (List ℕ × Datum)) (rest : List ℕ) : Type 0 where
   pub takes : Takes bytes (members_spelling (members_of ms)) rest
   pub count : member_count (members_of ms) ≡ n
-  pub lawful : AreLawfulMembers (members_of ms)
+  pub lawful : AreSpellableMembers (members_of ms)
   pub ascend : KeysAscend before (members_of ms)
   pub shallow : members_nesting (members_of ms) ≤ room
 
@@ -91,7 +92,7 @@ members_take room read all before (suc n) bytes x fits e =
       shallow = omega (arith, one.shallow, more.shallow);
     })
 
-leaf_other : (tag : ℕ) (rest : List ℕ) → 5 ≤ tag → leaf_at tag rest ≡ Err (suc (length rest))
+pub leaf_other : (tag : ℕ) (rest : List ℕ) → 5 ≤ tag → leaf_at tag rest ≡ Err (suc (length rest))
 unfolding leaf_at
 leaf_other tag rest over =
     rw (ne_eqb tag 0 (λ h. omega (arith, h)), ne_eqb tag 1 (λ h. omega (arith, h)), ne_eqb tag 2 (λ h. omega (arith, h)), ne_eqb tag 3 (λ h. omega (arith, h)), ne_eqb tag 4 (λ h. omega (arith, h))) refl

@@ -1,80 +1,44 @@
 -- What has a spelling.
-use Rattle.std.specs.Prelude.{◌≡◌, ℕ, suc, ◌<◌, ◌≤◌, ◌^◌, List, length, max, Option, None, Some, IfSome, ⊤, IsUtf8}
+use Rattle.std.specs.Prelude.{ℕ, ◌<◌, ◌≤◌, ◌^◌, List, length, None, IfSome, ⊤, IsUtf8, FitsSigned}
 use Rattle.std.specs.Int.{w64}
-use Rattle.std.specs.Prelude.{FitsSigned}
-use Rattle.std.specs.Ordering.{nat_cmp}
-use Rattle.std.specs.Cmp.Lexicographic.{slice_cmp}
-use Rattle.std.specs.declared.cmp.Ordering.TheVariants.{Less}
 use Rattle.entry_model.specs.Datum.{Datum, null, boolean, int, text, list, fields, Items, no_items, item, Members, no_members, member}
 use Rattle.entry_model.specs.LogRecord.{LogRecord}
+use Rattle.entry_model.specs.Lawful.{KeysAscend, NestsWithin}
 use Rattle.state_codec.specs.Spelling.{item_count, member_count}
 use Rattle.state_codec.specs.declared.TheConstants.{LEVELS}
-
-abbrev mutual
-  -- how many lists and maps stand around the innermost value
-  pub nesting : Datum → ℕ
-  nesting null = 0
-  nesting (boolean b) = 0
-  nesting (int z) = 0
-  nesting (text bytes) = 0
-  nesting (list items) = suc (items_nesting items)
-  nesting (fields members) = suc (members_nesting members)
-
-  pub items_nesting : Items → ℕ
-  items_nesting no_items = 0
-  items_nesting (item first rest) = max (nesting first) (items_nesting rest)
-
-  pub members_nesting : Members → ℕ
-  members_nesting no_members = 0
-  members_nesting (member key value rest) = max (nesting value) (members_nesting rest)
 
 -- a text whose length is below 2^32
 pub record IsShortText (bytes : List ℕ) : Type 0 where
   pub utf8 : IsUtf8 bytes
   pub short : length bytes < 2 ^ 32
 
--- a key stands behind the one before it, in byte order
-abbrev pub IsBehind : Option (List ℕ) → List ℕ → Type 0
-IsBehind None key = ⊤
-IsBehind (Some before) key = slice_cmp nat_cmp before key ≡ Less
-
--- the keys ascend, from one behind `before` on
-abbrev pub KeysAscend : Option (List ℕ) → Members → Type 0
-KeysAscend before no_members = ⊤
-KeysAscend before (member key value rest) = IsBehind before key × KeysAscend (Some key) rest
-
+-- lawful values that have no more than 2^32 - 1 bytes, values or members in one place
 abbrev mutual
-  pub IsLawful : Datum → Type 0
-  IsLawful null = ⊤
-  IsLawful (boolean b) = ⊤
-  IsLawful (int z) = FitsSigned w64 z
-  IsLawful (text bytes) = IsShortText bytes
-  IsLawful (list items) = (item_count items < 2 ^ 32) × AreLawful items
-  IsLawful (fields members) = (member_count members < 2 ^ 32) × (AreLawfulMembers members × KeysAscend None members)
+  pub IsSpellable : Datum → Type 0
+  IsSpellable null = ⊤
+  IsSpellable (boolean b) = ⊤
+  IsSpellable (int z) = FitsSigned w64 z
+  IsSpellable (text bytes) = IsShortText bytes
+  IsSpellable (list items) = (item_count items < 2 ^ 32) × AreSpellable items
+  IsSpellable (fields members) = (member_count members < 2 ^ 32) × (AreSpellableMembers members × KeysAscend None members)
 
-  pub AreLawful : Items → Type 0
-  AreLawful no_items = ⊤
-  AreLawful (item first rest) = IsLawful first × AreLawful rest
+  pub AreSpellable : Items → Type 0
+  AreSpellable no_items = ⊤
+  AreSpellable (item first rest) = IsSpellable first × AreSpellable rest
 
-  pub AreLawfulMembers : Members → Type 0
-  AreLawfulMembers no_members = ⊤
-  AreLawfulMembers (member key value rest) = IsShortText key × (IsLawful value × AreLawfulMembers rest)
+  pub AreSpellableMembers : Members → Type 0
+  AreSpellableMembers no_members = ⊤
+  AreSpellableMembers (member key value rest) = IsShortText key × (IsSpellable value × AreSpellableMembers rest)
 
-pub record IsLawfulEntry (r : LogRecord) : Type 0 where
-  pub body : IsLawful r.body
-  pub attributes : IsLawful (fields r.attributes)
-  pub resource : IsLawful (fields r.resource)
+pub record IsSpellableEntry (r : LogRecord) : Type 0 where
+  pub body : IsSpellable r.body
+  pub attributes : IsSpellable (fields r.attributes)
+  pub resource : IsSpellable (fields r.resource)
   pub severity : r.severity ≤ 24
   pub severity_text : IsShortText r.severity_text
   pub timestamp : IfSome r.timestamp (λ time. time < 2 ^ 64)
 
--- no part is nested too deep
-pub record IsShallow (r : LogRecord) : Type 0 where
-  pub body : nesting r.body ≤ LEVELS
-  pub attributes : nesting (fields r.attributes) ≤ LEVELS
-  pub resource : nesting (fields r.resource) ≤ LEVELS
-
 -- what is put, and what is read
 pub record IsReadable (r : LogRecord) : Type 0 where
-  pub lawful : IsLawfulEntry r
-  pub shallow : IsShallow r
+  pub lawful : IsSpellableEntry r
+  pub shallow : NestsWithin LEVELS r

@@ -4,8 +4,10 @@ ghost use Rattle.std.specs.Int.{w32, w64, to_be_bytes};
 ghost use Rattle.entry_model.specs.Datum.{datum, items_of, members_of};
 ghost use Rattle.entry_model.specs.LogRecord.{log_record};
 ghost use Rattle.entry_model.specs.Seen.{seen};
+ghost use Rattle.state_codec.specs.declared.TheConstants.{LEVELS};
 ghost use Rattle.state_codec.specs.Spelling.{bytes_spelling, value_spelling, items_spelling, members_spelling, time_spelling, entry_spelling};
-ghost use Rattle.state_codec.specs.Rules.{IsShortText, IsLawful, AreLawful, AreLawfulMembers, KeysAscend, IsLawfulEntry, IsShallow};
+ghost use Rattle.entry_model.specs.Lawful.{KeysAscend, NestsWithin};
+ghost use Rattle.state_codec.specs.Rules.{IsShortText, IsSpellable, AreSpellable, AreSpellableMembers, IsSpellableEntry};
 
 use entry_model::{Entry, Fields, Text, Value, Values};
 use std::alloc::{AllocError, Global};
@@ -54,7 +56,7 @@ fn put_count(alloc: Global, count: usize, out: &mut Vec<u8>) -> Result<(), Alloc
 #[cycle(put)]
 fn put_value(alloc: Global, value: &Value, out: &mut Vec<u8>) -> Result<(), AllocError>
     ensures ok { OnOk result (out.new.items ≡ out.old.items ++ value_spelling (datum value.now)) }
-    ensures lawful { OnOk result (IsLawful (datum value.now)) }
+    ensures lawful { OnOk result (IsSpellable (datum value.now)) }
 {
     match value {
         Value::Null => out.extend_from_slice(&[0]),
@@ -84,7 +86,7 @@ fn put_list(alloc: Global, values: &Values, out: &mut Vec<u8>) -> Result<(), All
     ensures ok { OnOk result (out.new.items ≡ out.old.items
         ++ (to_be_bytes w32 (length values.now.items) ++ items_spelling (items_of (map datum values.now.items)))) }
     ensures short { OnOk result (length values.now.items < 2 ^ 32) }
-    ensures lawful { OnOk result (AreLawful (items_of (map datum values.now.items))) }
+    ensures lawful { OnOk result (AreSpellable (items_of (map datum values.now.items))) }
 {
     put_count(alloc, values.len(), out)?;
     for value in values {
@@ -98,7 +100,7 @@ fn put_map(alloc: Global, fields: &Fields, out: &mut Vec<u8>) -> Result<(), Allo
     ensures ok { OnOk result (out.new.items ≡ out.old.items
         ++ (to_be_bytes w32 (length fields.now.entries) ++ members_spelling (members_of (seen fields.now.entries)))) }
     ensures short { OnOk result (length fields.now.entries < 2 ^ 32) }
-    ensures lawful { OnOk result (AreLawfulMembers (members_of (seen fields.now.entries))) }
+    ensures lawful { OnOk result (AreSpellableMembers (members_of (seen fields.now.entries))) }
     ensures ascend { OnOk result (KeysAscend None (members_of (seen fields.now.entries))) }
 {
     put_count(alloc, fields.len(), out)?;
@@ -125,9 +127,9 @@ fn put_time(alloc: Global, time: Option<u64>, out: &mut Vec<u8>) -> Result<(), A
 /// Appends an entry, of which no part may be nested more than [`crate::LEVELS`] deep. A text, list or map of 2^32 bytes,
 /// values or members and more finds no memory.
 pub fn put_entry(alloc: Global, entry: &Entry, out: &mut Vec<u8>) -> Result<(), AllocError>
-    requires { IsShallow (log_record entry.now) }
+    requires { NestsWithin LEVELS (log_record entry.now) }
     ensures ok { OnOk result (out.new.items ≡ out.old.items ++ entry_spelling (log_record entry.now)) }
-    ensures lawful { OnOk result (IsLawfulEntry (log_record entry.now)) }
+    ensures lawful { OnOk result (IsSpellableEntry (log_record entry.now)) }
 {
     put_value(alloc, &entry.body, out)?;
     put_value(alloc, &entry.attributes, out)?;

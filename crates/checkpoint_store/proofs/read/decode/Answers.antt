@@ -1,5 +1,6 @@
 use Rattle.std.proofs.Common.{arith}
-use Rattle.checkpoint_store.proofs.CheckpointLaws.{whole_takes, spells_none}
+use Rattle.checkpoint_store.proofs.CheckpointLaws.{whole_takes}
+use Rattle.checkpoint_store.proofs.CheckpointEnds.{spells_none}
 use Rattle.checkpoint_store.proofs.read.decode.Goals as goal
 
 pub returns-in-Ok : goal.returns-in-Ok
@@ -7,4 +8,4 @@ returns-in-Ok c = whole_takes c.args.bytes.now c.in-Ok.checkpoint (λ i. omega (
 
 pub returns-in-Err-Malformed : goal.returns-in-Err-Malformed
 returns-in-Err-Malformed c =
-    spells_none c.args.bytes.now c.in-Err-Malformed.left c.saturating_sub.result (rw c.in-Err-Malformed.field-0-is at c.in-Err-Malformed.ensures) c.saturating_sub.ensures
+    spells_none c.args.bytes.now c.in-Err-Malformed.left c.saturating_sub.result (λ i. omega (arith, c.type_inv.bytes i)) (rw c.in-Err-Malformed.field-0-is at c.in-Err-Malformed.ensures) c.saturating_sub.ensures

@@ -4,6 +4,7 @@ use Rattle.state_codec.specs.Spelling.{entry_spelling}
 use Rattle.state_codec.specs.Rules.{IsReadable}
 use Rattle.state_codec.specs.Reading.{entry_at}
 use Rattle.state_codec.proofs.GetLemmas.{reads_ok, reads_told}
+use Rattle.state_codec.proofs.FairReaders.{fair_entry_at}
 use Rattle.state_codec.proofs.Readers.{entry_reader}
 use Rattle.state_codec.proofs.get.get_entry.Goals as goal
 
@@ -18,4 +19,4 @@ returns-in-Ok c =
     (rw c.behind.ensures at c.in-Ok.ensures)).0
 
 pub returns-in-Err : goal.returns-in-Err
-returns-in-Err c = reads_told log_record entry_spelling IsReadable entry_at entry_reader c.args.bytes.now c.args.at c.in-Err.fault c.told.result (rw c.behind.ensures at c.in-Err.ensures) c.told.ensures
+returns-in-Err c = reads_told log_record entry_spelling IsReadable entry_at entry_reader fair_entry_at c.args.bytes.now c.args.at c.in-Err.fault c.told.result (λ i. omega (arith, c.type_inv.bytes i)) (rw c.behind.ensures at c.in-Err.ensures) c.told.ensures

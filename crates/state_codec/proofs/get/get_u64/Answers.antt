@@ -2,6 +2,7 @@ use Rattle.std.proofs.Common.{◌^◌, ◌<◌, length, arith}
 use Rattle.std.specs.Int.{w64, to_be_bytes}
 use Rattle.state_codec.specs.Reading.{number_at}
 use Rattle.state_codec.proofs.GetLemmas.{reads_ok, reads_err}
+use Rattle.state_codec.proofs.FairReaders.{fair_u64}
 use Rattle.state_codec.proofs.Readers.{u64_reader}
 use Rattle.state_codec.proofs.get.get_u64.Goals as goal
 
@@ -17,5 +18,5 @@ returns-in-Ok-clause-reads c =
 
 pub returns-in-Err-clause-reads : goal.returns-in-Err-clause-reads
 returns-in-Err-clause-reads c =
-    reads_err (to_be_bytes w64) (λ n. n < 2 ^ 64) (number_at w64) u64_reader c.args.bytes.now c.args.at 0 (length c.args.bytes.now)
+    reads_err (to_be_bytes w64) (λ n. n < 2 ^ 64) (number_at w64) u64_reader fair_u64 c.args.bytes.now c.args.at 0 (length c.args.bytes.now) (λ i. omega (arith, c.type_inv.bytes i))
     (rw (c.in-Err.ensures.short, c.behind.ensures) at c.in-Err.ensures.exact) (omega arith)

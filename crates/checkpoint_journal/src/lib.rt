@@ -1,0 +1,23 @@
+//! The journal: the agent's memory on its disk, a checkpoint and the changes behind it.
+//!
+//! A journal is a log whose base is the spelling of a checkpoint, and each of whose records is the spelling of a change
+//! that fits what stands before it. So a poll writes what it changed, and the whole checkpoint only now and then.
+//!
+//! The contract for the layer above: an image has at most one journal and one checkpoint (`HasJournal`). [`peek`] answers
+//! those of what reads give, or the first byte that has no reading. At each moment of [`Journal::append`] a crash leaves
+//! the checkpoint before the change or the one after it, and at each moment of [`rewrite`] the old checkpoint or the new;
+//! after Ok the new one. What was read is never trusted: a length is compared with the file's own before memory is asked
+//! for, and a file that gets shorter meanwhile ends there.
+#![tactic(auto)]
+
+mod fault;
+mod journal;
+pub mod laws;
+mod peeking;
+mod reading;
+mod rewriting;
+
+pub use fault::JournalFault;
+pub use journal::{Journal, NEWEST_VERSION};
+pub use peeking::peek;
+pub use rewriting::rewrite;
