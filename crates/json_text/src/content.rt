@@ -100,7 +100,7 @@ impl Content {
     {
         self.settle()?;
         let Content { done, waiting: _ } = self;
-        Ok(Text::new(done))
+        Text::new(done)
     }
 }
 

@@ -1,0 +1,12 @@
+pub mod Quoting
+pub mod Cutting
+pub mod Ends
+pub mod Taking
+pub mod Reading
+pub mod OneReading
+pub mod Parting
+pub mod PlainRecords
+pub mod ReadRecords
+pub mod NamedFields
+pub mod Counted
+pub mod Matching

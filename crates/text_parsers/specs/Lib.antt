@@ -1,0 +1,12 @@
+pub mod TextValue
+pub mod JsonObjects
+pub mod Blanks
+pub mod Quotes
+pub mod Cuts
+pub mod Pieces
+pub mod Pairs
+pub mod CsvRecords
+pub mod Plain
+pub mod Split
+pub mod Groups
+pub mod ReadByDefault

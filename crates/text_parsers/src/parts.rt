@@ -1,0 +1,37 @@
+// The parts of a text between the bytes that are its delimiter.
+ghost use Rattle.std.specs.Prelude.{◌≡◌, ◌==◌, ◌<◌, ◌∷◌, length, IsTrue};
+ghost use Rattle.std.specs.List.{count_by, position_or_len};
+ghost use Rattle.text_parsers.specs.CsvRecords.{parts_of, parts_left};
+
+/// How many parts the text has.
+pub fn part_count(text: &str, delimiter: u8) -> usize
+    ensures { result ≡ length (parts_of delimiter text.now) }
+{
+    delimiter_count(text.as_bytes(), delimiter) + 1
+}
+
+fn delimiter_count(bytes: &[u8], delimiter: u8) -> usize
+    ensures { result ≡ count_by (λ byte. byte == delimiter) bytes.now }
+{
+    bytes.iter().filter(|byte| **byte == delimiter).count()
+}
+
+/// The first part of the text, what stands behind the delimiter, and whether there is one.
+pub fn first_part(text: &str, delimiter: u8) -> (&str, &str, bool)
+    requires { delimiter < 128 }
+    ensures parts { parts_of delimiter text.now ≡ result.0.now ∷ parts_left delimiter result.1.now result.2 }
+    ensures shorter { IsTrue result.2 → length result.1.now < length text.now }
+{
+    let end = part_len(text.as_bytes(), delimiter);
+    if end < text.len() {
+        return (&text[..end], &text[end + 1..], true);
+    }
+    (text, text, false)
+}
+
+/// How many bytes stand before the delimiter, or at all where there is none.
+fn part_len(bytes: &[u8], delimiter: u8) -> usize
+    ensures { result ≡ position_or_len (λ byte. byte == delimiter) bytes.now }
+{
+    bytes.iter().take_while(|byte| **byte != delimiter).count()
+}
