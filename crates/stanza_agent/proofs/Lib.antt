@@ -6,7 +6,6 @@ pub mod Reporting
 pub mod Crossing
 pub mod Lines
 pub mod Settings
-pub mod Naming
 pub mod Controlling
 pub mod Following
 pub mod OneLine

@@ -16,7 +16,7 @@ use Rattle.pipeline.specs.BuildFaults.{IsBuildFault}
 use Rattle.pipeline.specs.Wired.{IsNetwork}
 use Rattle.pipeline.specs.declared.fault.BuildFault.{BuildFault}
 use Rattle.pipeline.specs.declared.fault.BuildFault.TheVariants as build
-use Rattle.settings_text.specs.SettingsData.{SettingsData}
+use Rattle.settings_text.specs.declared.settings.Settings.{Settings}
 use Rattle.stanza_agent.specs.PollFault.{IsPollFault}
 use Rattle.stanza_agent.specs.Progress.{PassesLimit}
 use Rattle.stanza_agent.specs.Refusal.{build_fault}
@@ -66,7 +66,7 @@ sees_log path content counts old new (inr (inr own)) other file throughout = abs
 pub sees_log_told : (path content : List ℕ) (counts : Counts) (old new : Option World) → Told (TakesLog path content counts) old new → Told (SeesLog path) old new
 sees_log_told path content counts old new = told_weaker _ _ old new (sees_log path content counts)
 
-module _ {T D : Type 0} (trees : TreeMeaning T) (disks : DiskMeaning D) (tree tree_after : T) (disk : D) (said : SettingsData) (path : List ℕ) (asked : IsTrue (disks.images.tells disk) → IsAsked (disks.images.seen disk) said path) where
+module _ {T D : Type 0} (trees : TreeMeaning T) (disks : DiskMeaning D) (tree tree_after : T) (disk : D) (said : Settings) (path : List ℕ) (asked : IsTrue (disks.images.tells disk) → IsAsked (disks.images.seen disk) said path) where
   -- what reading the log file fails with
   pub log_fault : (fault : Fault) → (fault ≡ Memory) ⊎ (fault ≡ NotBuilt) → (fault ≡ NotBuilt → Stood (trees.faults tree) (trees.faults tree_after) → Told (FindsLongLog path) (trees.world tree) (trees.world tree_after)) → IsPollFault trees disks tree tree_after disk fault
   log_fault fault (inl memory) found = subst (IsPollFault trees disks tree tree_after disk) (sym memory) tt
@@ -83,7 +83,8 @@ module _ {T D : Type 0} (trees : TreeMeaning T) (disks : DiskMeaning D) (tree tr
   compressed_fault content counts compressed takes told stood =
       inr (record { said = said; path = path; asked = asked told; found = told_weaker _ _ (trees.world tree) (trees.world tree_after) (λ old new. compressed_taken content counts old new compressed) (takes stood) })
 
-  pub build_refused : (content : List ℕ) → (IsCompressed content → ⊥) → length content ≤ 16777216 → (Stood (trees.faults tree) (trees.faults tree_after) → Told (TakesContent path content) (trees.world tree) (trees.world tree_after)) → (fault : BuildFault) → IsBuildFault said.operators fault → IsPollFault trees disks tree tree_after disk (build_fault fault)
+  pub build_refused : (content : List ℕ) → (IsCompressed content → ⊥) → length content ≤ 16777216 → (Stood (trees.faults tree) (trees.faults tree_after) → Told (TakesContent path content) (trees.world tree) (trees.world tree_after)) → (fault : BuildFault) → IsBuildFault said fault → IsPollFault trees disks tree tree_after disk (build_fault fault)
+  build_refused content plain short taken (build.Glob exclude place) cause = record { said = said; path = path; asked = asked; content = content; plain = plain; short = short; taken = taken; cause = cause }
   build_refused content plain short taken (build.SameId place) cause = record { said = said; path = path; asked = asked; content = content; plain = plain; short = short; taken = taken; cause = cause }
   build_refused content plain short taken (build.Operator place found) cause = record { said = said; path = path; asked = asked; content = content; plain = plain; short = short; taken = taken; cause = cause }
   build_refused content plain short taken (build.Graph fault) cause = record { said = said; path = path; asked = asked; content = content; plain = plain; short = short; taken = taken; cause = cause }
@@ -96,7 +97,7 @@ module _ {T D : Type 0} (trees : TreeMeaning T) (disks : DiskMeaning D) (tree tr
       subst (IsPollFault trees disks tree tree_after disk) (sym other.1) (record { task = task; asked = is; content = content; limit = full other.0 other.1; taken = takes })
 
 -- the task of a pipeline that was built of settings
-pub task_asked : (tells : Bool) (seen : Image DiskFile) (said other : SettingsData) (path : List ℕ) (network : Network Kept LogRecord) → other ≡ said → (IsTrue tells → IsAsked seen said path) → IsNetwork said.operators network → IsTrue tells → IsTask seen (record { said = other; path = path; network = network })
+pub task_asked : (tells : Bool) (seen : Image DiskFile) (said other : Settings) (path : List ℕ) (network : Network Kept LogRecord) → other ≡ said → (IsTrue tells → IsAsked seen said path) → IsNetwork said.operators network → IsTrue tells → IsTask seen (record { said = other; path = path; network = network })
 task_asked tells seen said other path network same asked built told = record {
   asked = subst (λ s. IsAsked seen s path) (sym same) (asked told);
   network = subst (λ s. IsNetwork s.operators network) (sym same) built;

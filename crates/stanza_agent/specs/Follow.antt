@@ -1,11 +1,9 @@
 -- How the command `follow` ends.
-use Rattle.std.specs.Prelude.{◌≡◌, ◌≢◌, ◌⊎◌, ℕ, List, Bool, Option, Result, Ok, Err}
+use Rattle.std.specs.Prelude.{◌≡◌, ◌≢◌, ◌⊎◌, ℕ, List, Option, Result, Ok, Err}
 use Rattle.outside.specs.TreeMeaning.{TreeMeaning}
 use Rattle.outside.specs.DiskMeaning.{DiskMeaning}
 use Rattle.outside.specs.StreamMeaning.{SourceMeaning, SinkMeaning}
-use Rattle.outside.specs.Image.{Image}
-use Rattle.outside.specs.World.{World, Told}
-use Rattle.outside.specs.declared.disk.DiskFile.{DiskFile}
+use Rattle.outside.specs.World.{Told}
 use Rattle.outside.specs.declared.fault.Failed.{Failed}
 use Rattle.stanza_agent.specs.Control.{max_control, Asks, Spends}
 use Rattle.stanza_agent.specs.Once.{OnceEnds}

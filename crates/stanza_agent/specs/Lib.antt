@@ -1,5 +1,4 @@
 pub mod Status
-pub mod OwnNames
 pub mod Task
 pub mod Held
 pub mod Refusal

@@ -9,7 +9,7 @@ use Rattle.outside.specs.declared.tree.Kind.TheVariants.{File}
 use Rattle.stanza_agent.specs.declared.log_file.LogFile.{LogFile}
 use Rattle.stanza_agent.specs.declared.log_file.Ending.{Ending}
 use Rattle.stanza_agent.specs.declared.log_file.Ending.TheVariants.{Whole, Failed, Shrunk}
-use Rattle.stanza_agent.specs.OwnNames.{IsOwnName}
+use Rattle.standing.specs.OwnNames.{IsOwnName}
 
 -- the count didn't rise
 abbrev pub Stood : ℕ → ℕ → Type 0
@@ -59,7 +59,8 @@ module _ (path : List ℕ) where
     pub file : ℕ
     pub history : AtOneMoment (look file ∷ []) (λ history. NamesLog file history × (content ≡ bytes history file)) old new
 
-  -- The log file was opened; or at some moment no file had its name, and nothing was taken. The agent's own files are never taken.
+  -- The log file was opened; or at some moment no file had its name, and nothing was taken; or it is one of the agent's own, and
+  -- nothing was taken.
   abbrev pub TakesLog : List ℕ → Counts → World → World → Type 0
   TakesLog content counts old new =
       (OpensLog content old.history new.history × CountsOpened content counts)

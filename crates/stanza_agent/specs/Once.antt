@@ -1,11 +1,10 @@
 -- How the command `once` ends.
-use Rattle.std.specs.Prelude.{◌≡◌, ◌⊎◌, ℕ, List, Bool, Option}
+use Rattle.std.specs.Prelude.{◌≡◌, ◌⊎◌, ℕ, List, Option}
 use Rattle.outside.specs.TreeMeaning.{TreeMeaning}
 use Rattle.outside.specs.DiskMeaning.{DiskMeaning}
 use Rattle.outside.specs.Crash.{Passes}
-use Rattle.outside.specs.Image.{Image, Same}
-use Rattle.outside.specs.World.{World, Told}
-use Rattle.outside.specs.declared.disk.DiskFile.{DiskFile}
+use Rattle.outside.specs.Image.{Same}
+use Rattle.outside.specs.World.{Told}
 use Rattle.stanza_agent.specs.Look.{Stood}
 use Rattle.stanza_agent.specs.PollFault.{IsPollFault, ComesFirst}
 use Rattle.stanza_agent.specs.Polled.{Polled, SeesLog}

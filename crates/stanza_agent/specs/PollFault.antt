@@ -9,7 +9,7 @@ use Rattle.outside.specs.declared.disk.DiskFile.TheVariants as file
 use Rattle.pipeline.specs.BuildFaults.{IsBuildFault}
 use Rattle.pipeline.specs.declared.fault.BuildFault.{BuildFault}
 use Rattle.settings_text.specs.Grammar as grammar
-use Rattle.settings_text.specs.SettingsData.{SettingsData}
+use Rattle.settings_text.specs.declared.settings.Settings.{Settings as Said}
 use Rattle.stanza_agent.specs.Look.{Stood}
 use Rattle.stanza_agent.specs.Polled.{IsCompressed, FindsOtherLog, TakesContent, OverFull}
 use Rattle.stanza_agent.specs.Task.{IsAsked, IsOtherFolder}
@@ -18,18 +18,18 @@ use Rattle.stanza_agent.specs.declared.fault.Fault.TheVariants.{Usage, Settings,
 
 -- The folder asks for one log file, what was taken of it is none that the agent can't take yet, and the operators can't be built.
 pub record IsRefused {T D : Type 0} (trees : TreeMeaning T) (disks : DiskMeaning D) (tree tree_after : T) (disk : D) (fault : BuildFault) : Type 0 where
-  pub said : SettingsData
+  pub said : Said
   pub path : List ℕ
   pub asked : IsTrue (disks.images.tells disk) → IsAsked (disks.images.seen disk) said path
   pub content : List ℕ
   pub plain : IsCompressed content → ⊥
   pub short : length content ≤ 16777216
   pub taken : Stood (trees.faults tree) (trees.faults tree_after) → Told (TakesContent path content) (trees.world tree) (trees.world tree_after)
-  pub cause : IsBuildFault said.operators fault
+  pub cause : IsBuildFault said fault
 
 -- the folder asks for one log file, and that is one that the agent can't take yet
 pub record FindsOther (seen : Image DiskFile) (old new : Option World) : Type 0 where
-  pub said : SettingsData
+  pub said : Said
   pub path : List ℕ
   pub asked : IsAsked seen said path
   pub found : Told (FindsOtherLog path) old new

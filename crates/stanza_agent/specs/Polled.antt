@@ -1,5 +1,5 @@
 -- What a poll of the one log file does.
-use Rattle.std.specs.Prelude.{◌≡◌, ◌⊎◌, ℕ, ◌≤◌, List, [], ◌∷◌, ◌++◌, length, take, Option, Bool, IsTrue}
+use Rattle.std.specs.Prelude.{◌≡◌, ◌⊎◌, ℕ, ◌≤◌, List, [], ◌∷◌, ◌++◌, length, take, IsTrue}
 use Rattle.outside.specs.TreeMeaning.{TreeMeaning}
 use Rattle.outside.specs.DiskMeaning.{DiskMeaning}
 use Rattle.outside.specs.Image.{Image, AtFile, Torn}
@@ -10,7 +10,7 @@ use Rattle.outside.specs.declared.disk.DiskFile.{DiskFile}
 use Rattle.outside.specs.declared.disk.DiskFile.TheVariants.{Output}
 use Rattle.stanza_agent.specs.LogLines.{records, output_of}
 use Rattle.stanza_agent.specs.Look.{Stood, HasNoLog, NamesLog, OpensLog, Counts, TakesLog, OpensLongLog}
-use Rattle.stanza_agent.specs.OwnNames.{IsOwnName}
+use Rattle.standing.specs.OwnNames.{IsOwnName}
 use Rattle.stanza_agent.specs.Progress.{max_output, PassesLimit}
 use Rattle.stanza_agent.specs.Task.{Task, IsTask}
 use Rattle.stanza_agent.specs.declared.summary.Summary.{Summary}

@@ -1,5 +1,5 @@
 -- Why settings are refused, and the words that tell it.
-use Rattle.std.specs.Prelude.{ℕ, List, ◌++◌, codes, decimal}
+use Rattle.std.specs.Prelude.{ℕ, List, ◌++◌, codes, decimal, true, false}
 use Rattle.graph_core.specs.declared.GraphFault.{GraphFault}
 use Rattle.graph_core.specs.declared.GraphFault.TheVariants as graph
 use Rattle.op_kinds.specs.declared.cause.OpCause.{OpCause}
@@ -22,6 +22,7 @@ settings_fault (read.TooLong length) = Settings (read.TooLong length)
 settings_fault read.Memory = Memory
 
 abbrev pub build_fault : BuildFault → Fault
+build_fault (build.Glob exclude place) = Build (build.Glob exclude place)
 build_fault (build.SameId place) = Build (build.SameId place)
 build_fault (build.Operator place found) = Build (build.Operator place found)
 build_fault (build.Graph fault) = Build (build.Graph fault)
@@ -51,6 +52,8 @@ graph_words graph.Memory = codes "graph memory"
 
 -- places and nodes count from 0
 abbrev pub build_words : BuildFault → List ℕ
+build_words (build.Glob false place) = codes "include " ++ decimal place ++ codes " glob"
+build_words (build.Glob true place) = codes "exclude " ++ decimal place ++ codes " glob"
 build_words (build.SameId place) = codes "same-id " ++ decimal place
 build_words (build.Operator place found) = codes "operator " ++ decimal place ++ codes " " ++ cause_words found
 build_words (build.Graph fault) = graph_words fault

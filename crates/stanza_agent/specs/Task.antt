@@ -10,7 +10,7 @@ use Rattle.outside.specs.declared.disk.DiskFile.{DiskFile}
 use Rattle.outside.specs.declared.disk.DiskFile.TheVariants.{Settings, Output}
 use Rattle.pipeline.specs.Wired.{IsNetwork}
 use Rattle.settings_text.specs.Grammar as grammar
-use Rattle.settings_text.specs.SettingsData.{SettingsData}
+use Rattle.settings_text.specs.declared.settings.Settings.{Settings as Said}
 use Rattle.settings_text.specs.declared.settings.StartAt.TheVariants.{Beginning}
 
 -- what a glob has beside plain characters, and what separates components: `/`, `*`, `?`, `[`, `{` and the backslash
@@ -22,22 +22,22 @@ abbrev pub is_plain_name : List ℕ → Bool
 is_plain_name name =
     if bytes_eq name [] then false else (if bytes_eq name (codes ".") then false else (if bytes_eq name (codes "..") then false else not (list_any is_special name)))
 
-pub record AsksForOne (said : SettingsData) (path : List ℕ) : Type 0 where
+pub record AsksForOne (said : Said) (path : List ℕ) : Type 0 where
   pub include : said.include ≡ path ∷ []
   pub plain : IsTrue (is_plain_name path)
   pub exclude : said.exclude ≡ []
   pub start_at : said.start_at ≡ Beginning
 
-abbrev pub AsksForOther : SettingsData → Type 0
+abbrev pub AsksForOther : Said → Type 0
 AsksForOther said = (path : List ℕ) → AsksForOne said path → ⊥
 
 pub record Task : Type 0 where
-  pub said : SettingsData
+  pub said : Said
   pub path : List ℕ
   pub network : Network Kept LogRecord
 
 -- the folder asks for the task, and has no output yet
-pub record IsAsked (seen : Image DiskFile) (said : SettingsData) (path : List ℕ) : Type 0 where
+pub record IsAsked (seen : Image DiskFile) (said : Said) (path : List ℕ) : Type 0 where
   pub read : grammar.settings (seen Settings) ≡ Ok said
   pub one : AsksForOne said path
   pub output : seen Output ≡ []
@@ -48,6 +48,6 @@ pub record IsTask (seen : Image DiskFile) (task : Task) : Type 0 where
 
 -- the settings ask for something else, or there is output already
 pub record IsOtherFolder (seen : Image DiskFile) : Type 0 where
-  pub said : SettingsData
+  pub said : Said
   pub read : grammar.settings (seen Settings) ≡ Ok said
   pub other : AsksForOther said ⊎ (seen Output ≡ [] → ⊥)

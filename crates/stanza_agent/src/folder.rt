@@ -3,9 +3,8 @@ ghost use Rattle.std.specs.Prelude.{◌≡◌, ◌⊎◌, ℕ, ◌≤◌, List, 
 ghost use Rattle.outside.specs.Count.{HasOneCause};
 ghost use Rattle.outside.specs.Crash.{Passes};
 ghost use Rattle.outside.specs.Image.{Same};
-ghost use Rattle.pipeline.specs.BuildFaults.{HaveFewRoutes};
+ghost use Rattle.settings_text.specs.Limits.{KeepsLimits};
 ghost use Rattle.settings_text.specs.Grammar as grammar;
-ghost use Rattle.settings_text.specs.SettingsData.{operator_data, settings_data};
 ghost use Rattle.settings_text.specs.declared.fault.SettingsFault.{SettingsFault};
 ghost use Rattle.stanza_agent.specs.Cause.{HasDiskCause};
 ghost use Rattle.stanza_agent.specs.Held.{Holds};
@@ -57,9 +56,8 @@ impl Folder {
     /// What the settings say, or their refusal.
     pub fn settings(&self, alloc: Global) -> Result<Settings, Fault>
         ensures ok { IfOk result (λ settings. (seen : _) → Holds self.now seen
-            → grammar.settings (seen DiskFile.Settings) ≡ Ok (settings_data settings)) }
-        ensures limits { IfOk result (λ settings. (64 ≤ settings.max_log_size) × (length settings.operators.items ≤ 64)
-            × HaveFewRoutes (map operator_data settings.operators.items)) }
+            → grammar.settings (seen DiskFile.Settings) ≡ Ok settings) }
+        ensures limits { IfOk result KeepsLimits }
         ensures refused { IfErr result (λ fault. (fault ≡ Fault.Memory) ⊎ ((refused : SettingsFault) × (fault ≡ Fault.Settings refused)
             × ((seen : _) → Holds self.now seen → grammar.settings (seen DiskFile.Settings) ≡ Err refused))) }
     {

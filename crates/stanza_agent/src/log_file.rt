@@ -6,9 +6,9 @@ ghost use Rattle.stanza_agent.specs.Task.{is_plain_name};
 ghost use Rattle.stanza_agent.specs.Look.{Stood, log_item, TakesLog, log_counts, FindsLongLog, FindsLog, ReadsFront, HasEndCause, TakesOpened};
 
 use crate::fault::Fault;
-use crate::own_names::is_own_name;
 use outside::{CallFault, Failed, Handle, Item, Kind, Listed, Opened, Tree};
 use std::alloc::Global;
+use tree_walk::is_own_name;
 
 /// The most bytes that a poll takes from a file: 16 MiB.
 pub const MAX_LOG_BYTES: u64 = 16_777_216;

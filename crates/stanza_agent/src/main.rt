@@ -12,7 +12,6 @@ mod follow;
 mod log_file;
 mod once;
 mod output;
-mod own_names;
 mod poll;
 mod real;
 mod report;

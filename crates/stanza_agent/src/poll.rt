@@ -4,9 +4,8 @@ ghost use Rattle.outside.specs.Count.{NeverFalls};
 ghost use Rattle.outside.specs.Crash.{Passes};
 ghost use Rattle.outside.specs.Image.{AtFile, Same, Torn};
 ghost use Rattle.outside.specs.World.{Told};
-ghost use Rattle.pipeline.specs.BuildFaults.{HaveFewRoutes};
+ghost use Rattle.settings_text.specs.Limits.{KeepsLimits};
 ghost use Rattle.pipeline.specs.Parts.{settings_of, network};
-ghost use Rattle.settings_text.specs.SettingsData.{operator_data, settings_data};
 ghost use Rattle.stanza_agent.specs.Appended.{Appended};
 ghost use Rattle.stanza_agent.specs.Cause.{HasDiskCause};
 ghost use Rattle.stanza_agent.specs.LogLines.{output_of};
@@ -56,14 +55,12 @@ pub fn poll_once<T: Tree, D: Disk>(
 struct Job {
     settings: Settings,
     path: Text,
-    ghost max_log_size: { 64 ≤ settings.max_log_size },
-    ghost few_operators: { length settings.operators.items ≤ 64 },
-    ghost few_routes: { HaveFewRoutes (map operator_data settings.operators.items) },
     ghost plain: { IsTrue (is_plain_name path) },
 }
 
 fn read_job<D: Disk>(alloc: Global, disk: &mut D) -> Result<Job, Fault>
-    ensures ok { IfOk result (λ job. IsTrue (D.meaning.images.tells disk.old) → IsAsked (D.meaning.images.seen disk.old) (settings_data job.settings) job.path) }
+    ensures ok { IfOk result (λ job. IsTrue (D.meaning.images.tells disk.old) → IsAsked (D.meaning.images.seen disk.old) job.settings job.path) }
+    ensures limits { IfOk result (λ job. KeepsLimits job.settings) }
     ensures fault { IfErr result (IsJobFault (D.meaning.images.tells disk.old) (D.meaning.images.seen disk.old)) }
     ensures cause { HasDiskCause result (D.meaning.faults disk.old) (D.meaning.faults disk.new) }
     ensures seen { D.meaning.images.seen disk.new ≡ D.meaning.images.seen disk.old }
@@ -78,7 +75,7 @@ fn read_job<D: Disk>(alloc: Global, disk: &mut D) -> Result<Job, Fault>
     if folder.output_length != 0 {
         return Err(Fault::NotBuilt);
     }
-    let path = Text::from_str(alloc, path.as_str())?;
+    let path = path.share()?;
     Ok(Job { settings, path })
 }
 

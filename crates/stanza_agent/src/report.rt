@@ -79,11 +79,31 @@ fn build_line(alloc: Global, refused: &BuildFault) -> Result<String, AllocError>
     ensures { IfOk result (λ line. string_bytes line ≡ codes "fault 3 " ++ build_words refused.now ++ codes "\n") }
 {
     match refused {
+        BuildFault::Glob {
+            exclude: false,
+            place,
+        } => include_line(alloc, *place),
+        BuildFault::Glob {
+            exclude: true,
+            place,
+        } => exclude_line(alloc, *place),
         BuildFault::SameId { place } => format!(in alloc; "fault 3 same-id {place}\n"),
         BuildFault::Operator { place, cause } => operator_line(alloc, *place, *cause),
         BuildFault::Graph(fault) => graph_line(alloc, *fault),
         BuildFault::Memory => String::from_str(alloc, "fault 3 memory\n"),
     }
+}
+
+fn include_line(alloc: Global, place: u64) -> Result<String, AllocError>
+    ensures { IfOk result (λ line. string_bytes line ≡ codes "fault 3 include " ++ decimal place ++ codes " glob\n") }
+{
+    format!(in alloc; "fault 3 include {place} glob\n")
+}
+
+fn exclude_line(alloc: Global, place: u64) -> Result<String, AllocError>
+    ensures { IfOk result (λ line. string_bytes line ≡ codes "fault 3 exclude " ++ decimal place ++ codes " glob\n") }
+{
+    format!(in alloc; "fault 3 exclude {place} glob\n")
 }
 
 fn operator_line(alloc: Global, place: u64, cause: OpCause) -> Result<String, AllocError>

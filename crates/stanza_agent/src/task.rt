@@ -1,7 +1,6 @@
 // What the settings ask for, where the agent can do it by now.
 ghost use Rattle.std.specs.List.{list_any};
 ghost use Rattle.std.specs.Prelude.{◌≡◌, IfSome, IfNone};
-ghost use Rattle.settings_text.specs.SettingsData.{settings_data};
 ghost use Rattle.stanza_agent.specs.Task.{AsksForOne, AsksForOther, is_plain_name, is_special};
 
 use entry_model::Text;
@@ -9,14 +8,14 @@ use settings_text::{Settings, StartAt};
 
 /// The name of the one log file that the settings ask for, if they ask for no more than one from its beginning.
 pub fn one_log(settings: &Settings) -> Option<&Text>
-    ensures some { IfSome result (λ path. AsksForOne (settings_data settings.now) path.now) }
-    ensures none { IfNone result (AsksForOther (settings_data settings.now)) }
+    ensures some { IfSome result (λ path. AsksForOne settings.now path.now) }
+    ensures none { IfNone result (AsksForOther settings.now) }
 {
     let [path] = settings.include.as_slice() else {
         return None;
     };
     let from_beginning = settings.start_at == StartAt::Beginning;
-    if from_beginning && settings.exclude.is_empty() && is_plain_name(path.as_str()) {
+    if from_beginning && settings.exclude.as_slice().is_empty() && is_plain_name(path.as_str()) {
         Some(path)
     } else {
         None

@@ -16,7 +16,11 @@ pub struct RealSource<'a> {
 }
 
 impl<'a> RealSource<'a> {
-    pub fn new(rt: &'a HostRuntime) -> Self {
+    ghost use Rattle.std.specs.Prelude.{◌≡◌};
+
+    pub fn new(rt: &'a HostRuntime) -> Self
+        ensures { result.faults ≡ 0 }
+    {
         RealSource { rt, faults: 0 }
     }
 }

@@ -33,7 +33,11 @@ pub struct RealDisk<'a> {
 }
 
 impl<'a> RealDisk<'a> {
-    pub fn new(rt: &'a HostRuntime) -> Self {
+    ghost use Rattle.std.specs.Prelude.{◌≡◌};
+
+    pub fn new(rt: &'a HostRuntime) -> Self
+        ensures { result.faults ≡ 0 }
+    {
         RealDisk {
             rt,
             settings: OwnFile::new("settings.json", false),

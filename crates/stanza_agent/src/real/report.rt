@@ -16,7 +16,11 @@ pub struct RealSink<'a> {
 }
 
 impl<'a> RealSink<'a> {
-    pub fn new(rt: &'a HostRuntime) -> Self {
+    ghost use Rattle.std.specs.Prelude.{◌≡◌};
+
+    pub fn new(rt: &'a HostRuntime) -> Self
+        ensures { result.faults ≡ 0 }
+    {
         RealSink { rt, faults: 0 }
     }
 }

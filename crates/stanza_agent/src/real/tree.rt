@@ -34,7 +34,11 @@ pub struct RealTree<'a> {
 }
 
 impl<'a> RealTree<'a> {
-    pub fn new(rt: &'a HostRuntime) -> Self {
+    ghost use Rattle.std.specs.Prelude.{◌≡◌};
+
+    pub fn new(rt: &'a HostRuntime) -> Self
+        ensures { (result.faults ≡ 0) × (result.taken ≡ 0) × (result.nameless ≡ 0) }
+    {
         RealTree {
             rt,
             open: Vec::new(rt.alloc()),

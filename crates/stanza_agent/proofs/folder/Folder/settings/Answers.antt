@@ -1,6 +1,4 @@
-use Rattle.std.proofs.Common.{refl, inr, arith}
-use Rattle.std.proofs.lemmas.List.{length-map}
-use Rattle.settings_text.specs.SettingsData.{operator_data}
+use Rattle.std.proofs.Common.{refl, inr}
 use Rattle.settings_text.specs.declared.fault.SettingsFault.TheVariants.{TooLong}
 use Rattle.stanza_agent.proofs.Settings.{too_long}
 use Rattle.stanza_agent.proofs.folder.Folder.settings.Goals as goal
@@ -10,5 +8,4 @@ returns-then-self-clause-refused c = inr (TooLong c.args.self.now.settings_lengt
 
 pub returns-clause-limits : goal.returns-clause-limits
 returns-clause-limits c =
-    let keeps = c.settings_keep_limits.ensures _ _ c.in_ok-read.ensures in
-    (keeps.max_log_size_from, omega (arith, keeps.few_operators, length-map c.in_ok-read.field-0.operators.items operator_data), keeps.few_routes)
+    c.settings_keep_limits.ensures _ _ c.in_ok-read.ensures
