@@ -145,16 +145,18 @@ fn sets_values(rt: HostRuntime) -> Result<(), Fail> {
     Ok(())
 }
 
+// The value that was taken away from a path, where there was one.
+fn take(alloc: Global, text: &str, entry: &mut Entry) -> Result<Option<Value>, Fail> {
+    match FieldPath::read(alloc, text)?.take(alloc, entry) {
+        Ok(value) => Ok(Some(value)),
+        Err(TakeFault::Missing) => Ok(None),
+        Err(TakeFault::Memory) => Err(AllocError.into()),
+    }
+}
+
 #[test]
 fn takes_values(rt: HostRuntime) -> Result<(), Fail> {
     let alloc = rt.alloc();
-    let empty = two(
-        alloc,
-        "x",
-        Value::Bool(true),
-        "a",
-        one(alloc, "c", Value::Null)?,
-    )?;
     let table = [
         ("attributes.zz", None),
         ("attributes.a.b", Some(Value::Int(1))),
@@ -171,21 +173,29 @@ fn takes_values(rt: HostRuntime) -> Result<(), Fail> {
     ];
     for (text, expected) in table {
         let mut entry = sample(alloc)?;
-        let path = FieldPath::read(alloc, text)?;
-        match path.take(alloc, &mut entry) {
-            Ok(value) => assert!(rt; expected == Some(value), "at {text}"),
-            Err(fault) => {
-                assert_eq!(rt; fault, TakeFault::Missing, "at {text}");
-                assert!(rt; expected.is_none() && entry == sample(alloc)?, "at {text}");
-            }
-        }
+        let taken = take(alloc, text, &mut entry)?;
+        assert!(rt; taken.is_some() || entry == sample(alloc)?, "at {text}");
+        assert!(rt; taken == expected, "at {text}");
     }
+    Ok(())
+}
+
+#[test]
+fn leaves_the_others(rt: HostRuntime) -> Result<(), Fail> {
+    let alloc = rt.alloc();
+    let rest = two(
+        alloc,
+        "x",
+        Value::Bool(true),
+        "a",
+        one(alloc, "c", Value::Null)?,
+    )?;
     let mut entry = sample(alloc)?;
-    let _ = FieldPath::read(alloc, "attributes.a.b")?.take(alloc, &mut entry)?;
-    assert!(rt; entry.attributes == empty);
-    let _ = FieldPath::read(alloc, "body")?.take(alloc, &mut entry)?;
+    let _ = take(alloc, "attributes.a.b", &mut entry)?;
+    assert!(rt; entry.attributes == rest);
+    let _ = take(alloc, "body", &mut entry)?;
     assert!(rt; entry.body == Value::Null);
-    let _ = FieldPath::read(alloc, "attributes")?.take(alloc, &mut entry)?;
+    let _ = take(alloc, "attributes", &mut entry)?;
     assert!(rt; entry.attributes == Value::Map(Fields::new(alloc)));
     Ok(())
 }
