@@ -1,3 +1,4 @@
 pub mod Readings
 pub mod Compiled
 pub mod Applying
+pub mod States

@@ -11,3 +11,4 @@ pub mod Code
 pub mod Compiled
 pub mod Causes
 pub mod Readings
+pub mod States

@@ -20,6 +20,7 @@ pub mod laws;
 mod reading;
 mod record;
 mod router;
+mod saving;
 mod state;
 #[cfg(test)]
 mod tests;
@@ -30,4 +31,5 @@ pub use cause::OpCause;
 pub use compiling::compile;
 pub use group::Group;
 pub use record::Record;
+pub use saving::{restore_state, save_state};
 pub use state::{OpState, is_fresh};

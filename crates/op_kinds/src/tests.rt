@@ -2,10 +2,11 @@
 ghost use Rattle.std.specs.Prelude.{◌≤◌, IsTrue};
 ghost use Rattle.settings_text.specs.Limits.{route_count};
 
-use crate::{AnyOp, OpCause, Record, compile, is_fresh};
+use crate::{AnyOp, OpCause, OpState, Record, compile, is_fresh, restore_state, save_state};
 use entry_model::{Entry, Text};
-use graph_core::Step;
+use graph_core::{NodeSpec, Step};
 use settings_text::{OnError, OpKind, OpSpec, RouteSpec, Routes, Texts};
+use state_codec::CodecFault;
 use std::alloc::{AllocError, Global};
 use std::test::Fail;
 
@@ -226,5 +227,25 @@ fn expressions_that_cannot_be_read_are_refused(rt: HostRuntime) -> Result<(), Fa
     assert!(rt; cause(alloc, "true", router(alloc, &["true", "("], false)?)? == expr);
     // A path comes first.
     assert!(rt; cause(alloc, "1 ==", remove(alloc, "bodyx")?)? == Some(OpCause::Path));
+    Ok(())
+}
+
+#[test]
+fn states_without_groups_are_no_bytes(rt: HostRuntime) -> Result<(), Fail> {
+    let alloc = rt.alloc();
+    let mut nodes = Vec::new(alloc);
+    for kind in [OpKind::Noop, remove(alloc, "body")?] {
+        let op = compiled(alloc, &spec(alloc, OnError::Send, kind)?)?;
+        let ports = Vec::new(alloc);
+        nodes.push(NodeSpec { op, ports })?;
+    }
+    let states = restore_state(alloc, &nodes, b"")?;
+    assert!(rt; states.len() == 2 && !states.iter().any(|state| state.keeps_groups()));
+    let left_over = Some(CodecFault::Malformed { at: 0 });
+    assert!(rt; restore_state(alloc, &nodes, &[0]).err() == left_over);
+    assert!(rt; restore_state(alloc, &[], b"ab").err() == left_over);
+    let mut out = Vec::from_slice(alloc, b"x")?;
+    save_state(alloc, &[OpState::nothing(), OpState::nothing()], &mut out)?;
+    assert!(rt; out.as_slice() == b"x".as_slice());
     Ok(())
 }

@@ -5,3 +5,4 @@ pub mod Targets
 pub mod StateKinds
 pub mod GlobsRead
 pub mod Ruled
+pub mod Rows

@@ -5,8 +5,10 @@ use Rattle.entry_model.specs.Datum.{Datum, null, boolean, int, text, list, field
 use Rattle.entry_model.specs.LogRecord.{LogRecord}
 use Rattle.graph_core.specs.Traces.{Network, network_of, start_states, inputs}
 use Rattle.graph_core.specs.declared.NodeSpec.{NodeSpec}
-use Rattle.op_kinds.specs.Kept.{Kept, nothing, groups, keeps_groups}
-use Rattle.op_kinds.specs.Operator.{Operator, conditional, router, behavior_of, has_groups}
+use Rattle.op_kinds.proofs.States.{same_states, of_no_kind, spelled_by_none}
+use Rattle.op_kinds.specs.Kept.{Kept}
+use Rattle.op_kinds.specs.Operator.{Operator, behavior_of}
+use Rattle.op_kinds.specs.States.{states_spelling}
 use Rattle.otlp_json.specs.IsOf64Bits.{IsInteger, HasIntegers, ItemsHaveIntegers, MembersHaveIntegers, IsTime, IsOf64Bits}
 use Rattle.pipeline.proofs.Feeding.{GraphLaws, given_on}
 use Rattle.pipeline.proofs.StateKinds.{kinds, kinds_kept, kinds_begun}
@@ -88,29 +90,6 @@ pub nothing_is : (state : List ℕ) → is_nothing state ≡ true → [] ≡ sta
 nothing_is [] is = refl
 nothing_is (byte ∷ rest) is = absurd (true≢false (sym is))
 
-no_groups : (operator : Operator) → has_groups operator ≡ false
-no_groups (conditional condition act drops_faulty) = refl
-no_groups (router routes has_default) = refl
-
-is_kept_nothing : (kept : Kept) → keeps_groups kept ≡ false → kept ≡ nothing
-is_kept_nothing nothing is = refl
-is_kept_nothing (groups open_now) is = absurd (true≢false is)
-
-same_states : (nodes : List (NodeSpec Operator)) (one other : List Kept) → map keeps_groups one ≡ kinds nodes → map keeps_groups other ≡ kinds nodes → one ≡ other
-same_states [] [] [] is also = refl
-same_states [] [] (o ∷ other) is also = cc also
-same_states [] (s ∷ one) other is also = cc is
-same_states (node ∷ nodes) [] other is also = cc is
-same_states (node ∷ nodes) (s ∷ one) [] is also = cc also
-same_states (node ∷ nodes) (s ∷ one) (o ∷ other) is also =
-    let first : keeps_groups s ≡ has_groups node.op = cc is in
-    let second : keeps_groups o ≡ has_groups node.op = cc also in
-    let firsts : map keeps_groups one ≡ kinds nodes = cc is in
-    let seconds : map keeps_groups other ≡ kinds nodes = cc also in
-    let here : s ≡ o = is_kept_nothing s (first ∙ no_groups node.op) ∙ sym (is_kept_nothing o (second ∙ no_groups node.op)) in
-    let rest : one ≡ other = same_states nodes one other firsts seconds in
-    ap (λ (k : Kept). k ∷ one) here ∙ ap (λ (ks : List Kept). o ∷ ks) rest
-
 module _ (settings : Settings) (nodes : List (NodeSpec Operator)) (graph : GraphLaws (network_of behavior_of nodes)) where
   abbrev it : Network Kept LogRecord
   it = network_of behavior_of nodes
@@ -126,3 +105,12 @@ module _ (settings : Settings) (nodes : List (NodeSpec Operator)) (graph : Graph
   given_in_parts path before tokens more =
       given_on settings it graph path before (start_states it) tokens more
       ∙ ap (λ (ks : List Kept). given_from settings it path before (start_states it) tokens ++ given_from settings it path (before + length tokens) ks more) (stays_fresh path before tokens)
+
+  -- what is kept is spelled by no bytes
+  pub spelled_so : (path : List ℕ) (before : ℕ) (tokens : List (List ℕ)) → states_spelling (kept_from settings it path before (start_states it) tokens) ≡ []
+  spelled_so path before tokens =
+      spelled_by_none (kept_from settings it path before (start_states it) tokens)
+      (of_no_kind nodes (kept_from settings it path before (start_states it) tokens) (kinds_kept nodes (start_states it) (inputs it (records_behind settings path before tokens)) (kinds_begun nodes)))
+
+  pub fresh_spelled_so : states_spelling (start_states it) ≡ []
+  fresh_spelled_so = spelled_by_none (start_states it) (of_no_kind nodes (start_states it) (kinds_begun nodes))

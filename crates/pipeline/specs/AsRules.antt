@@ -4,7 +4,8 @@ use Rattle.entry_model.specs.Datum.{Datum, null, boolean, int, text, list, field
 use Rattle.entry_model.specs.LogRecord.{LogRecord}
 use Rattle.graph_core.specs.Traces.{start_states}
 use Rattle.otlp_json.specs.OutputLine.{output_line}
-use Rattle.pipeline.specs.GraphOutput.{given_from}
+use Rattle.op_kinds.specs.States.{states_spelling}
+use Rattle.pipeline.specs.GraphOutput.{kept_from, given_from}
 use Rattle.pipeline.specs.Parts.{settings_of, network}
 use Rattle.pipeline.specs.Tokens.{cuts_of}
 use Rattle.pipeline.specs.declared.Pipeline.{Pipeline}
@@ -59,15 +60,15 @@ abbrev pub begins_at_end : StartAt → Bool
 begins_at_end Beginning = false
 begins_at_end End = true
 
--- The rules of the settings that have this text. No operator holds groups, so the states of all operators together are spelled
--- by no bytes, and each run goes on from the first ones.
+-- The rules of the settings that have this text. No operator holds groups, so no bytes alone spell a state, which is that of the
+-- first ones, and each run goes on from these.
 abbrev pub rules_of : List ℕ → Pipeline → Rules
 rules_of settings_text pipeline = record {
   settings = settings_text;
   cuts = cuts_of (settings_of pipeline);
   made = λ path before state tokens. given_from (settings_of pipeline) (network pipeline) path before (start_states (network pipeline)) tokens;
-  state_after = λ path before state tokens. [];
-  fresh = [];
+  state_after = λ path before state tokens. states_spelling (kept_from (settings_of pipeline) (network pipeline) path before (start_states (network pipeline)) tokens);
+  fresh = states_spelling (start_states (network pipeline));
   is_state = is_nothing;
   line = λ mark. output_line mark.id mark.number mark.entry;
   fits = fits;

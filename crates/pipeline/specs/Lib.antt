@@ -8,3 +8,4 @@ pub mod Parts
 pub mod GraphOutput
 pub mod Fed
 pub mod AsRules
+pub mod RowStates

@@ -1,11 +1,13 @@
 // Pipelines of settings.
 ghost use Rattle.std.specs.Prelude.{◌≡◌, ◌≤◌, ◌<◌, ℕ, [], length, map, OnOk, IfOk, IfErr};
 ghost use Rattle.graph_core.specs.Traces.{start_states};
+ghost use Rattle.op_kinds.specs.States.{states_spelling};
 ghost use Rattle.pipeline.specs.BuildFaults.{IsBuildFault, IsOperatorFault, IsFineAt, HaveFewRoutes, refusal};
 ghost use Rattle.pipeline.specs.Globs.{ArePatterns};
 ghost use Rattle.pipeline.specs.GraphOutput.{StandsFor};
 ghost use Rattle.pipeline.specs.Listed.{AreOperators};
 ghost use Rattle.pipeline.specs.Parts.{settings_of, network, node_count, HaveKinds};
+ghost use Rattle.pipeline.specs.RowStates.{IsStateOf};
 ghost use Rattle.pipeline.specs.Wired.{AreNodes, IsNetwork, ids_of};
 ghost use Rattle.settings_text.specs.Limits.{KeepsLimits};
 
@@ -71,6 +73,7 @@ impl Pipeline {
         ensures many { IfOk result (λ state. length state.states.items ≡ node_count self.now) }
         ensures kinds { IfOk result (λ state. HaveKinds self.now state.states.items) }
         ensures counts { IfOk result (λ state. (state.records ≡ 0) × (state.lines ≡ 0)) }
+        ensures spelled { IfOk result (IsStateOf self.now 0 0 (states_spelling (start_states (network self.now)))) }
     {
         graph::begin(&self.graph);
         let mut states = Vec::new(alloc);

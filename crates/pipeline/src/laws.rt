@@ -1,22 +1,28 @@
 //! What the definitions imply.
-ghost use Rattle.std.specs.Prelude.{◌≡◌, ℕ, ◌+◌, [], ◌++◌, List, length};
+ghost use Rattle.std.specs.Prelude.{◌≡◌, ℕ, ◌+◌, [], ◌++◌, List, length, true, false};
 ghost use Rattle.entry_model.specs.LogRecord.{LogRecord};
-ghost use Rattle.graph_core.specs.Traces.{Network};
+ghost use Rattle.graph_core.specs.Traces.{Network, start_states};
 ghost use Rattle.line_splitter.specs.Cuts.{IsCutRule};
 ghost use Rattle.op_kinds.specs.Kept.{Kept};
+ghost use Rattle.op_kinds.specs.States.{states_spelling, Spell, SpellNone};
 ghost use Rattle.pipeline.specs.AsRules.{rules_of};
+ghost use Rattle.pipeline.specs.Fed.{Fed};
 ghost use Rattle.pipeline.specs.GraphOutput.{graph_output, kept_from, given_from};
 ghost use Rattle.pipeline.specs.Parts.{settings_of, network};
-ghost use Rattle.pipeline.specs.Tokens.{first_cut_of};
+ghost use Rattle.pipeline.specs.RowStates.{IsStateOfRow, TakesTokens};
+ghost use Rattle.pipeline.specs.Tokens.{first_cut_of, tokens_of, used_of};
 ghost use Rattle.pipeline.specs.Wired.{IsNetwork};
 ghost use Rattle.settings_text.specs.Limits.{KeepsLimits};
 ghost use Rattle.settings_text.specs.declared.settings.OpSpec.{OpSpec};
+ghost use Rattle.pipeline.specs.declared.state.FileState.{FileState};
 ghost use Rattle.standing.specs.AreRules.{AreRules};
+ghost use Rattle.standing.specs.Rows.{Row};
+ghost use Rattle.standing.specs.Tokens.{used};
 
 use crate::Pipeline;
 use graph_core::laws as graph;
 use line_splitter::laws::lines_are_cut_by_a_rule;
-use otlp_json::laws::{line_is_one_line, line_tells_all};
+use otlp_json::laws::{line_is_one_line, line_tells_all, lines_append};
 
 /// What comes out for some tokens is a prefix of what comes out for them and more.
 pub fn keep_prefix(pipeline: &Pipeline)
@@ -59,6 +65,29 @@ pub fn go_on(pipeline: &Pipeline)
     graph::begin(&pipeline.graph);
     graph::go_on(&pipeline.graph);
 }
+
+/// What [`Pipeline::feed`] does to the state of a row is what the rules say of the row, from any state that the row tells:
+/// the tokens use as many bytes, the state is that of the row which has taken them, and their lines were appended.
+pub fn a_row_is_fed_by_the_rules(pipeline: &Pipeline)
+    ensures used { (settings_text bytes : List ℕ) → used (rules_of settings_text pipeline.now) bytes ≡ used_of (settings_of pipeline.now) bytes }
+    ensures fed { (settings_text bytes : List ℕ) (row : Row) (before after : FileState) (out_before out_after : List ℕ)
+        → IsStateOfRow pipeline.now row before
+        → Fed (settings_of pipeline.now) (network pipeline.now) row.id row.path (tokens_of (settings_of pipeline.now) bytes) before after out_before out_after
+        → TakesTokens pipeline.now (rules_of settings_text pipeline.now) bytes row after out_before out_after }
+{
+    lines_append();
+}
+
+/// What a row keeps of its operators is a state by the rules exactly where it can be restored, and then there is one state.
+pub fn a_row_tells_its_state(pipeline: &Pipeline)
+    ensures fresh { (settings_text : List ℕ) → (rules_of settings_text pipeline.now).fresh ≡ states_spelling (start_states (network pipeline.now)) }
+    ensures restored { (settings_text text : List ℕ) (states : List Kept) → Spell pipeline.now.graph text states
+        → (rules_of settings_text pipeline.now).is_state text ≡ true }
+    ensures refused { (settings_text text : List ℕ) (at : ℕ) → SpellNone pipeline.now.graph text at
+        → (rules_of settings_text pipeline.now).is_state text ≡ false }
+    ensures one { (text : List ℕ) (states others : List Kept) → Spell pipeline.now.graph text states → Spell pipeline.now.graph text others
+        → states ≡ others }
+{}
 
 /// A pipeline of settings within their limits is rules for the polls of files, with which a promise on what they leave can be
 /// made. `settings_text` is the text that the settings were read of.

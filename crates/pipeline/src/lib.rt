@@ -5,7 +5,9 @@
 //! `specs/GraphOutput` is what comes out for the tokens of a file: their records, through the graph's traces.
 //! [`Pipeline::feed`] takes the tokens of some bytes: from a state that stands for the tokens before, it appends the lines
 //! of what comes out past what those gave, and leaves the state that stands for all of them. So a file can be fed in
-//! pieces, each from the first byte that wasn't used.
+//! pieces, each from the first byte that wasn't used. [`Pipeline::save`] spells what the operators keep, and
+//! [`Pipeline::restore`] reads it back: a pipeline is rules for rows (`rules_of` of `specs/AsRules`), and what a feed does to
+//! the state of a row is what these say of it ([`laws`]).
 #![tactic(auto)]
 
 ghost use Rattle.std.specs.Prelude.{◌≤◌};
@@ -16,6 +18,7 @@ mod fault;
 mod feed;
 mod globs;
 pub mod laws;
+mod restore;
 mod state;
 #[cfg(test)]
 mod tests;

@@ -4,6 +4,7 @@ use graph_core::GraphFault;
 use op_kinds::OpCause;
 use settings_text::laws::settings_keep_limits;
 use settings_text::read;
+use state_codec::CodecFault;
 use std::alloc::Global;
 use std::test::Fail;
 
@@ -239,5 +240,29 @@ fn filters_drop_lines(rt: HostRuntime) -> Result<(), Fail> {
     assert!(rt; fed(alloc, sent, b"x\n", b"")?.1 == 1);
     assert!(rt; fed(alloc, dropped, b"x\n", b"")?.1 == 0);
     assert!(rt; fed(alloc, chosen, b"a\nb\nc\n", b"")?.1 == 2);
+    Ok(())
+}
+
+#[test]
+fn a_restored_state_goes_on(rt: HostRuntime) -> Result<(), Fail> {
+    let alloc = rt.alloc();
+    let Ok(pipeline) = build(alloc, CHAIN)? else {
+        return Err(Fail);
+    };
+    let mut out = Vec::new(alloc);
+    let mut state = pipeline.fresh(alloc)?;
+    pipeline.feed(alloc, &mut state, 7, "logs/app.log", b"\n", &mut out)?;
+    let mut bytes = Vec::new(alloc);
+    pipeline.save(alloc, &state, &mut bytes)?;
+    let mut restored = pipeline.restore(alloc, state.records, state.lines, &bytes)?;
+    if restored.lines > 2_000 || restored.records > 1_000 {
+        return Err(Fail);
+    }
+    pipeline.feed(alloc, &mut restored, 7, "logs/app.log", b" hi \n", &mut out)?;
+    assert!(rt; out.as_slice() == CHAINED);
+    let counted = pipeline.restore(alloc, 3, 4, b"")?;
+    assert!(rt; counted.records == 3 && counted.lines == 4 && counted.states.len() == 2);
+    let left_over = pipeline.restore(alloc, 3, 4, b"x").err();
+    assert!(rt; left_over == Some(CodecFault::Malformed { at: 0 }));
     Ok(())
 }

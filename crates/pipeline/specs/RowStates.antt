@@ -1,0 +1,23 @@
+-- States of files in memory, against the rows that tell them.
+use Rattle.std.specs.Prelude.{◌≡◌, ℕ, List, ◌++◌}
+use Rattle.op_kinds.specs.States.{Spell}
+use Rattle.pipeline.specs.declared.Pipeline.{Pipeline}
+use Rattle.pipeline.specs.declared.state.FileState.{FileState}
+use Rattle.standing.specs.Look.{fed, lines_of}
+use Rattle.standing.specs.Rows.{Row}
+use Rattle.standing.specs.Rules.{Rules, output_text}
+
+-- the state has these counts, and a state for each operator, of its kind, which together are spelled so
+pub record IsStateOf (pipeline : Pipeline) (records lines : ℕ) (text : List ℕ) (state : FileState) : Type 0 where
+  pub states : Spell pipeline.graph text state.states.items
+  pub records_are : state.records ≡ records
+  pub lines_are : state.lines ≡ lines
+
+abbrev pub IsStateOfRow : Pipeline → Row → FileState → Type 0
+IsStateOfRow pipeline row state = IsStateOf pipeline row.records row.lines row.state state
+
+-- The row goes on as the rules say of the tokens of these bytes: the state is that of the row which has taken them, and their
+-- lines were appended.
+pub record TakesTokens (pipeline : Pipeline) (rules : Rules) (bytes : List ℕ) (row : Row) (after : FileState) (out_before out_after : List ℕ) : Type 0 where
+  pub state : IsStateOfRow pipeline (fed rules bytes row) after
+  pub written : out_after ≡ out_before ++ output_text rules (lines_of rules bytes row)
