@@ -1,0 +1,10 @@
+pub mod Patterns
+pub mod FirstPlace
+pub mod Cutting
+pub mod MultilineTokens
+pub mod Tokens
+pub mod Searched
+pub mod Stops
+pub mod NextToken
+pub mod Endings
+pub mod PatternFault
