@@ -10,7 +10,7 @@ use crate::parts::Colon;
 use case_table::{Row, find_fold_bytes};
 
 /// What was read and the place behind it, or the fault.
-pub(crate) type Reading<T> = Result<(T, usize), TimeFault>;
+pub type Reading<T> = Result<(T, usize), TimeFault>;
 
 /// Whether this byte stands at the place.
 pub(crate) fn stands(byte: u8, text: &[u8], at: usize) -> bool

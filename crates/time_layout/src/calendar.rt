@@ -7,8 +7,9 @@ use crate::TimeFault;
 use crate::parts::{Clock, Said};
 use jiff::civil::Date;
 
-/// The nanoseconds from 1970-01-01T00:00:00Z to what was said.
-pub(crate) fn instant_of(said: Said) -> Result<u64, TimeFault>
+/// The nanoseconds from 1970-01-01T00:00:00Z to what was said. `OutOfRange` exactly where the calendar doesn't have the
+/// day, or the instant is before 1970 or doesn't fit 64 bits.
+pub fn instant_of(said: Said) -> Result<u64, TimeFault>
     ensures { IsInstantOf said result }
 {
     match day_number(said.year, said.month, said.day) {

@@ -5,9 +5,9 @@
 //! a text part by part (`layout_read`): what the parts say is a day of the calendar, a time of day and a distance from
 //! UTC, and the instant is the number of nanoseconds from 1970-01-01T00:00:00Z up to it (`nanos_of`). A text that
 //! doesn't fit is refused at its first place that can't be read. [`rfc3339`] is one such layout, and [`EpochKind`] reads
-//! counts of seconds or of parts of one. [`laws`] says in other words what `layout_parts` and `layout_read` are: the texts
-//! that are read are those made of the texts of the parts, what is printed reads back, and a text that is refused can't go
-//! on at that place.
+//! counts of seconds or of parts of one. [`read_parts`] and [`instant_of`] are for texts of which a time is one part among
+//! others. [`laws`] says in other words what `layout_parts` and `layout_read` are: the texts that are read are those made
+//! of the texts of the parts, what is printed reads back, and a text that is refused can't go on at that place.
 //!
 //! Directives are those of POSIX `strptime` and of the OpenTelemetry Collector's time parser. The calendar is that of
 //! the crate `jiff`. Seconds are POSIX's: each day has 86,400, and there is no second 60.
@@ -26,7 +26,10 @@ mod parts;
 #[cfg(test)]
 mod tests;
 
+pub use atoms::Reading;
+pub use calendar::instant_of;
 pub use epoch::EpochKind;
 pub use fault::{LayoutFault, TimeFault};
 pub use iso::rfc3339;
 pub use layout::Layout;
+pub use parts::{Clock, Colon, Part, Said, read_parts};

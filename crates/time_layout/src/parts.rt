@@ -12,14 +12,14 @@ use case_table::months;
 
 /// Whether hours and minutes of a zone have a colon between them.
 #[derive(Clone, Copy, Debug, PartialEq, Eq)]
-pub(crate) enum Colon {
+pub enum Colon {
     Optional,
     Required,
 }
 
 /// What stands in a text at a place.
 #[derive(Clone, Copy, Debug, PartialEq, Eq)]
-pub(crate) enum Part {
+pub enum Part {
     /// This byte.
     Literal(u8),
     /// Four digits.
@@ -48,7 +48,7 @@ pub(crate) enum Part {
 
 /// By which clock the hour is counted.
 #[derive(Clone, Copy, Debug, PartialEq, Eq)]
-pub(crate) enum Clock {
+pub enum Clock {
     Full,
     Am,
     Pm,
@@ -56,17 +56,17 @@ pub(crate) enum Clock {
 
 /// What a text says of a time.
 #[derive(Clone, Copy, Debug, PartialEq, Eq)]
-pub(crate) struct Said {
-    pub(crate) year: u16,
-    pub(crate) month: u16,
-    pub(crate) day: u8,
-    pub(crate) clock: Clock,
-    pub(crate) hour: u8,
-    pub(crate) minute: u8,
-    pub(crate) second: u8,
-    pub(crate) nanosecond: u32,
+pub struct Said {
+    pub year: u16,
+    pub month: u16,
+    pub day: u8,
+    pub clock: Clock,
+    pub hour: u8,
+    pub minute: u8,
+    pub second: u8,
+    pub nanosecond: u32,
     /// In seconds east of UTC.
-    pub(crate) offset: i32,
+    pub offset: i32,
 }
 
 /// Reads a text to its end, part by part. Where it has no zone, it is said at this distance from UTC.
@@ -91,7 +91,10 @@ pub(crate) fn read_layout(parts: &[Part], location: i32, text: &[u8]) -> Reading
     Ok((said, at))
 }
 
-fn read_parts(parts: &[Part], text: &[u8], nothing: Said) -> Reading<Said>
+/// Reads the parts from the front of a text on, whatever follows them: what is said then, and the place behind them.
+///
+/// `Mismatch` at the first place of every other text that can't be read.
+pub fn read_parts(parts: &[Part], text: &[u8], nothing: Said) -> Reading<Said>
     ensures is { result ≡ parts_read parts.now text.now 0 nothing }
     ensures within { IfOk result (λ read. read.1 ≤ length text.now) }
 {

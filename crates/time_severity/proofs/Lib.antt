@@ -1,0 +1,4 @@
+pub mod Least
+pub mod LeastIs
+pub mod Spellings
+pub mod Told
