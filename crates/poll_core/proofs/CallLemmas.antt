@@ -1,0 +1,60 @@
+-- How many calls succeeded, over several of them.
+use Rattle.std.proofs.Common.{◌≡◌, ℕ, ◌+◌, ◌≤◌, Option, Some, None, Result, Ok, Err, refl, ap, ◌∙◌, arith}
+use Rattle.outside.specs.DiskCalls.{done_after}
+use Rattle.outside.specs.DiskMeaning.{DiskMeaning}
+use Rattle.outside.specs.declared.fault.CallFault.{CallFault}
+use Rattle.poll_core.specs.Calls.{DoneAtMost, CutsAndSyncs}
+use Rattle.slot_store.proofs.Counts.{done_more_then}
+use Rattle.slot_store.proofs.OnlyReading.{keeps_terms_then}
+use Rattle.slot_store.specs.Counted.{DoneMore, HasDone}
+use Rattle.slot_store.specs.OnlyRead.{OnlyRead}
+
+none_more : (count : Option ℕ) → DoneMore 0 count count
+none_more None = refl
+none_more (Some n) = ap (λ m. Some m) (omega arith)
+
+pub done_none : (before after : Option ℕ) → after ≡ before → DoneAtMost 0 before after
+done_none before after same = (0, omega arith, same ∙ none_more before)
+
+pub done_one : {T : Type 0} (result : Result T CallFault) (before after : Option ℕ) → after ≡ done_after result before → DoneAtMost 1 before after
+done_one (Ok _) before after is = (1, omega arith, is)
+done_one (Err _) before after is = (0, omega arith, is ∙ none_more before)
+
+pub done_some : {T E : Type 0} (result : Result T E) (calls : ℕ) (before after : Option ℕ) → HasDone result calls before after → DoneAtMost calls before after
+done_some (Ok _) calls before after done = (calls, omega arith, done)
+done_some (Err _) calls before after done = let few = done.1 in (done.0, omega (arith, few), done.2)
+
+pub done_then : (first second most : ℕ) (start mid end : Option ℕ) → first + second ≤ most → DoneAtMost first start mid → DoneAtMost second mid end → DoneAtMost most start end
+done_then first second most start mid end enough a b =
+    let few = a.1 in
+    let few_more = b.1 in
+    (a.0 + b.0, omega (arith, few, few_more), done_more_then a.0 b.0 start mid end a.2 b.2)
+
+module _ {D : Type 0} {meaning : DiskMeaning D} where
+  pub calls_read : {old new : D} → OnlyRead meaning old new → CutsAndSyncs 0 meaning old new
+  calls_read {old} {new} read = record {
+    done = done_none (meaning.done old) (meaning.done new) read.done;
+    written = read.written;
+    terms = record { tells = read.tells; bound = read.bound; limit = read.limit };
+  }
+
+  pub calls_then : (first second most : ℕ) {old mid new : D} → first + second ≤ most → CutsAndSyncs first meaning old mid → CutsAndSyncs second meaning mid new → CutsAndSyncs most meaning old new
+  calls_then first second most {old} {mid} {new} enough a b = record {
+    done = done_then first second most (meaning.done old) (meaning.done mid) (meaning.done new) enough a.done b.done;
+    written = b.written ∙ a.written;
+    terms = keeps_terms_then a.terms b.terms;
+  }
+
+  pub calls_more : (few most : ℕ) {old new : D} → few ≤ most → CutsAndSyncs few meaning old new → CutsAndSyncs most meaning old new
+  calls_more few most enough a = record {
+    done = (a.done.0, omega (arith, enough, a.done.1), a.done.2);
+    written = a.written;
+    terms = a.terms;
+  }
+
+  pub calls_none : (most : ℕ) (disk : D) → CutsAndSyncs most meaning disk disk
+  calls_none most disk = record {
+    done = (0, omega arith, none_more (meaning.done disk));
+    written = refl;
+    terms = record { tells = refl; bound = refl; limit = refl };
+  }

@@ -1,0 +1,141 @@
+-- What an image has is one, and opening keeps it.
+use Rattle.std.proofs.Common.{◌≡◌, ℕ, ◌≤◌, List, length, take, Option, Some, None, refl, sym, ap, ◌∙◌, arith, inl, inr}
+use Rattle.std.proofs.lemmas.List.{take_all, length-take, length-take-le}
+use Rattle.std.specs.Prelude.{◌⊎◌}
+use Rattle.checkpoint_journal.proofs.JournalLaws.{one_said, bad_no_journal, bad_slot}
+use Rattle.checkpoint_journal.specs.JournalOf.{log_of, HasJournal, HasCheckpoint, IsBadAt}
+use Rattle.checkpoint_journal.specs.declared.journal.Journal.{Journal}
+use Rattle.checkpoint_store.specs.declared.Checkpoint.{Checkpoint as Saved}
+use Rattle.outside.specs.Image.{Image}
+use Rattle.outside.specs.World.{History}
+use Rattle.outside.specs.declared.disk.DiskFile.{DiskFile}
+use Rattle.outside.specs.declared.disk.DiskFile.TheVariants.{Output}
+use Rattle.poll_core.specs.Checkpoints.{standing_checkpoint}
+use Rattle.poll_core.specs.Found.{IsFound}
+use Rattle.poll_core.specs.Reopens.{KeepsLogs, Keeps, kept_by, Reopens}
+use Rattle.poll_core.specs.Sequence.{HasSequence, no_slot, of_log}
+use Rattle.record_log.proofs.LogLaws.{one_log}
+use Rattle.record_log.specs.LogOf.{HasLog}
+use Rattle.record_log.specs.declared.log.Log.{Log}
+use Rattle.slot_store.specs.ChosenSlot.{chosen_slot}
+use Rattle.standing.specs.Rows.{Checkpoint}
+use Rattle.standing.specs.Rules.{Rules}
+use Rattle.standing.specs.Standing.{Found, nothing, damaged, found, kept, Sound, Standing}
+
+-- ---- an image has one thing
+
+pub no_log : (image : Image DiskFile) (log : Log) (base : List ℕ) (records : List (List ℕ)) → chosen_slot image ≡ None → HasLog log base records image → ⊥
+no_log image log base records none has = let some = has.slot in cc
+
+pub no_journal : (image : Image DiskFile) (journal : Journal) (checkpoint : Saved) → chosen_slot image ≡ None → HasJournal journal checkpoint image → ⊥
+no_journal image journal checkpoint none has = no_log image (log_of journal) has.base has.records none has.log_is
+
+pub one_found : (image : Image DiskFile) (one other : Found) → IsFound image one → IsFound image other → one ≡ other
+one_found image nothing nothing has have = refl
+one_found image nothing damaged has have = absurd (bad_slot image have.0 have.1 has)
+one_found image nothing (found checkpoint) has have = absurd (no_journal image have.1.0 have.0 has have.1.1)
+one_found image damaged nothing has have = absurd (bad_slot image has.0 has.1 have)
+one_found image damaged damaged has have = refl
+one_found image damaged (found checkpoint) has have = absurd (bad_no_journal image has.0 have.1.0 have.0 has.1 have.1.1)
+one_found image (found checkpoint) nothing has have = absurd (no_journal image has.1.0 has.0 have has.1.1)
+one_found image (found checkpoint) damaged has have = absurd (bad_no_journal image have.0 has.1.0 has.0 have.1 has.1.1)
+one_found image (found checkpoint) (found other) has have =
+    let same : have.0 ≡ has.0 = one_said image has.1.0 have.1.0 has.0 have.0 has.1.1 have.1.1 in
+    ap (λ (c : Checkpoint). found c) (sym has.2 ∙ ap standing_checkpoint (sym same) ∙ have.2)
+
+pub one_sequence : (image : Image DiskFile) (one other : ℕ) → HasSequence image one → HasSequence image other → one ≡ other
+one_sequence image one other (no_slot none) (no_slot none_too) = refl
+one_sequence image one other (no_slot none) (of_log log base records has) = absurd (no_log image log base records none has)
+one_sequence image one other (of_log log base records has) (no_slot none) = absurd (no_log image log base records none has)
+one_sequence image one other (of_log log base records has) (of_log twin twin_base twin_records have) =
+    ap (λ (l : Log). l.sequence) (sym (one_log image log twin base twin_base records twin_records has have).log_is)
+
+-- ---- what goes with the log
+
+module _ {old new : Image DiskFile} (keeps : KeepsLogs old new) where
+  pub journal_kept : (journal : Journal) (checkpoint : Saved) → HasJournal journal checkpoint old → HasJournal journal checkpoint new
+  journal_kept journal checkpoint has = record {
+    base = has.base;
+    records = has.records;
+    log_is = keeps.log_is (log_of journal) has.base has.records has.log_is;
+    version_is = has.version_is;
+    says = has.says;
+  }
+
+  pub checkpoint_kept : (checkpoint : Option Saved) → HasCheckpoint checkpoint old → HasCheckpoint checkpoint new
+  checkpoint_kept None has = keeps.no_slot has
+  checkpoint_kept (Some checkpoint) has = (has.0, journal_kept has.0 checkpoint has.1)
+
+  pub bad_kept : (at : ℕ) → IsBadAt at old → IsBadAt at new
+  bad_kept at bad = record {
+    log = bad.log;
+    base = bad.base;
+    records = bad.records;
+    log_is = keeps.log_is bad.log bad.base bad.records bad.log_is;
+    fails = bad.fails;
+  }
+
+  pub found_kept : (there : Found) → IsFound old there → IsFound new there
+  found_kept nothing has = keeps.no_slot has
+  found_kept damaged has = (has.0, bad_kept has.0 has.1)
+  found_kept (found checkpoint) has = (has.0, checkpoint_kept (Some has.0) has.1, has.2)
+
+  pub sequence_kept : (sequence : ℕ) → HasSequence old sequence → HasSequence new sequence
+  sequence_kept sequence (no_slot none) = no_slot (keeps.no_slot none)
+  sequence_kept sequence (of_log log base records has) = of_log log base records (keeps.log_is log base records has)
+
+-- ---- the output
+
+pub keeps_one : (image : Image DiskFile) (size : ℕ) (saved : Saved) → Keeps size image → HasCheckpoint (Some saved) image → size ≡ saved.output_length
+keeps_one image size saved keeps has = by keeps.0 keeps.1 keeps.2
+  where
+    by : (checkpoint : Option Saved) → HasCheckpoint checkpoint image → size ≡ kept_by checkpoint → size ≡ saved.output_length
+    by None none is = absurd (no_journal image has.0 saved none has.1)
+    by (Some other) have is = is ∙ ap (λ (c : Saved). c.output_length) (one_said image has.0 have.0 saved other has.1 have.1)
+
+-- the output is what it was, or what the checkpoint keeps of it
+pub output_of : (old new : Image DiskFile) (checkpoint : Checkpoint) → Reopens old new → IsFound old (found checkpoint)
+    → (new Output ≡ old Output) ⊎ (new Output ≡ take checkpoint.output_length (old Output))
+output_of old new checkpoint reopens has = elim reopens.output [
+  | inl same ↦ inl same
+  | inr cut ↦ (let size = keeps_one old cut.0 has.0 cut.1 has.1 ∙ ap (λ (c : Checkpoint). c.output_length) has.2 in inr (cut.2 ∙ ap (λ n. take n (old Output)) size))
+]
+
+take_twice : (n : ℕ) (file : List ℕ) → take n (take n file) ≡ take n file
+take_twice n file = take_all n (take n file) (omega (arith, length-take n file))
+
+pub kept_stays : (old new : Image DiskFile) (there : Found) → Reopens old new → IsFound old there → kept there (new Output) ≡ kept there (old Output)
+kept_stays old new nothing reopens has = refl
+kept_stays old new damaged reopens has = refl
+kept_stays old new (found checkpoint) reopens has =
+    let n = checkpoint.output_length in
+    elim (output_of old new checkpoint reopens has) [
+      | inl same ↦ ap (λ file. take n file) same
+      | inr cut ↦ ap (λ file. take n file) cut ∙ take_twice n (old Output)
+    ]
+
+pub long_enough_still : (old new : Image DiskFile) (checkpoint : Checkpoint) → Reopens old new → IsFound old (found checkpoint)
+    → checkpoint.output_length ≤ length (old Output) → checkpoint.output_length ≤ length (new Output)
+long_enough_still old new checkpoint reopens has within =
+    elim (output_of old new checkpoint reopens has) [
+      | inl same ↦ omega (arith, ap length same)
+      | inr cut ↦ omega (arith, ap length cut, length-take-le checkpoint.output_length (old Output) within)
+    ]
+
+pub sound_still : (rules : Rules) (old new : Image DiskFile) (there : Found) → Reopens old new → IsFound old there → Sound rules there (old Output) → Sound rules there (new Output)
+sound_still rules old new nothing reopens has sound = tt
+sound_still rules old new damaged reopens has sound = absurd sound
+sound_still rules old new (found checkpoint) reopens has sound = record {
+  settings = sound.settings;
+  states = sound.states;
+  ids = sound.ids;
+  long_enough = long_enough_still old new checkpoint reopens has sound.long_enough;
+}
+
+pub standing_still : (rules : Rules) (history : History) (old new : Image DiskFile) (there : Found) → Reopens old new → IsFound old there → Standing rules history there (old Output) → Standing rules history there (new Output)
+standing_still rules history old new nothing reopens has stands = tt
+standing_still rules history old new damaged reopens has stands = absurd stands
+standing_still rules history old new (found checkpoint) reopens has stands = record {
+  sound = sound_still rules old new (found checkpoint) reopens has stands.sound;
+  stands = rw (kept_stays old new (found checkpoint) reopens has) stands.stands;
+}

@@ -1,0 +1,10 @@
+pub mod ViewLemmas
+pub mod DifferLemmas
+pub mod ImageLemmas
+pub mod RuleLemmas
+pub mod RefusalLemmas
+pub mod CallLemmas
+pub mod DiskLemmas
+pub mod SessionLemmas
+pub mod OpenLemmas
+pub mod MakingLemmas

@@ -1,0 +1,16 @@
+pub mod Checkpoints
+pub mod MadeOf
+pub mod States
+pub mod SessionParts
+pub mod Differs
+pub mod Found
+pub mod Sequence
+pub mod Settled
+pub mod Calls
+pub mod Remembers
+pub mod IsSession
+pub mod StandsOn
+pub mod Reopens
+pub mod OpenCause
+pub mod OpenFaults
+pub mod Making

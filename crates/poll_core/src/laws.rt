@@ -1,0 +1,98 @@
+//! What the definitions imply, for those who open sessions. The functions do nothing; their clauses are the laws.
+ghost use Rattle.std.specs.Prelude.{◌≡◌, ◌↔◌, ◌≤◌, ℕ, List, length, Option, None};
+ghost use Rattle.checkpoint_journal.specs.JournalOf.{HasJournal, HasCheckpoint, IsBadAt};
+ghost use Rattle.checkpoint_journal.specs.declared.journal.Journal.{Journal};
+ghost use Rattle.checkpoint_store.specs.declared.Checkpoint.{Checkpoint};
+ghost use Rattle.outside.specs.Image.{Image};
+ghost use Rattle.outside.specs.World.{History};
+ghost use Rattle.outside.specs.declared.disk.DiskFile.{DiskFile};
+ghost use Rattle.pipeline.specs.AsRules.{rules_of};
+ghost use Rattle.pipeline.specs.declared.Pipeline.{Pipeline};
+ghost use Rattle.poll_core.specs.Differs.{DiffersAt};
+ghost use Rattle.poll_core.specs.Found.{IsFound};
+ghost use Rattle.poll_core.specs.IsSession.{IsSession};
+ghost use Rattle.poll_core.specs.MadeOf.{IsMadeOf, HasRules};
+ghost use Rattle.poll_core.specs.OpenFaults.{IsRefused};
+ghost use Rattle.poll_core.specs.Remembers.{GoesOnFrom, IsLeftBy};
+ghost use Rattle.poll_core.specs.Reopens.{Reopens};
+ghost use Rattle.poll_core.specs.Sequence.{HasSequence};
+ghost use Rattle.poll_core.specs.SessionParts.{checkpoint_of_session, rules_of_session, kept_of, journal_of_session};
+ghost use Rattle.poll_core.specs.declared.fault.OpenFault.{OpenFault};
+ghost use Rattle.poll_core.specs.declared.fault.OpenFault.TheVariants.{SettingsChanged};
+ghost use Rattle.poll_core.specs.declared.session.Session.{Session};
+ghost use Rattle.standing.specs.Rules.{Rules};
+ghost use Rattle.standing.specs.Standing.{Found, nothing, Sound, Standing, kept, checkpoint_of};
+ghost use Rattle.standing.specs.Stands.{IsSound};
+
+use glob_match::laws::text_spells_one_pattern;
+
+/// What is made of one text is one: all sessions of it poll by the same rules.
+pub fn settings_give_one_set_of_rules()
+    ensures pipelines { (text : List ℕ) (one other : Pipeline) → IsMadeOf text one → IsMadeOf text other
+        → rules_of text one ≡ rules_of text other }
+    ensures rules { (text : List ℕ) (one other : Rules) → HasRules text one → HasRules text other → one ≡ other }
+{
+    text_spells_one_pattern();
+}
+
+/// An image has one thing for the next run.
+pub fn an_image_has_one_thing()
+    ensures found { (image : Image DiskFile) (one other : Found) → IsFound image one → IsFound image other → one ≡ other }
+    ensures sequence { (image : Image DiskFile) (one other : ℕ) → HasSequence image one → HasSequence image other
+        → one ≡ other }
+{}
+
+/// Whatever an image stood for, it stands for after opening: what is found in it is the same, sound and standing as before,
+/// and all that is kept of the output is there. Its sequence number stays.
+pub fn opening_keeps_what_stands()
+    ensures found { (old new : Image DiskFile) (there : Found) → Reopens old new → IsFound old there → IsFound new there }
+    ensures sound { (rules : Rules) (old new : Image DiskFile) (there : Found) → Reopens old new → IsFound old there
+        → Sound rules there (old DiskFile.Output) → Sound rules there (new DiskFile.Output) }
+    ensures standing { (rules : Rules) (history : History) (old new : Image DiskFile) (there : Found) → Reopens old new
+        → IsFound old there → Standing rules history there (old DiskFile.Output)
+        → Standing rules history there (new DiskFile.Output) }
+    ensures kept { (old new : Image DiskFile) (there : Found) → Reopens old new → IsFound old there
+        → kept there (new DiskFile.Output) ≡ kept there (old DiskFile.Output) }
+    ensures journal { (old new : Image DiskFile) (journal : Journal) (checkpoint : Checkpoint) → Reopens old new
+        → HasJournal journal checkpoint old → HasJournal journal checkpoint new }
+    ensures checkpoint { (old new : Image DiskFile) (checkpoint : Option Checkpoint) → Reopens old new
+        → HasCheckpoint checkpoint old → HasCheckpoint checkpoint new }
+    ensures bad { (old new : Image DiskFile) (at : ℕ) → Reopens old new → IsBadAt at old → IsBadAt at new }
+    ensures sequence { (old new : Image DiskFile) (sequence : ℕ) → Reopens old new → HasSequence old sequence
+        → HasSequence new sequence }
+{}
+
+/// Opening over an image has one answer: a session goes on from it, or it is refused for one reason.
+pub fn opening_has_one_answer()
+    ensures refusal { (text : List ℕ) (image : Image DiskFile) (one other : OpenFault) → IsRefused text image one
+        → IsRefused text image other → one ≡ other }
+    ensures session { (text : List ℕ) (image : Image DiskFile) (session : Session) (fault : OpenFault)
+        → IsSession session → session.settings ≡ text → GoesOnFrom session image → IsRefused text image fault → ⊥ }
+{
+    settings_give_one_set_of_rules();
+}
+
+/// An image that is sound by the rules of its own settings is refused only where other settings are given.
+pub fn a_sound_image_is_opened()
+    ensures { (own text : List ℕ) (rules : Rules) (image : Image DiskFile) (there : Found) (fault : OpenFault)
+        → HasRules own rules → IsFound image there → Sound rules there (image DiskFile.Output)
+        → IsRefused text image fault → (at : ℕ) × (fault ≡ SettingsChanged at) × DiffersAt own text at }
+{
+    settings_give_one_set_of_rules();
+}
+
+/// What a session stands on is sound, and is found again with the session's checkpoint.
+pub fn a_session_is_sound()
+    ensures sound { (session : Session) (file : List ℕ) → IsSession session → kept_of session ≤ length file
+        → IsSound (rules_of_session session) (checkpoint_of_session session) file }
+    ensures goes_on { (session : Session) (image : Image DiskFile) → IsLeftBy session image → GoesOnFrom session image }
+{}
+
+/// A session begins with what was found in the image that it goes on from, and it has no journal exactly where that is
+/// nothing.
+pub fn a_session_begins_with_what_was_found()
+    ensures checkpoint { (session : Session) (image : Image DiskFile) (there : Found) → GoesOnFrom session image
+        → IsFound image there → checkpoint_of (rules_of_session session) there ≡ checkpoint_of_session session }
+    ensures first { (session : Session) (image : Image DiskFile) (there : Found) → GoesOnFrom session image
+        → IsFound image there → (journal_of_session session ≡ None) ↔ (there ≡ nothing) }
+{}

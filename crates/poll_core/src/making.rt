@@ -1,0 +1,153 @@
+// A session of a checkpoint that was found.
+ghost use Rattle.std.specs.Prelude.{◌≡◌, ℕ, ◌≤◌, List, length, IfOk, IfErr, IfSome, IfNone, OnOk};
+ghost use Rattle.checkpoint_store.specs.Rules.{IsCheckpoint};
+ghost use Rattle.checkpoint_store.specs.declared.TheConstants.{OUTPUT_LIMIT};
+ghost use Rattle.file_tracker.specs.declared.tracker.TheConstants.{ROW_LIMIT};
+ghost use Rattle.pipeline.specs.AsRules.{rules_of};
+ghost use Rattle.poll_core.specs.Checkpoints.{rows_of};
+ghost use Rattle.poll_core.specs.Differs.{DiffersAt};
+ghost use Rattle.poll_core.specs.IsSession.{IsSession, IsShort};
+ghost use Rattle.poll_core.specs.MadeOf.{IsMadeOf};
+ghost use Rattle.poll_core.specs.OpenFaults.{IsLeastForeign};
+ghost use Rattle.poll_core.specs.Making.{IsOfFound, IsUnfit, IsRejected, AreInOrder};
+ghost use Rattle.poll_core.specs.States.{KeepStates};
+
+use crate::{OpenFault, Session};
+use checkpoint_journal::Journal;
+use checkpoint_store::{Checkpoint, Rows};
+use file_tracker::{AdmitFault, Bytes, Row, Tracker};
+use pipeline::Pipeline;
+use pipeline::laws::a_row_tells_its_state;
+use state_codec::CodecFault;
+use std::alloc::{AllocError, Global};
+
+impl Session {
+    /// The session that goes on from a journal and its checkpoint, or from nothing.
+    pub(crate) fn of_found(
+        alloc: Global,
+        pipeline: Pipeline,
+        settings: &[u8],
+        limit: u64,
+        found: Option<(Journal, Checkpoint)>,
+    ) -> Result<Session, OpenFault>
+        requires made { IsMadeOf settings.now pipeline }
+        requires limit { limit ≤ OUTPUT_LIMIT }
+        requires lawful { IfSome found (λ found. IsCheckpoint found.1) }
+        requires short { IfSome found (λ found. IsShort found.0) }
+        ensures session { IfOk result IsSession }
+        ensures settings { IfOk result (λ session. session.settings ≡ settings.now) }
+        ensures limit { IfOk result (λ session. session.limit ≡ limit) }
+        ensures found { IfOk result (IsOfFound found) }
+        ensures rejected { IfErr result (IsRejected settings.now (rules_of settings.now pipeline) found) }
+    {
+        let text = Bytes::from_slice(alloc, settings)?;
+        match found {
+            None => Ok(Session {
+                pipeline,
+                settings: text,
+                limit,
+                journal: None,
+                kept: 0,
+                tracker: Tracker::new(alloc),
+            }),
+            Some((journal, checkpoint)) => {
+                check(alloc, &pipeline, settings, &checkpoint)?;
+                let tracker = tracker_of(alloc, checkpoint.rows)?;
+                Ok(Session {
+                    pipeline,
+                    settings: text,
+                    limit,
+                    journal: Some(journal),
+                    kept: checkpoint.output_length,
+                    tracker,
+                })
+            }
+        }
+    }
+}
+
+// The checkpoint is of this text, and these operators can go on from its rows.
+fn check(
+    alloc: Global,
+    pipeline: &Pipeline,
+    settings: &[u8],
+    checkpoint: &Checkpoint,
+) -> Result<(), OpenFault>
+    requires { IsCheckpoint checkpoint.now }
+    ensures text { OnOk result (checkpoint.now.settings ≡ settings.now) }
+    ensures states { OnOk result (KeepStates (rules_of settings.now pipeline.now) checkpoint.now.rows) }
+    ensures unfit { IfErr result (IsUnfit settings.now (rules_of settings.now pipeline.now) checkpoint.now) }
+{
+    if let Some(at) = first_difference(checkpoint.settings.as_slice(), settings) {
+        return Err(OpenFault::SettingsChanged { at });
+    }
+    let foreign = first_foreign(alloc, pipeline, checkpoint.rows.as_slice())?;
+    match foreign {
+        Some(at) => Err(OpenFault::CheckpointBad { at }),
+        None => Ok(()),
+    }
+}
+
+// The first place at which two texts differ, where nothing stands past the end of a text.
+fn first_difference(one: &[u8], other: &[u8]) -> Option<u64>
+    ensures same { IfNone result (one.now ≡ other.now) }
+    ensures differs { IfSome result (DiffersAt one.now other.now) }
+{
+    let shorter = one.len().min(other.len());
+    for place in 0..shorter {
+        if one[place] != other[place] {
+            return Some(place as u64);
+        }
+    }
+    if one.len() == other.len() {
+        None
+    } else {
+        Some(shorter as u64)
+    }
+}
+
+// The id of the first row whose state isn't one of these operators.
+fn first_foreign(
+    alloc: Global,
+    pipeline: &Pipeline,
+    rows: &[Row],
+) -> Result<Option<u64>, AllocError>
+    requires { AreInOrder rows.now }
+    ensures fine { IfOk result (λ found. IfNone found ((text : List ℕ) → KeepStates (rules_of text pipeline.now) rows.now)) }
+    ensures foreign { IfOk result (λ found. IfSome found (λ id. (text : List ℕ) → IsLeastForeign (rules_of text pipeline.now) (rows_of rows.now) id)) }
+{
+    for row in rows {
+        if !has_state(alloc, pipeline, row)? {
+            return Ok(Some(u64::from(row.id)));
+        }
+    }
+    Ok(None)
+}
+
+// Whether what a row keeps is a state of these operators.
+fn has_state(alloc: Global, pipeline: &Pipeline, row: &Row) -> Result<bool, AllocError>
+    ensures { IfOk result (λ is. (text : List ℕ) → is ≡ (rules_of text pipeline.now).is_state row.now.state) }
+{
+    a_row_tells_its_state(pipeline);
+    match pipeline.restore(alloc, row.records, row.lines, row.state.as_slice()) {
+        Ok(_) => Ok(true),
+        Err(CodecFault::Malformed { .. }) => Ok(false),
+        Err(CodecFault::Memory) => Err(AllocError),
+    }
+}
+
+// A tracker with these rows.
+fn tracker_of(alloc: Global, rows: Rows) -> Result<Tracker, AllocError>
+    requires { length rows ≤ ROW_LIMIT }
+    ensures { IfOk result (λ tracker. tracker ≡ rows) }
+{
+    let mut tracker = Tracker::new(alloc);
+    for row in rows.into_vec() {
+        match tracker.admit(alloc, row) {
+            Ok(_) => {}
+            Err(AdmitFault::Full) => unreachable!(),
+            Err(AdmitFault::Memory) => return Err(AllocError),
+        }
+    }
+    Ok(tracker)
+}

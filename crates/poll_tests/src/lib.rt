@@ -1,0 +1,5 @@
+//! Sessions over the disk in memory. Tests alone.
+#![tactic(auto)]
+
+#[cfg(test)]
+mod opening;

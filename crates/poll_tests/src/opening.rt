@@ -1,0 +1,226 @@
+use checkpoint_journal::peek;
+use mem_world::MemDisk;
+use outside::{Disk, DiskFile};
+use poll_core::{OpenFault, Session};
+use std::alloc::Global;
+use std::test::Fail;
+
+const ASKED: &[u8] = b"{\"include\":[\"app.log\"],\"start_at\":\"beginning\"}";
+
+const OTHER: &[u8] = b"{\"include\":[\"app.lox\"],\"start_at\":\"beginning\"}";
+
+const LONGER: &[u8] = b"{\"include\":[\"app.log\"],\"start_at\":\"beginning\"} ";
+
+const NO_GLOB: &[u8] = b"{\"include\":[\"[\"]}";
+
+const LIMIT: u64 = 1 << 40;
+
+// What the first slot has, as far as sessions go on from it: nothing, a checkpoint of another version, or a checkpoint of
+// ASKED that keeps so much of the output, whose rows have these states, and so many bytes behind it.
+#[derive(Clone, Copy)]
+enum Kept {
+    Nothing,
+    Damaged,
+    Rows(u64, &'static [&'static [u8]], usize),
+}
+
+// What opening answers.
+#[derive(Clone, Copy, Debug, PartialEq)]
+enum Answer {
+    Opens(u64),
+    Settings,
+    Build,
+    Fails,
+    Bad(u64),
+    Changed(u64),
+    Short(u64, u64),
+    Memory,
+}
+
+use Answer::{Bad, Changed, Opens, Short};
+use Kept::{Damaged, Nothing, Rows};
+
+fn put_bytes(bytes: &[u8], out: &mut Vec<u8>) -> Result<(), Fail> {
+    out.extend_from_slice(&(bytes.len() as u32).to_be_bytes())?;
+    out.extend_from_slice(bytes)?;
+    Ok(())
+}
+
+// A row with this id: path `a`, front `f`, start 0, offset 4, one record, one line.
+fn put_row(id: u32, state: &[u8], out: &mut Vec<u8>) -> Result<(), Fail> {
+    out.extend_from_slice(&id.to_be_bytes())?;
+    put_bytes(b"a", out)?;
+    put_bytes(b"f", out)?;
+    for number in [0u64, 4, 1, 1] {
+        out.extend_from_slice(&number.to_be_bytes())?;
+    }
+    put_bytes(state, out)
+}
+
+// A checkpoint of ASKED.
+fn checkpoint(alloc: Global, kept: u64, states: &[&[u8]]) -> Result<Vec<u8>, Fail> {
+    let mut out = Vec::new(alloc);
+    out.push(1)?;
+    put_bytes(ASKED, &mut out)?;
+    out.extend_from_slice(&kept.to_be_bytes())?;
+    out.extend_from_slice(&(states.len() as u32 + 1).to_be_bytes())?;
+    out.extend_from_slice(&(states.len() as u32).to_be_bytes())?;
+    for (place, state) in states.iter().enumerate() {
+        put_row(place as u32 + 1, state, &mut out)?;
+    }
+    Ok(out)
+}
+
+// An open slot.
+fn slot(alloc: Global, sequence: u64, payload: &[u8]) -> Result<Vec<u8>, Fail> {
+    let mut out = Vec::new(alloc);
+    out.push(0xa5)?;
+    out.extend_from_slice(&sequence.to_be_bytes())?;
+    out.extend_from_slice(&(payload.len() as u64).to_be_bytes())?;
+    out.extend_from_slice(payload)?;
+    Ok(out)
+}
+
+impl Kept {
+    // What the slot has, without what stands behind it.
+    fn bytes(self, alloc: Global) -> Result<Vec<u8>, Fail> {
+        match self {
+            Nothing => Ok(Vec::new(alloc)),
+            Damaged => slot(alloc, 1, b"\x02"),
+            Rows(kept, states, _) => slot(alloc, 1, &checkpoint(alloc, kept, states)?),
+        }
+    }
+
+    fn behind(self) -> usize {
+        match self {
+            Rows(_, _, behind) => behind,
+            _ => 0,
+        }
+    }
+
+    // A disk with this and an output of so many bytes, synced.
+    fn disk(self, alloc: Global, output: usize) -> Result<MemDisk, Fail> {
+        let mut disk = MemDisk::new(alloc)?;
+        let mut bytes = self.bytes(alloc)?;
+        for _ in 0..self.behind() {
+            bytes.push(0)?;
+        }
+        disk.put(alloc, DiskFile::Settings, ASKED)?;
+        disk.put(alloc, DiskFile::SlotA, &bytes)?;
+        disk.put(alloc, DiskFile::Output, &vec![in alloc; b'x'; output]?)?;
+        Ok(disk)
+    }
+}
+
+fn open(alloc: Global, disk: &mut MemDisk, settings: &[u8]) -> Answer {
+    match Session::open(alloc, disk, settings, LIMIT) {
+        Ok(session) => Opens(session.kept()),
+        Err(OpenFault::Settings(_)) => Answer::Settings,
+        Err(OpenFault::Build(_)) => Answer::Build,
+        Err(OpenFault::Disk) => Answer::Fails,
+        Err(OpenFault::CheckpointBad { at }) => Bad(at),
+        Err(OpenFault::SettingsChanged { at }) => Changed(at),
+        Err(OpenFault::OutputShort { kept, found }) => Short(kept, found),
+        Err(OpenFault::Memory) => Answer::Memory,
+    }
+}
+
+// What the disk has, the length of its output, the settings, and the answer.
+const TABLE: &[(Kept, usize, &[u8], Answer)] = &[
+    (Nothing, 0, ASKED, Opens(0)),
+    (Nothing, 7, ASKED, Opens(0)),
+    (Rows(0, &[], 0), 0, ASKED, Opens(0)),
+    (Rows(4, &[b""], 0), 4, ASKED, Opens(4)),
+    (Rows(4, &[b"", b""], 30), 9, ASKED, Opens(4)),
+    (Rows(326, &[b""], 0), 300, ASKED, Short(326, 300)),
+    (Rows(1, &[], 0), 0, ASKED, Short(1, 0)),
+    (Rows(4, &[b"", b"x", b"y"], 0), 9, ASKED, Bad(2)),
+    (Rows(4, &[b"x"], 0), 3, ASKED, Bad(1)),
+    (Rows(4, &[b"x"], 5), 3, OTHER, Changed(19)),
+    (Rows(4, &[], 5), 4, LONGER, Changed(46)),
+    (Damaged, 4, ASKED, Bad(0)),
+    (Damaged, 4, OTHER, Bad(0)),
+    (Damaged, 4, b"{}", Answer::Settings),
+    (Damaged, 4, NO_GLOB, Answer::Build),
+];
+
+#[test]
+fn a_session_is_opened_or_refused_for_one_reason(rt: HostRuntime) -> Result<(), Fail> {
+    let alloc = rt.alloc();
+    for (kept, output, settings, answer) in TABLE {
+        let mut disk = kept.disk(alloc, *output)?;
+        assert_eq!(rt; open(alloc, &mut disk, settings), *answer);
+        // Only a session cuts what stands behind.
+        let (size, behind) = match answer {
+            Opens(size) => (*size as usize, 0),
+            _ => (*output, kept.behind()),
+        };
+        assert_eq!(rt; disk.bytes(DiskFile::Output).len(), size);
+        assert_eq!(rt;
+            disk.bytes(DiskFile::SlotA).len(),
+            kept.bytes(alloc)?.len() + behind
+        );
+        assert_eq!(rt; disk.bytes(DiskFile::Settings), ASKED);
+    }
+    Ok(())
+}
+
+const TORN: Kept = Rows(4, &[b"", b""], 30);
+
+// The disk of TORN is opened, where these calls pass or this call fails, then it crashes and is opened again.
+fn reopened(alloc: Global, calls: Option<u32>, failing: u32, outcome: u32) -> Result<Answer, Fail> {
+    let mut disk = TORN.disk(alloc, 9)?;
+    match calls {
+        Some(calls) => disk.fuse(calls),
+        None => disk.fail(alloc, failing)?,
+    }
+    let first = open(alloc, &mut disk, ASKED);
+    let mut disk = disk.crash(alloc, outcome)?;
+    let second = open(alloc, &mut disk, ASKED);
+    if second != Opens(4) {
+        return Err(Fail::from("it isn't opened again"));
+    }
+    if disk.bytes(DiskFile::Output) != b"xxxx".as_slice()
+        || disk.bytes(DiskFile::SlotA) != TORN.bytes(alloc)?.as_slice()
+    {
+        return Err(Fail::from("something stands behind"));
+    }
+    Ok(first)
+}
+
+#[test]
+fn a_stop_or_a_failure_within_opening_loses_nothing(rt: HostRuntime) -> Result<(), Fail> {
+    let alloc = rt.alloc();
+    for call in 0..40u32 {
+        for outcome in 0..5u32 {
+            let stopped = reopened(alloc, Some(call), 0, outcome)?;
+            let failed = reopened(alloc, None, call + 1, outcome)?;
+            assert_eq!(rt; failed, stopped, "call {call}");
+            assert!(rt;
+                stopped == Opens(4) || stopped == Answer::Fails,
+                "call {call}"
+            );
+        }
+    }
+    assert_eq!(rt; reopened(alloc, Some(2), 0, 0)?, Answer::Fails);
+    assert_eq!(rt; reopened(alloc, Some(40), 0, 0)?, Opens(4));
+    Ok(())
+}
+
+// A newer slot that was not synced is settled before it is chosen.
+#[test]
+fn what_was_not_synced_is_settled_first(rt: HostRuntime) -> Result<(), Fail> {
+    let alloc = rt.alloc();
+    let newer = slot(alloc, 2, &checkpoint(alloc, 2, &[b""])?)?;
+    for outcome in 0..5u32 {
+        let mut disk = Rows(1, &[b""], 0).disk(alloc, 1)?;
+        disk.write_at(alloc, DiskFile::SlotB, 0, &newer)?;
+        disk.write_at(alloc, DiskFile::Output, 1, b"yz")?;
+        assert_eq!(rt; open(alloc, &mut disk, ASKED), Opens(2));
+        let mut disk = disk.crash(alloc, outcome)?;
+        assert_eq!(rt; disk.bytes(DiskFile::Output), b"xy".as_slice());
+        let (journal, _) = peek(alloc, &mut disk)?.ok_or("no journal")?;
+        assert_eq!(rt; journal.sequence, 2);
+    }
+    Ok(())
+}
