@@ -53,6 +53,20 @@ flattened parent name entry =
     where_a_map value (λ raised.
     or_refused (set_at parent (raised_in name holder raised) entry))))
 
+-- the members put among those of the map that is there, each in the place of one with its name, or as a map of their own
+abbrev pub joined : Members → Option Datum → Datum
+joined members None = fields members
+joined members (Some null) = fields members
+joined members (Some (boolean b)) = fields members
+joined members (Some (int z)) = fields members
+joined members (Some (text bytes)) = fields members
+joined members (Some (list items)) = fields members
+joined members (Some (fields there)) = fields (with_members members there)
+
+-- the members are put into the map at the place
+abbrev pub merged : Place → Members → LogRecord → Outcome
+merged field members entry = added field (joined members (datum_at field entry)) entry
+
 -- each root of a listed field, as an empty map
 abbrev pub emptied : List Place → LogRecord → LogRecord
 emptied [] entry = entry

@@ -73,7 +73,8 @@ fn flatten_member(alloc: Global, holder: &Value, name: &Text) -> Result<Value, F
     Ok(Value::Map(members))
 }
 
-fn raise(raised: Fields, members: &mut Fields) -> Result<(), AllocError>
+/// Puts each of some members among others, in the place of one with its name.
+pub(crate) fn raise(raised: Fields, members: &mut Fields) -> Result<(), AllocError>
     ensures { OnOk result (members_seen members.new.entries
         ≡ with_members (members_seen raised.entries) (members_seen members.old.entries)) }
 {

@@ -1,5 +1,5 @@
 //! The operators that move, copy, add, remove, retain and flatten fields of an entry, as those of the OpenTelemetry
-//! Collector's log operators do.
+//! Collector's log operators do, and what parsers do with the members that they make.
 //!
 //! The contract for the layer above: `apply` of each is its row of the definitions in `specs/Rows`, which speak of
 //! an entry as its `log_record` and of a path as its `Place`. Its faults are exactly those of the row, and an entry
@@ -9,6 +9,7 @@
 mod fault;
 mod flattening;
 pub mod laws;
+mod merging;
 mod retaining;
 mod single;
 #[cfg(test)]
@@ -17,6 +18,7 @@ mod transfer;
 
 pub use fault::FieldFault;
 pub use flattening::Flatten;
+pub use merging::put_members;
 pub use retaining::Retain;
 pub use single::{Add, Remove};
 pub use transfer::{Copy, Move};

@@ -1,5 +1,5 @@
 // Entries written by hand.
-use crate::{Add, Copy, FieldFault, Flatten, Move, Remove, Retain};
+use crate::{Add, Copy, FieldFault, Flatten, Move, Remove, Retain, put_members};
 use entry_model::{Entry, Fields, Text, Value};
 use field_paths::FieldPath;
 use std::alloc::{AllocError, Global};
@@ -257,5 +257,37 @@ fn retains(rt: HostRuntime) -> Result<(), Fail> {
             "{first} and {second}"
         );
     }
+    Ok(())
+}
+
+// What is at a field once {a: 1, b: 2} was put into it.
+fn merged(alloc: Global, field: &str) -> Result<Result<Value, FieldFault>, Fail> {
+    let field = path(alloc, field)?;
+    let mut entry = sample(alloc)?;
+    if let Err(fault) = put_members(alloc, &field, pair(alloc)?, &mut entry) {
+        return Ok(if entry == sample(alloc)? {
+            Err(fault)
+        } else {
+            Ok(Value::Null)
+        });
+    }
+    match field.get(&entry) {
+        Some(value) => Ok(Ok(value.copy(alloc)?)),
+        None => Ok(Err(FieldFault::Missing)),
+    }
+}
+
+#[test]
+fn members_are_put_into_a_map_or_become_one(rt: HostRuntime) -> Result<(), Fail> {
+    let alloc = rt.alloc();
+    let alone = Ok(Value::Map(pair(alloc)?));
+    for field in ["body.c", "body.n", "body.new.map", "resource", "body.a"] {
+        assert!(rt; merged(alloc, field)? == alone, "{field}");
+    }
+    let mut beside = pair(alloc)?;
+    put(alloc, &mut beside, "x", Value::Int(1))?;
+    put(alloc, &mut beside, "y", Value::Int(2))?;
+    assert!(rt; merged(alloc, "attributes")? == Ok(Value::Map(beside)));
+    assert!(rt; merged(alloc, "body.c.under")? == Err(FieldFault::NotAMap));
     Ok(())
 }

@@ -13,11 +13,11 @@ use Rattle.field_paths.proofs.Faults.{one_path}
 use Rattle.field_paths.specs.PathText.{IsPathText}
 use Rattle.field_paths.specs.Place.{Place}
 use Rattle.op_kinds.specs.AnyOpView.{act_of}
-use Rattle.op_kinds.specs.Compiled.{ArePathTexts, AreExpressions, Does, Routes, IsCondition, IsCompiledTo}
+use Rattle.op_kinds.specs.Compiled.{ArePathTexts, AreExpressions, Does, Routes, IsCondition, IsCompiledTo, drops_faulty}
 use Rattle.op_kinds.specs.Operator as operator
 use Rattle.op_kinds.specs.Operator.{Act, Operator, conditional, router}
 use Rattle.op_kinds.specs.Readings.{Reading, path, member, expression, IsFaulty, own_readings, condition_readings, readings, route_reading, IsLeastCause, AreRead}
-use Rattle.op_kinds.specs.WorkView.{IsWorkOf}
+use Rattle.op_kinds.specs.WorkView.{IsWorkOf, operator_of}
 use Rattle.op_kinds.specs.declared.cause.OpCause.{OpCause}
 use Rattle.op_kinds.specs.declared.compiling.Work.{Work}
 use Rattle.op_kinds.specs.declared.compiling.Work.TheVariants.{Act as ActWork, Route}
@@ -105,7 +105,7 @@ pub work_is_read : (kind : OpKind) (work : Work) → IsWorkOf kind work → AreR
 work_is_read kind (ActWork action) is = done_is_read kind (act_of action) is
 work_is_read kind (Route made) is = routed_is_read kind (map tree_of made.routes.items) made.has_default is
 
-condition_is_read : (condition : Option (List ℕ)) (tree : Option Tree) → IsCondition condition tree → AreRead (condition_readings condition)
+pub condition_is_read : (condition : Option (List ℕ)) (tree : Option Tree) → IsCondition condition tree → AreRead (condition_readings condition)
 condition_is_read None tree is = λ reading has faulty. has
 condition_is_read (Some text) None is = λ reading has faulty. is
 condition_is_read (Some text) (Some tree) is = one_is_read (expression text) (λ none. none tree is)
@@ -224,3 +224,10 @@ one_operator spec (router trees has) (conditional condition act drops) is also =
 one_operator spec (router trees has) (router others also_has) is also =
     let same = same_routes spec.kind trees others has also_has is.2 also.2 in
     ap (λ t. router t has) same.0 ∙ ap (router others) same.1
+
+-- ---- an operator with its condition
+
+pub work_with_condition : (spec : OpSpec) (work : Work) (condition : Option Tree) → IsWorkOf spec.kind work → IsCondition spec.condition condition
+    → IsCompiledTo spec (operator_of condition (drops_faulty spec.kind spec.on_error) work)
+work_with_condition spec (ActWork action) condition is read = (read, is, refl)
+work_with_condition spec (Route made) condition is read = (condition, read, is)

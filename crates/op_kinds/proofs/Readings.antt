@@ -1,6 +1,7 @@
 -- Texts that can't be read, and the least cause.
-use Rattle.std.proofs.Common.{◌≡◌, ◌≢◌, ℕ, zero, suc, ◌<◌, ◌≤◌, ◌⊎◌, List, [], ◌∷◌, ◌++◌, inl, inr, length, length-append, map, arith, refl, sym, ap, subst, ◌∙◌}
-use Rattle.std.specs.Prelude.{slice_index_or, Option, None, Some}
+use Rattle.std.proofs.Common.{◌≡◌, ◌≢◌, ℕ, zero, suc, ◌<◌, ◌≤◌, ◌⊎◌, List, [], ◌∷◌, ◌++◌, inl, inr, Bool, true, false, true≢false, length, length-append, map, arith, refl, sym, ap, subst, ◌∙◌}
+use Rattle.std.proofs.lemmas.Bool.{ltb-true, ltb-false}
+use Rattle.std.specs.Prelude.{slice_index_or, nat_lt, if◌then◌else◌, Option, None, Some}
 use Rattle.expr_lang.specs.Outcome.{IsReadFault as IsExprFault}
 use Rattle.expr_lang.specs.declared.read.ExprReadFault.{ExprReadFault}
 use Rattle.expr_lang.specs.declared.read.ExprReadFault.TheVariants as expr
@@ -13,7 +14,7 @@ use Rattle.field_paths.specs.declared.path.PathFault.{PathFault}
 use Rattle.field_paths.specs.declared.path.PathFault.TheVariants.{NotAPath, Memory}
 use Rattle.graph_core.specs.Wiring.{Has}
 use Rattle.op_kinds.specs.Causes.{of_path_fault, of_read_fault}
-use Rattle.op_kinds.specs.Readings.{Reading, path, member, expression, IsFaulty, route_reading, condition_readings, cause_of, number, IsLeastCause, Caused, AreRead}
+use Rattle.op_kinds.specs.Readings.{Reading, path, member, expression, IsFaulty, route_reading, cause_of, number, least_of, IsLeastCause, Caused, AreRead}
 use Rattle.op_kinds.specs.declared.cause.OpCause.{OpCause}
 use Rattle.op_kinds.specs.declared.cause.OpCause.TheVariants as cause
 use Rattle.settings_text.specs.declared.settings.RouteSpec.{RouteSpec}
@@ -52,15 +53,15 @@ not_memory (member text) is = cc is
 not_memory (expression text) is = cc is
 
 same_number : (one other : OpCause) → number one ≡ number other → one ≡ other
-same_number cause.Path cause.Path is = refl
-same_number cause.Path cause.Expr is = absurd (omega (arith, is))
-same_number cause.Path cause.Memory is = absurd (omega (arith, is))
-same_number cause.Expr cause.Path is = absurd (omega (arith, is))
-same_number cause.Expr cause.Expr is = refl
-same_number cause.Expr cause.Memory is = absurd (omega (arith, is))
+same_number cause.Memory cause.Memory is = refl
 same_number cause.Memory cause.Path is = absurd (omega (arith, is))
 same_number cause.Memory cause.Expr is = absurd (omega (arith, is))
-same_number cause.Memory cause.Memory is = refl
+same_number cause.Path cause.Memory is = absurd (omega (arith, is))
+same_number cause.Path cause.Path is = refl
+same_number cause.Path cause.Expr is = absurd (omega (arith, is))
+same_number cause.Expr cause.Memory is = absurd (omega (arith, is))
+same_number cause.Expr cause.Path is = absurd (omega (arith, is))
+same_number cause.Expr cause.Expr is = refl
 
 ordered : (n m : ℕ) → (n < m) ⊎ ((n ≡ m) ⊎ (m < n))
 ordered zero zero = inr (inl refl)
@@ -196,19 +197,58 @@ pub no_member_at_a_root : (text : List ℕ) (place : Place) → IsPathText text 
 no_member_at_a_root text place is root some =
     of_one (member text) cause.Path refl (λ parent name other. not_empty parent.names name (sym root ∙ ap (λ p. p.names) (one_path text place (member_of parent name) is other)))
 
+none_below : (found : OpCause) → found ≢ cause.Memory → number found ≤ 0 → ⊥
+none_below cause.Memory some below = some refl
+none_below cause.Path some below = omega (arith, below)
+none_below cause.Expr some below = omega (arith, below)
+
 -- ---- a whole operator
 
-at_most_2 : (reading : Reading) → number (cause_of reading) ≤ 2
-at_most_2 (path text) = omega arith
-at_most_2 (member text) = omega arith
-at_most_2 (expression text) = omega arith
-
-pub work_refused : (own : List Reading) (condition : Option (List ℕ)) (found : OpCause) → Caused own found → Caused (own ++ condition_readings condition) found
-work_refused own condition found given some =
+-- what stands in front of others that can be read
+pub caused_alone : (front back : List Reading) (found : OpCause) → AreRead back → Caused front found → Caused (front ++ back) found
+caused_alone front back found read given some =
     let alone = given some in
-    caused_in_front own (condition_readings condition) found (no_less condition (subst (λ c. number c ≤ 2) alone.is (at_most_2 alone.reading))) given some
+    record {
+      reading = alone.reading;
+      among = has-front front back alone.reading alone.among;
+      is = alone.is;
+      faulty = alone.faulty;
+      least = λ other has less faulty. elim (has-either front back other has) [
+        | inl in_front ↦ alone.least other in_front less faulty
+        | inr behind ↦ read other behind faulty
+      ];
+    }
+
+-- of two lists that have a cause each
+pub least_caused : (front back : List Reading) (one other : OpCause) → Caused front one → Caused back other → Caused (front ++ back) (least_of one other)
+least_caused front back one other first then_so = by (nat_lt (number other) (number one)) refl
   where
-    no_less : (condition : Option (List ℕ)) → number found ≤ 2 → (other : Reading) → Has (condition_readings condition) other → number found ≤ number (cause_of other)
-    no_less None few other has = absurd has
-    no_less (Some text) few other (inl is) = omega (arith, few, ap (λ r. number (cause_of r)) is)
-    no_less (Some text) few other (inr none) = absurd none
+    by : (less : Bool) → nat_lt (number other) (number one) ≡ less → Caused (front ++ back) (if less then other else one)
+    by true is some =
+        let last = then_so some in
+        let first_some : one ≢ cause.Memory = λ memory. omega (arith, ltb-true (number other) (number one) is, ap number memory) in
+        let first_cause = first first_some in
+        record {
+          reading = last.reading;
+          among = has-back front back last.reading last.among;
+          is = last.is;
+          faulty = last.faulty;
+          least = λ third has lesser faulty. elim (has-either front back third has) [
+            | inl in_front ↦ first_cause.least third in_front (omega (arith, lesser, ltb-true (number other) (number one) is)) faulty
+            | inr behind ↦ last.least third behind lesser faulty
+          ];
+        }
+    by false is some =
+        let alone = first some in
+        let last_some : other ≢ cause.Memory = λ memory. none_below one some (omega (arith, ltb-false (number other) (number one) is, ap number memory)) in
+        let last = then_so last_some in
+        record {
+          reading = alone.reading;
+          among = has-front front back alone.reading alone.among;
+          is = alone.is;
+          faulty = alone.faulty;
+          least = λ third has lesser faulty. elim (has-either front back third has) [
+            | inl in_front ↦ alone.least third in_front lesser faulty
+            | inr behind ↦ last.least third behind (omega (arith, lesser, ltb-false (number other) (number one) is)) faulty
+          ];
+        }

@@ -3,8 +3,6 @@ use Rattle.std.specs.Prelude.{List, [], ◌∷◌, map, Option, None, Some, opti
 use Rattle.std.specs.declared.alloc.AllocError.{AllocError}
 use Rattle.entry_model.specs.Datum.{datum}
 use Rattle.entry_model.specs.LogRecord.{LogRecord}
-use Rattle.field_ops.specs.declared.fault.FieldFault.{FieldFault}
-use Rattle.field_ops.specs.declared.fault.FieldFault.TheVariants.{Missing, NotAMap, Memory}
 use Rattle.expr_lang.specs.TreeOf.{tree_of}
 use Rattle.op_kinds.specs.Operator as op
 use Rattle.op_kinds.specs.Operator.{Act, Operator}
@@ -12,6 +10,8 @@ use Rattle.op_kinds.specs.declared.action.Action.{Action}
 use Rattle.op_kinds.specs.declared.action.Action.TheVariants.{Noop, Move, Copy, Add, Remove, Flatten, Retain, Filter}
 use Rattle.op_kinds.specs.declared.action.Fate.{Fate}
 use Rattle.op_kinds.specs.declared.action.Fate.TheVariants.{Sent, Dropped, Faulty}
+use Rattle.op_kinds.specs.declared.row.RowFault.{RowFault}
+use Rattle.op_kinds.specs.declared.row.RowFault.TheVariants as row
 use Rattle.op_kinds.specs.declared.any_op.Form.{Form}
 use Rattle.op_kinds.specs.declared.any_op.Form.TheVariants.{Conditional, Router}
 
@@ -35,9 +35,8 @@ entries_by Sent entry = Some (entry ∷ [])
 entries_by Dropped entry = Some []
 entries_by Faulty entry = None
 
--- the fate of an entry that a field operator was applied to
-abbrev pub fate_from : Result (Unit {0}) FieldFault → Result Fate AllocError
+-- the fate of an entry on which a row was done
+abbrev pub fate_from : Result (Unit {0}) RowFault → Result Fate AllocError
 fate_from (Ok _) = Ok Sent
-fate_from (Err Missing) = Ok Faulty
-fate_from (Err NotAMap) = Ok Faulty
-fate_from (Err Memory) = Err alloc_error
+fate_from (Err row.Faulty) = Ok Faulty
+fate_from (Err row.Memory) = Err alloc_error

@@ -2,6 +2,7 @@ pub mod Kept
 pub mod StateView
 pub mod Operator
 pub mod Ports
+pub mod Faults
 pub mod AnyOpView
 pub mod Applied
 pub mod WorkView

@@ -1,5 +1,5 @@
 -- What must be readable in the settings of an operator, and for which cause there is none.
-use Rattle.std.specs.Prelude.{◌≡◌, ◌≢◌, ◌<◌, ℕ, List, [], ◌∷◌, ◌++◌, map, Option, None, Some}
+use Rattle.std.specs.Prelude.{◌≡◌, ◌≢◌, ◌<◌, nat_lt, if◌then◌else◌, ℕ, List, [], ◌∷◌, ◌++◌, map, Option, None, Some}
 use Rattle.expr_lang.specs.Outcome.{IsNoExpression}
 use Rattle.field_ops.specs.Rows.{member_of}
 use Rattle.field_paths.specs.PathText.{IsPathText}
@@ -68,6 +68,10 @@ abbrev pub number : OpCause → ℕ
 number Memory = 0
 number Path = 1
 number Expr = 2
+
+-- the one of two causes that counts
+abbrev pub least_of : OpCause → OpCause → OpCause
+least_of one other = if nat_lt (number other) (number one) then other else one
 
 -- some reading of this cause is faulty, and none of a lesser one
 pub record IsLeastCause (all : List Reading) (cause : OpCause) : Type 0 where

@@ -3,9 +3,11 @@ ghost use Rattle.std.specs.Prelude.{◌≡◌, IfOk};
 ghost use Rattle.entry_model.specs.LogRecord.{log_record};
 ghost use Rattle.op_kinds.specs.AnyOpView.{act_of, entries_by, fate_from};
 ghost use Rattle.op_kinds.specs.Applied.{IsApplied, effect};
+ghost use Rattle.op_kinds.specs.Faults as faults;
 ghost use Rattle.op_kinds.specs.Operator as operator;
 ghost use Rattle.op_kinds.specs.Operator.{done, row};
 
+use crate::row::RowFault;
 use crate::types::filtering;
 use crate::{OpState, Record};
 use entry_model::Entry;
@@ -82,23 +84,32 @@ impl Action {
     {
         match self {
             Action::Noop => Ok(Fate::Sent),
-            Action::Move(op) => after(op.apply(alloc, entry)),
-            Action::Copy(op) => after(op.apply(alloc, entry)),
-            Action::Add(op) => after(op.apply(alloc, entry)),
-            Action::Remove(op) => after(op.apply(alloc, entry)),
-            Action::Flatten(op) => after(op.apply(alloc, entry)),
-            Action::Retain(op) => after(op.apply(alloc, entry)),
+            Action::Move(op) => after(in_row(op.apply(alloc, entry))),
+            Action::Copy(op) => after(in_row(op.apply(alloc, entry))),
+            Action::Add(op) => after(in_row(op.apply(alloc, entry))),
+            Action::Remove(op) => after(in_row(op.apply(alloc, entry))),
+            Action::Flatten(op) => after(in_row(op.apply(alloc, entry))),
+            Action::Retain(op) => after(in_row(op.apply(alloc, entry))),
             Action::Filter(expr) => filtering::apply(alloc, expr, entry),
         }
     }
 }
 
-fn after(applied: Result<(), FieldFault>) -> Result<Fate, AllocError>
-    ensures { result ≡ fate_from applied }
+fn after(done: Result<(), RowFault>) -> Result<Fate, AllocError>
+    ensures { result ≡ fate_from done }
+{
+    match done {
+        Ok(()) => Ok(Fate::Sent),
+        Err(RowFault::Faulty) => Ok(Fate::Faulty),
+        Err(RowFault::Memory) => Err(AllocError),
+    }
+}
+
+fn in_row(applied: Result<(), FieldFault>) -> Result<(), RowFault>
+    ensures { result ≡ faults.in_row applied }
 {
     match applied {
-        Ok(()) => Ok(Fate::Sent),
-        Err(FieldFault::Memory) => Err(AllocError),
-        Err(FieldFault::Missing | FieldFault::NotAMap) => Ok(Fate::Faulty),
+        Ok(()) => Ok(()),
+        Err(fault) => Err(RowFault::from(fault)),
     }
 }

@@ -17,6 +17,33 @@ pub enum OpCause {
     Memory,
 }
 
+impl OpCause {
+    ghost use Rattle.std.specs.Prelude.{◌≡◌};
+    ghost use Rattle.op_kinds.specs.Readings as readings;
+
+    /// The place in the order of causes. Where memory ran out nothing is known of the others, so this stands first.
+    fn number(self) -> u8
+        ensures { result ≡ readings.number self }
+    {
+        match self {
+            OpCause::Memory => 0,
+            OpCause::Path => 1,
+            OpCause::Expr => 2,
+        }
+    }
+
+    /// The one of two causes that counts.
+    pub(crate) fn or_less(self, other: OpCause) -> OpCause
+        ensures { result ≡ readings.least_of self other }
+    {
+        if other.number() < self.number() {
+            other
+        } else {
+            self
+        }
+    }
+}
+
 impl From<AllocError> for OpCause {
     ghost use Rattle.std.specs.Prelude.{◌≡◌};
     ghost use Rattle.op_kinds.specs.declared.cause.OpCause.TheVariants.{Memory};

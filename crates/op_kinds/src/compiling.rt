@@ -1,9 +1,11 @@
 // Operators as settings ask for them.
-ghost use Rattle.std.specs.Prelude.{◌≡◌, ◌≤◌, IfOk, IfErr};
+ghost use Rattle.std.specs.Prelude.{◌≡◌, ◌≤◌, ◌++◌, List, IfOk, IfErr, option_map};
+ghost use Rattle.expr_lang.specs.TreeOf.{tree_of};
+ghost use Rattle.op_kinds.specs.AnyOpView as view;
 ghost use Rattle.op_kinds.specs.Compiled as compiled;
 ghost use Rattle.op_kinds.specs.Compiled.{IsCompiledTo};
-ghost use Rattle.op_kinds.specs.Readings.{Caused, own_readings, readings};
-ghost use Rattle.op_kinds.specs.WorkView.{IsWorkOf};
+ghost use Rattle.op_kinds.specs.Readings.{Caused, Reading, condition_readings, own_readings, readings};
+ghost use Rattle.op_kinds.specs.WorkView.{IsWorkOf, operator_of};
 ghost use Rattle.settings_text.specs.Limits.{route_count};
 
 use crate::action::Action;
@@ -13,6 +15,8 @@ use crate::reading::condition;
 use crate::router::Router;
 use crate::types::{adding, copying, filtering, flattening, moving, removing, retaining};
 use crate::{AnyOp, OpCause};
+use entry_model::Text;
+use expr_lang::Expr;
 use settings_text::{OnError, OpKind, OpSpec};
 use std::alloc::Global;
 
@@ -22,17 +26,39 @@ pub fn compile(alloc: Global, spec: &OpSpec) -> Result<AnyOp, OpCause>
     ensures ok { IfOk result (IsCompiledTo spec.now) }
     ensures cause { IfErr result (Caused (readings spec.now)) }
 {
-    let work = work_of(alloc, &spec.kind)?;
-    let condition = condition(alloc, &spec.condition)?;
-    let form = match work {
+    match work_of(alloc, &spec.kind) {
+        Ok(work) => {
+            let condition = condition(alloc, &spec.condition)?;
+            let drops_faulty = drops_faulty(&spec.kind, spec.on_error);
+            Ok(AnyOp {
+                form: form_of(work, condition, drops_faulty),
+            })
+        }
+        Err(own) => Err(refusal(alloc, own, &spec.condition)),
+    }
+}
+
+/// The cause that counts of an operator that has one of its own.
+fn refusal(alloc: Global, own: OpCause, text: &Option<Text>) -> OpCause
+    ensures { (all : List Reading) → Caused all own → Caused (all ++ condition_readings text.now) result }
+{
+    match condition(alloc, text) {
+        Ok(_condition) => own,
+        Err(other) => own.or_less(other),
+    }
+}
+
+fn form_of(work: Work, condition: Option<Expr>, drops_faulty: bool) -> Form
+    ensures { view.form_of result ≡ operator_of (option_map tree_of condition) drops_faulty work }
+{
+    match work {
         Work::Act(action) => Form::Conditional(Conditional {
             condition,
             action,
-            drops_faulty: drops_faulty(&spec.kind, spec.on_error),
+            drops_faulty,
         }),
         Work::Route(router) => Form::Router(router),
-    };
-    Ok(AnyOp { form })
+    }
 }
 
 /// What an operator does, beside its condition.

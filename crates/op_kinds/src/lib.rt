@@ -20,6 +20,7 @@ pub mod laws;
 mod reading;
 mod record;
 mod router;
+mod row;
 mod saving;
 mod state;
 #[cfg(test)]

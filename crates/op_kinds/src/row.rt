@@ -1,0 +1,36 @@
+// What rows of different types come to, so that one can follow another.
+use field_ops::FieldFault;
+use std::alloc::AllocError;
+
+/// Why a row wasn't done on an entry. Rows that follow one another only know that there is a fault.
+#[derive(Clone, Copy, PartialEq, Eq, Drop)]
+pub(crate) enum RowFault {
+    /// It can't be done.
+    Faulty,
+    Memory,
+}
+
+impl From<AllocError> for RowFault {
+    ghost use Rattle.std.specs.Prelude.{◌≡◌};
+    ghost use Rattle.op_kinds.specs.declared.row.RowFault.TheVariants.{Memory};
+
+    ghost from_gives = { λ _ fault. fault ≡ Memory };
+
+    fn from(_error: AllocError) -> RowFault {
+        RowFault::Memory
+    }
+}
+
+impl From<FieldFault> for RowFault {
+    ghost use Rattle.std.specs.Prelude.{◌≡◌};
+    ghost use Rattle.op_kinds.specs.Faults.{of_field_fault};
+
+    ghost from_gives = { λ given fault. fault ≡ of_field_fault given };
+
+    fn from(given: FieldFault) -> RowFault {
+        match given {
+            FieldFault::Missing | FieldFault::NotAMap => RowFault::Faulty,
+            FieldFault::Memory => RowFault::Memory,
+        }
+    }
+}
