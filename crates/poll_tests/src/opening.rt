@@ -13,7 +13,7 @@ const LONGER: &[u8] = b"{\"include\":[\"app.log\"],\"start_at\":\"beginning\"} "
 
 const NO_GLOB: &[u8] = b"{\"include\":[\"[\"]}";
 
-const LIMIT: u64 = 1 << 40;
+const LIMIT: u64 = 1_099_511_627_776;
 
 // What the first slot has, as far as sessions go on from it: nothing, a checkpoint of another version, or a checkpoint of
 // ASKED that keeps so much of the output, whose rows have these states, and so many bytes behind it.
@@ -40,8 +40,15 @@ enum Answer {
 use Answer::{Bad, Changed, Opens, Short};
 use Kept::{Damaged, Nothing, Rows};
 
+fn number_of(count: usize) -> Result<u32, Fail> {
+    match u32::try_from(count) {
+        Ok(number) => Ok(number),
+        Err(_) => Err(Fail::from("too many")),
+    }
+}
+
 fn put_bytes(bytes: &[u8], out: &mut Vec<u8>) -> Result<(), Fail> {
-    out.extend_from_slice(&(bytes.len() as u32).to_be_bytes())?;
+    out.extend_from_slice(&number_of(bytes.len())?.to_be_bytes())?;
     out.extend_from_slice(bytes)?;
     Ok(())
 }
@@ -63,10 +70,13 @@ fn checkpoint(alloc: Global, kept: u64, states: &[&[u8]]) -> Result<Vec<u8>, Fai
     out.push(1)?;
     put_bytes(ASKED, &mut out)?;
     out.extend_from_slice(&kept.to_be_bytes())?;
-    out.extend_from_slice(&(states.len() as u32 + 1).to_be_bytes())?;
-    out.extend_from_slice(&(states.len() as u32).to_be_bytes())?;
-    for (place, state) in states.iter().enumerate() {
-        put_row(place as u32 + 1, state, &mut out)?;
+    let count = number_of(states.len())?;
+    out.extend_from_slice(&count.saturating_add(1).to_be_bytes())?;
+    out.extend_from_slice(&count.to_be_bytes())?;
+    let mut id = 1u32;
+    for state in states {
+        put_row(id, state, &mut out)?;
+        id = id.saturating_add(1);
     }
     Ok(out)
 }
@@ -158,7 +168,7 @@ fn a_session_is_opened_or_refused_for_one_reason(rt: HostRuntime) -> Result<(), 
         assert_eq!(rt; disk.bytes(DiskFile::Output).len(), size);
         assert_eq!(rt;
             disk.bytes(DiskFile::SlotA).len(),
-            kept.bytes(alloc)?.len() + behind
+            kept.bytes(alloc)?.len().saturating_add(behind)
         );
         assert_eq!(rt; disk.bytes(DiskFile::Settings), ASKED);
     }
@@ -214,8 +224,11 @@ fn what_was_not_synced_is_settled_first(rt: HostRuntime) -> Result<(), Fail> {
     let newer = slot(alloc, 2, &checkpoint(alloc, 2, &[b""])?)?;
     for outcome in 0..5u32 {
         let mut disk = Rows(1, &[b""], 0).disk(alloc, 1)?;
-        disk.write_at(alloc, DiskFile::SlotB, 0, &newer)?;
+        if disk.bytes(DiskFile::Output).is_empty() {
+            return Err(Fail::from("no output"));
+        }
         disk.write_at(alloc, DiskFile::Output, 1, b"yz")?;
+        disk.write_at(alloc, DiskFile::SlotB, 0, &newer)?;
         assert_eq!(rt; open(alloc, &mut disk, ASKED), Opens(2));
         let mut disk = disk.crash(alloc, outcome)?;
         assert_eq!(rt; disk.bytes(DiskFile::Output), b"xy".as_slice());
