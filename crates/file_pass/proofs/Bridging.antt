@@ -1,0 +1,221 @@
+-- From what was read of an open file to a look at it.
+use Rattle.std.proofs.Common.{◌≡◌, ℕ, ◌+◌, ◌-◌, ◌<◌, ◌≤◌, ◌==◌, List, [], ◌∷◌, ◌++◌, length, take, drop, min, Bool, true, false, cond, ◌&&◌, refl, sym, ap, subst, ◌∙◌, inl, inr, arith, eq-eqb, length-append}
+use Rattle.std.proofs.lemmas.Bool.{ne_eqb, le-ltb}
+use Rattle.std.specs.Prelude.{None, Some, slice_get, slice_set, nat_lt}
+use Rattle.file_tracker.specs.Places.{place_of, with_front}
+use Rattle.file_tracker.specs.declared.row.Row as tracked
+use Rattle.outside.proofs.Moving.{moves_none}
+use Rattle.outside.specs.Moment.{Moves}
+use Rattle.outside.specs.World.{World, History, bytes}
+use Rattle.standing.proofs.MomentLemmas.{bytes_grow}
+use Rattle.standing.specs.Limits.{most_taken, is_compressed}
+use Rattle.standing.specs.Look.{Look, Outcome, finds_new, finds_row, content, front, size, piece, new_row, offset_found, fed, lines_of}
+use Rattle.standing.specs.Marks.{Mark}
+use Rattle.standing.specs.Rows.{Row}
+use Rattle.standing.specs.Rules.{Rules}
+use Rattle.standing.specs.Sums.{is_passed_as_compressed, is_left_out}
+use Rattle.file_pass.specs.Fed.{rules_in}
+use Rattle.file_pass.specs.Gain.{Gain, gain_of, one_if}
+use Rattle.file_pass.specs.LookTaken.{IsGainOf, TakesLook, IsOpenAt, SeenTaken, look_at}
+use Rattle.file_pass.specs.Reads.{HasBytes, Reads}
+use Rattle.file_pass.specs.RowTaken.{IsShorter, IsReadOn, RowTaken}
+use Rattle.file_pass.specs.Seen.{row_of, rows_of}
+use Rattle.file_pass.specs.Settled.{IsKnown, IsAdmitted, Settles, admitted}
+use Rattle.file_pass.specs.declared.ending.Ending.{Ending}
+use Rattle.file_pass.specs.declared.ending.Ending.TheVariants.{Whole, Failed, Shrunk}
+use Rattle.file_pass.specs.declared.ending.OpenFile.{OpenFile}
+use Rattle.file_pass.specs.declared.found.Found.{Found}
+use Rattle.file_pass.specs.declared.found.Found.TheVariants.{Read}
+use Rattle.file_pass.specs.declared.setup.Setup.{Setup}
+use Rattle.file_pass.proofs.Listing.{get_set, push_there}
+use Rattle.file_pass.proofs.Looking.{filled_some, short_not, short_end, takes_short, takes_on, takes_new}
+use Rattle.file_pass.proofs.ReadingLemmas.{same_piece}
+
+-- the place up to which the file could be read
+abbrev pub end_for : Ending → ℕ → ℕ → ℕ
+end_for Whole all reached = all
+end_for Failed all reached = reached
+end_for Shrunk all reached = reached
+
+-- an open file had these bytes at its look, and has them now
+pub still_open : (file : OpenFile) (seen : ℕ) (moment : History) (world : World) → IsOpenAt file seen moment world → HasBytes file.handle.0 file.size world seen
+still_open file seen moment world at =
+    let grown = bytes_grow moment world.history seen at.later in
+    record { is = at.is; long = omega (arith, at.size_then, ap length grown.1, length-append (bytes moment seen) grown.0) }
+
+-- bytes that were read stood in the file at its look
+pub stood_then : (file : OpenFile) (seen : ℕ) (moment : History) (old new : World) (from : ℕ) (given : List ℕ) (ending : Ending) → IsOpenAt file seen moment old → from + length given ≤ file.size → Reads file.handle.0 from file.size given ending old new
+    → given ≡ take (length given) (drop from (bytes moment seen))
+stood_then file seen moment old new from given ending at within reads =
+    let grown = bytes_grow moment old.history seen at.later in
+    reads.are seen (still_open file seen moment old at)
+    ∙ ap (λ l. take (length given) (drop from l)) grown.1
+    ∙ same_piece from (length given) (bytes moment seen) grown.0 (omega (arith, within, at.size_then))
+
+pub piece_is : (here : Look) (offset : ℕ) (given : List ℕ) → given ≡ take (length given) (drop offset (content here)) → min here.end (offset + most_taken) - offset ≡ length given → given ≡ piece here offset
+piece_is here offset given stood many = stood ∙ ap (λ n. take n (drop offset (content here))) (sym many)
+
+-- what a file that was read on adds to the counts
+module _ (rules : Rules) (first : Bool) (here : Look) (found : Outcome) (offset : ℕ) (at : offset_found rules first here found ≡ Some offset)
+    (no_gzip : is_passed_as_compressed here found ≡ false) (has_room : is_left_out here found ≡ false)
+    (read : here.skipped ≡ false) (some : 0 < size here) (begins : offset ≤ size here) (added : List Mark) (more : Bool) where
+  gain_whole : here.end ≡ size here → more ≡ nat_lt (offset + most_taken) (size here) → IsGainOf rules first here found added (gain_of (Read Whole more (length added)))
+  gain_whole end is = record {
+    files = sym (ap one_if (filled_some here some));
+    lines = refl;
+    left = let whole : (here.end == size here) ≡ true = eq-eqb here.end (size here) end in rw (at, whole) (ap one_if is);
+    gone = refl;
+    failed = sym (ap one_if (short_not here read (omega (arith, end))));
+    compressed = sym (ap one_if no_gzip);
+    shrunk = let long : nat_lt (size here) offset ≡ false = le-ltb (size here) offset begins in rw (at, long) refl;
+    full = sym (ap one_if has_room);
+  }
+
+  gain_failed : here.end < size here → more ≡ false → IsGainOf rules first here found added (gain_of (Read Failed more (length added)))
+  gain_failed early is = record {
+    files = sym (ap one_if (filled_some here some));
+    lines = refl;
+    left = let part : (here.end == size here) ≡ false = ne_eqb here.end (size here) (λ e. omega (arith, e, early)) in rw (at, part) (ap one_if is);
+    gone = refl;
+    failed = sym (ap one_if (short_end here early));
+    compressed = sym (ap one_if no_gzip);
+    shrunk = let long : nat_lt (size here) offset ≡ false = le-ltb (size here) offset begins in rw (at, long) refl;
+    full = sym (ap one_if has_room);
+  }
+
+pub look_same : (rules : Rules) (first : Bool) (here : Look) (before : List tracked.Row) {after other : List tracked.Row} {added other_added : List Mark} {gain other_gain : Gain}
+    → after ≡ other → added ≡ other_added → gain ≡ other_gain → TakesLook rules first here before other other_added other_gain → TakesLook rules first here before after added gain
+look_same rules first here before rows lines counts taken = rw (rows, lines, counts) taken
+
+pub row_there : (row other : tracked.Row) → Some row ≡ Some other → row ≡ other
+row_there row other same = cc
+
+pub start_within : (at_end : Bool) (all : ℕ) → cond at_end all 0 ≤ all
+start_within true all = omega arith
+start_within false all = omega arith
+
+-- how far the bytes go that were read on
+record Reaches (rules : Rules) (first : Bool) (here : Look) (offset : ℕ) (given : List ℕ) (gain : Gain) (added : List Mark) : Type 0 where
+  within : here.end ≤ size here
+  reaches : offset ≤ here.end
+  are : given ≡ piece here offset
+  sums : (found : Outcome) → offset_found rules first here found ≡ Some offset → is_passed_as_compressed here found ≡ false → is_left_out here found ≡ false → IsGainOf rules first here found added gain
+
+module _ (rules : Rules) (first : Bool) (path : List ℕ) (file : OpenFile) (place : ℕ) (row : tracked.Row) (mid after : List tracked.Row) (added : List Mark) (found : Found) (old new : World)
+    (on : IsReadOn rules file place row mid after added found old new) (seen : ℕ) (moment : History) (at : IsOpenAt file seen moment old) (some : 0 < file.size) where
+  abbrev the_look : Look
+  the_look = look_at path seen moment (end_for on.ending file.size (row.offset + length on.given)) false
+
+  reaches_for : (ending : Ending) → on.ending ≡ ending → Reaches rules first the_look row.offset on.given (gain_of found) added
+  reaches_for Whole is =
+      let end : the_look.end ≡ file.size = ap (λ e. end_for e file.size (row.offset + length on.given)) is in
+      record {
+        within = omega (arith, end, at.size_then);
+        reaches = omega (arith, end, on.begins);
+        are = piece_is the_look row.offset on.given (stood_then file seen moment old new row.offset on.given on.ending at (omega (arith, on.within)) on.reads) (omega (arith, end, on.whole is));
+        sums = λ o offset no_gzip has_room.
+            subst (λ (g : Gain). IsGainOf rules first the_look o added g) (sym (ap gain_of on.is ∙ ap (λ (e : Ending). gain_of (Read e on.more (length added))) is))
+            (gain_whole rules first the_look o row.offset offset no_gzip has_room refl (omega (arith, some, at.size_then)) (omega (arith, on.begins, at.size_then)) added on.more (end ∙ at.size_then) (on.left is ∙ ap (nat_lt (row.offset + most_taken)) at.size_then));
+      }
+  reaches_for Failed is =
+      let end : the_look.end ≡ row.offset + length on.given = ap (λ e. end_for e file.size (row.offset + length on.given)) is in
+      let not_whole : on.ending ≡ Whole → ⊥ = λ e. (let never : Failed ≡ Whole = sym is ∙ e in cc) in
+      let part = on.partly not_whole in
+      record {
+        within = omega (arith, end, part, at.size_then);
+        reaches = omega (arith, end);
+        are = piece_is the_look row.offset on.given (stood_then file seen moment old new row.offset on.given on.ending at (omega (arith, on.within)) on.reads) (omega (arith, end, part));
+        sums = λ o offset no_gzip has_room.
+            subst (λ (g : Gain). IsGainOf rules first the_look o added g) (sym (ap gain_of on.is ∙ ap (λ (e : Ending). gain_of (Read e on.more (length added))) is))
+            (gain_failed rules first the_look o row.offset offset no_gzip has_room refl (omega (arith, some, at.size_then)) (omega (arith, on.begins, at.size_then)) added on.more (omega (arith, end, part, at.size_then)) (on.not_left not_whole));
+      }
+  reaches_for Shrunk is = absurd (on.reads.grows seen (still_open file seen moment old at) is)
+
+-- a row that is found, or made, and then read on
+module _ (setup : Setup) (unspelled : (rules_in setup).fresh ≡ []) (path : List ℕ) (file : OpenFile) (seen_front : List ℕ) (plain : is_compressed seen_front ≡ false) (some : 0 < file.size)
+    (before mid after : List tracked.Row) (place : ℕ) (added : List Mark) (found : Found) (old new : World) where
+  known_short : (row : tracked.Row) → slice_get mid place ≡ Some row → IsShorter file row mid after added found old new → IsKnown seen_front before place mid
+      → SeenTaken (rules_in setup) setup.first path file seen_front before after (gain_of found) added old new
+  known_short row at shorter known =
+      let same_row : row ≡ with_front seen_front known.row =
+      row_there row (with_front seen_front known.row) (sym at ∙ ap (λ (l : List tracked.Row). slice_get l place) known.grown ∙ get_set before place known.row (with_front seen_front known.row) known.at) in
+      let short : file.size < known.row.offset = omega (arith, shorter.short, ap (λ (r : tracked.Row). r.offset) same_row) in
+      record {
+        handles = ap (λ (w : World). w.handles) shorter.still;
+        moves = subst (λ (w : World). Moves old.history w.history) (sym shorter.still) (moves_none old.history);
+        end = file.size;
+        looks = λ seen moment seen_at.
+            let here = look_at path seen moment file.size false in
+            let is_front : seen_front ≡ front (rules_in setup) here = seen_at.front_is in
+            let full : file.size ≡ size here = seen_at.open_at.size_then in
+            let taken = takes_short (rules_in setup) setup.first here before refl (omega (arith, some, full)) (subst (λ (f : List ℕ). is_compressed f ≡ false) is_front plain) place known.row known.at
+            (subst (λ (f : List ℕ). place_of f before ≡ Some place) is_front known.first_one) (omega (arith, short, full)) full in
+            look_same (rules_in setup) setup.first here before (shorter.same ∙ known.grown ∙ ap (λ (f : List ℕ). slice_set before place (with_front f known.row)) is_front) shorter.none (ap gain_of shorter.is) taken;
+      }
+
+  known_on : (row : tracked.Row) → slice_get mid place ≡ Some row → IsReadOn (rules_in setup) file place row mid after added found old new → IsKnown seen_front before place mid
+      → SeenTaken (rules_in setup) setup.first path file seen_front before after (gain_of found) added old new
+  known_on row at on known = record {
+    handles = on.reads.handles;
+    moves = on.reads.moves;
+    end = end_for on.ending file.size (row.offset + length on.given);
+    looks = λ seen moment seen_at.
+        let here = look_at path seen moment (end_for on.ending file.size (row.offset + length on.given)) false in
+        let is_front : seen_front ≡ front (rules_in setup) here = seen_at.front_is in
+        let full : file.size ≡ size here = seen_at.open_at.size_then in
+        let seen_known : IsKnown (front (rules_in setup) here) before place mid = subst (λ (f : List ℕ). IsKnown f before place mid) is_front known in
+        let same_row : row ≡ with_front (front (rules_in setup) here) seen_known.row =
+        row_there row (with_front (front (rules_in setup) here) seen_known.row) (sym at ∙ ap (λ (l : List tracked.Row). slice_get l place) seen_known.grown ∙ get_set before place seen_known.row (with_front (front (rules_in setup) here) seen_known.row) seen_known.at) in
+        let same_offset : row.offset ≡ seen_known.row.offset = ap (λ (r : tracked.Row). r.offset) same_row in
+        let far = reaches_for (rules_in setup) setup.first path file place row mid after added found old new on seen moment seen_at.open_at some on.ending refl in
+        takes_on (rules_in setup) setup.first here before refl (omega (arith, some, full)) (subst (λ (f : List ℕ). is_compressed f ≡ false) is_front plain) place seen_known.row seen_known.at seen_known.first_one
+        on.given after added (gain_of found) (omega (arith, same_offset, on.begins, full)) far.within (omega (arith, same_offset, far.reaches)) (far.are ∙ ap (piece here) same_offset)
+        (on.fed_row ∙ ap (λ (l : List tracked.Row). slice_set (rows_of l) place (fed (rules_in setup) on.given (row_of row))) seen_known.grown
+        ∙ ap (λ (r : tracked.Row). slice_set (rows_of (slice_set before place (with_front (front (rules_in setup) here) seen_known.row))) place (fed (rules_in setup) on.given (row_of r))) same_row)
+        (on.lines ∙ ap (λ (r : tracked.Row). lines_of (rules_in setup) on.given (row_of r)) same_row)
+        (far.sums (finds_row place (row_of seen_known.row)) (ap Some (sym same_offset)) refl refl);
+  }
+
+  pub new_is : (here : Look) → here.path ≡ path → file.size ≡ size here → seen_front ≡ front (rules_in setup) here → row_of (admitted setup file.size path seen_front (length before + 1)) ≡ new_row (rules_in setup) setup.first here (length before + 1)
+  new_is here same_path full is_front = rw (sym same_path, is_front, full, unspelled) refl
+
+  new_short : (row : tracked.Row) → slice_get mid place ≡ Some row → IsShorter file row mid after added found old new → IsAdmitted setup file.size path seen_front before place mid → ⊥
+  new_short row at shorter fresh =
+      let added_row : tracked.Row = admitted setup file.size path seen_front (length before + 1) in
+      let same_row : row ≡ added_row = row_there row added_row (sym at ∙ ap (λ (l : List tracked.Row). slice_get l place) fresh.added ∙ ap (slice_get (before ++ added_row ∷ [])) fresh.last ∙ push_there before added_row) in
+      omega (arith, shorter.short, ap (λ (r : tracked.Row). r.offset) same_row, start_within (setup.first && (rules_in setup).from_end) file.size)
+
+  new_on : (row : tracked.Row) → slice_get mid place ≡ Some row → IsReadOn (rules_in setup) file place row mid after added found old new → IsAdmitted setup file.size path seen_front before place mid
+      → SeenTaken (rules_in setup) setup.first path file seen_front before after (gain_of found) added old new
+  new_on row at on fresh = record {
+    handles = on.reads.handles;
+    moves = on.reads.moves;
+    end = end_for on.ending file.size (row.offset + length on.given);
+    looks = λ seen moment seen_at.
+        let here = look_at path seen moment (end_for on.ending file.size (row.offset + length on.given)) false in
+        let is_front : seen_front ≡ front (rules_in setup) here = seen_at.front_is in
+        let full : file.size ≡ size here = seen_at.open_at.size_then in
+        let added_row : tracked.Row = admitted setup file.size path seen_front (length before + 1) in
+        let same_row : row ≡ added_row = row_there row added_row (sym at ∙ ap (λ (l : List tracked.Row). slice_get l place) fresh.added ∙ ap (slice_get (before ++ added_row ∷ [])) fresh.last ∙ push_there before added_row) in
+        let far = reaches_for (rules_in setup) setup.first path file place row mid after added found old new on seen moment seen_at.open_at some on.ending refl in
+        let is : row_of row ≡ new_row (rules_in setup) setup.first here (length before + 1) = ap row_of same_row ∙ new_is here refl full is_front in
+        takes_new (rules_in setup) setup.first here before refl (omega (arith, some, full)) (subst (λ (f : List ℕ). is_compressed f ≡ false) is_front plain)
+        row on.given after added (gain_of found) is (subst (λ (f : List ℕ). place_of f before ≡ None) is_front fresh.none) fresh.room (omega (arith, on.begins, full)) far.within far.reaches far.are
+        (on.fed_row ∙ ap (λ n. slice_set (rows_of mid) n (fed (rules_in setup) on.given (row_of row))) fresh.last
+        ∙ ap (λ (l : List tracked.Row). slice_set (rows_of l) (length before) (fed (rules_in setup) on.given (row_of row))) (fresh.added ∙ ap (λ (r : tracked.Row). before ++ r ∷ []) (sym same_row)))
+        on.lines
+        (far.sums finds_new (ap (λ (r : Row). Some r.offset) (sym is)) refl refl);
+  }
+
+  pub seen_taken : Settles setup file.size path seen_front before (Some place) mid → RowTaken (rules_in setup) file place mid after found added old new
+      → SeenTaken (rules_in setup) setup.first path file seen_front before after (gain_of found) added old new
+  seen_taken settles taken = elim taken.how [
+    | inl shorter ↦ elim settles [
+      | inl known ↦ known_short taken.row taken.at shorter known
+      | inr fresh ↦ absurd (new_short taken.row taken.at shorter fresh)
+    ]
+    | inr on ↦ elim settles [
+      | inl known ↦ known_on taken.row taken.at on known
+      | inr fresh ↦ new_on taken.row taken.at on fresh
+    ]
+  ]

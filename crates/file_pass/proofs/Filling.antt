@@ -1,0 +1,101 @@
+-- From bytes that would make the output too long to a look that would.
+use Rattle.std.proofs.Common.{◌≡◌, ℕ, ◌+◌, ◌-◌, ◌<◌, ◌≤◌, List, [], ◌∷◌, ◌++◌, length, take, drop, min, false, refl, sym, ap, subst, ◌∙◌, inl, inr, arith, append_assoc, length-append}
+use Rattle.std.proofs.lemmas.Grind.{flat_map-append}
+use Rattle.std.proofs.lemmas.List.{take-append-drop, take-take}
+use Rattle.std.specs.Prelude.{None, Some, slice_get, IsTrue}
+use Rattle.file_tracker.specs.Places.{place_of, with_front}
+use Rattle.file_tracker.specs.declared.row.Row as tracked
+use Rattle.outside.specs.World.{World}
+use Rattle.standing.specs.AreRules.{AreRules}
+use Rattle.standing.specs.Limits.{most_taken, is_compressed}
+use Rattle.standing.specs.Look.{Look, content, front, size, piece, after_look, lines_of}
+use Rattle.standing.specs.Marks.{Mark}
+use Rattle.standing.specs.Rows.{Row}
+use Rattle.standing.specs.Rules.{Rules}
+use Rattle.file_pass.specs.Fed.{rules_in, last_of}
+use Rattle.file_pass.specs.Full.{Crosses, line_of, lines_text}
+use Rattle.file_pass.specs.LookTaken.{look_at}
+use Rattle.file_pass.specs.Overflow.{RowFills, SeenFills}
+use Rattle.file_pass.specs.Seen.{row_of, progress_of}
+use Rattle.file_pass.specs.Settled.{IsKnown, Settles, admitted}
+use Rattle.file_pass.specs.declared.ending.Ending.TheVariants.{Whole}
+use Rattle.file_pass.specs.declared.ending.OpenFile.{OpenFile}
+use Rattle.file_pass.specs.declared.setup.Setup.{Setup}
+use Rattle.file_pass.proofs.Bridging.{stood_then, row_there, new_is}
+use Rattle.file_pass.proofs.FeedingOn.{lines_on}
+use Rattle.file_pass.proofs.Listing.{get_set, push_there}
+use Rattle.file_pass.proofs.Looking.{added_known, added_new}
+
+crosses_more : (limit end : ℕ) (marks more : List Mark) (full : ℕ) → Crosses limit end marks full → Crosses limit end (marks ++ more) full
+crosses_more limit end marks more full crosses = record {
+  front = crosses.front;
+  last = crosses.last;
+  back = crosses.back ++ more;
+  split = ap (λ (l : List Mark). l ++ more) crosses.split ∙ append_assoc crosses.front (crosses.last ∷ crosses.back) more;
+  within_before = crosses.within_before;
+  size_then = crosses.size_then;
+  too_much = crosses.too_much;
+}
+
+-- behind lines that keep to the limit
+pub crosses_before : (limit end between : ℕ) (earlier marks : List Mark) (full : ℕ) → between ≡ end + length (lines_text earlier) → Crosses limit between marks full → Crosses limit end (earlier ++ marks) full
+crosses_before limit end between earlier marks full at crosses = record {
+  front = earlier ++ crosses.front;
+  last = crosses.last;
+  back = crosses.back;
+  split = ap (λ (l : List Mark). earlier ++ l) crosses.split ∙ sym (append_assoc earlier crosses.front (crosses.last ∷ crosses.back));
+  within_before = omega (arith, at, crosses.within_before, ap length (flat_map-append line_of earlier crosses.front), length-append (lines_text earlier) (lines_text crosses.front));
+  size_then =
+      let whole : lines_text ((earlier ++ crosses.front) ++ crosses.last ∷ []) ≡ lines_text earlier ++ lines_text (crosses.front ++ crosses.last ∷ []) =
+      ap lines_text (append_assoc earlier crosses.front (crosses.last ∷ [])) ∙ flat_map-append line_of earlier (crosses.front ++ crosses.last ∷ []) in
+      omega (arith, at, crosses.size_then, ap length whole, length-append (lines_text earlier) (lines_text (crosses.front ++ crosses.last ∷ [])));
+  too_much = crosses.too_much;
+}
+
+-- what was read begins the piece that a look takes which can read all
+piece_begins : (here : Look) (offset : ℕ) (given : List ℕ) → here.end ≡ size here → given ≡ take (length given) (drop offset (content here)) → offset + length given ≤ last_of (size here) offset
+    → piece here offset ≡ given ++ drop (length given) (piece here offset)
+piece_begins here offset given end stood within =
+    let few : length given ≤ min here.end (offset + most_taken) - offset = omega (arith, end, within) in
+    sym (take-append-drop (length given) (piece here offset))
+    ∙ ap (λ (l : List ℕ). l ++ drop (length given) (piece here offset)) (take-take (length given) (min here.end (offset + most_taken) - offset) (drop offset (content here)) few ∙ sym stood)
+
+row_fills : (rules : Rules) (laws : AreRules rules) (here : Look) (row : Row) (given : List ℕ) (limit end full : ℕ) → IsTrue (rules.is_state row.state) → here.end ≡ size here
+    → given ≡ take (length given) (drop row.offset (content here)) → row.offset + length given ≤ last_of (size here) row.offset → Crosses limit end (lines_of rules given row) full
+    → Crosses limit end (lines_of rules (piece here row.offset) row) full
+row_fills rules laws here row given limit end full good all stood within crosses =
+    let rest : List ℕ = drop (length given) (piece here row.offset) in
+    let begins = ap (λ (p : List ℕ). lines_of rules p row) (piece_begins here row.offset given all stood within) in
+    subst (λ (l : List Mark). Crosses limit end l full) (sym (begins ∙ lines_on rules laws given rest row good)) (crosses_more limit end (lines_of rules given row) _ full crosses)
+
+module _ (setup : Setup) (laws : AreRules (rules_in setup)) (unspelled : (rules_in setup).fresh ≡ []) (path : List ℕ) (file : OpenFile) (seen_front : List ℕ) (plain : is_compressed seen_front ≡ false) (some : 0 < file.size)
+    (before mid : List tracked.Row) (place end full : ℕ) (old new : World) (good : (row : tracked.Row) → slice_get mid place ≡ Some row → IsTrue ((rules_in setup).is_state row.state)) where
+  pub seen_fills : Settles setup file.size path seen_front before (Some place) mid → RowFills (rules_in setup) setup.limit file place mid end full old new
+      → SeenFills (rules_in setup) setup.first setup.limit path file seen_front before end full old new
+  seen_fills settles fills = record {
+    handles = fills.reads.handles;
+    moves = fills.reads.moves;
+    looks = λ seen moment seen_at.
+        let here = look_at path seen moment file.size false in
+        let is_front : seen_front ≡ front (rules_in setup) here = seen_at.front_is in
+        let all : file.size ≡ size here = seen_at.open_at.size_then in
+        let stood = stood_then file seen moment old new fills.row.offset fills.given Whole seen_at.open_at (omega (arith, fills.within)) fills.reads in
+        let here_plain : is_compressed (front (rules_in setup) here) ≡ false = subst (λ (f : List ℕ). is_compressed f ≡ false) is_front plain in
+        let crosses : Crosses setup.limit end (lines_of (rules_in setup) (piece here fills.row.offset) (row_of fills.row)) full =
+        row_fills (rules_in setup) laws here (row_of fills.row) fills.given setup.limit end full (good fills.row fills.at) all stood (omega (arith, all, fills.within)) fills.crosses in
+        let same : (after_look (rules_in setup) setup.first here (progress_of before [])).added ≡ lines_of (rules_in setup) (piece here fills.row.offset) (row_of fills.row) =
+        elim settles [
+          | inl known_there ↦
+              (let known : IsKnown (front (rules_in setup) here) before place mid = subst (λ (f : List ℕ). IsKnown f before place mid) is_front known_there in
+              let same_row : fills.row ≡ with_front (front (rules_in setup) here) known.row =
+              row_there fills.row (with_front (front (rules_in setup) here) known.row) (sym fills.at ∙ ap (λ (l : List tracked.Row). slice_get l place) known.grown ∙ get_set before place known.row (with_front (front (rules_in setup) here) known.row) known.at) in
+              added_known (rules_in setup) setup.first here before refl (omega (arith, some, all)) here_plain place known.row known.at known.first_one (omega (arith, fills.begins, all, ap (λ (r : tracked.Row). r.offset) same_row))
+              ∙ ap (λ (r : tracked.Row). lines_of (rules_in setup) (piece here r.offset) (row_of r)) (sym same_row))
+          | inr fresh ↦
+              (let added_row : tracked.Row = admitted setup file.size path seen_front (length before + 1) in
+              let same_row : fills.row ≡ added_row = row_there fills.row added_row (sym fills.at ∙ ap (λ (l : List tracked.Row). slice_get l place) fresh.added ∙ ap (slice_get (before ++ added_row ∷ [])) fresh.last ∙ push_there before added_row) in
+              added_new (rules_in setup) setup.first here before refl (omega (arith, some, all)) here_plain fills.row (ap row_of same_row ∙ new_is setup unspelled path file seen_front plain some before mid mid place [] Rattle.file_pass.specs.declared.found.Found.TheVariants.Nothing old new here refl all is_front)
+              (subst (λ (f : List ℕ). place_of f before ≡ None) is_front fresh.none) fresh.room (omega (arith, fills.begins, all)))
+        ] in
+        subst (λ (l : List Mark). Crosses setup.limit end l full) (sym same) crosses;
+  }

@@ -1,0 +1,323 @@
+-- Calls of a pass, one after another.
+use Rattle.std.proofs.Common.{◌≡◌, ℕ, ◌+◌, ◌<◌, ◌≤◌, ◌^◌, List, [], ◌∷◌, ◌++◌, length, get_or, take, min, Bool, refl, sym, ap, subst, ◌∙◌, arith, length-append}
+use Rattle.std.proofs.lemmas.Grind.{flat_map-append}
+use Rattle.std.proofs.lemmas.List.{take_all, take_more, length-take-le}
+use Rattle.std.specs.Prelude.{Option, None, Some, Result, Ok, Err}
+use Rattle.file_tracker.specs.declared.row.Row as tracked
+use Rattle.outside.proofs.Counting.{never_falls_same, never_falls_rose}
+use Rattle.outside.proofs.Telling.{told_same, told_weaker, told_then}
+use Rattle.outside.specs.Closing.{Closes}
+use Rattle.outside.specs.Count.{raised, Rose, HasCause, NeverFalls}
+use Rattle.outside.specs.DiskMeaning.{DiskMeaning}
+use Rattle.outside.specs.Moment.{AtOneMoment}
+use Rattle.outside.specs.Listing.{kind_at}
+use Rattle.outside.specs.Opening.{Opens, OpensFile, OpensNothing}
+use Rattle.outside.specs.TreeMeaning.{TreeMeaning}
+use Rattle.outside.specs.World.{World, History, Event, Told, miss, names}
+use Rattle.outside.specs.declared.fault.CallFault.{CallFault}
+use Rattle.outside.specs.declared.fault.CallFault.TheVariants.{Failed, Memory}
+use Rattle.outside.specs.declared.tree.Kind.TheVariants.{File as PlainFile}
+use Rattle.outside.specs.declared.tree.Opened.{Opened}
+use Rattle.outside.specs.declared.tree.Opened.TheVariants.{File, Gone, NotAFile}
+use Rattle.standing.proofs.MomentLemmas.{later_then}
+use Rattle.standing.specs.Marks.{Mark}
+use Rattle.standing.specs.Moments.{IsLater}
+use Rattle.standing.specs.Rules.{Rules, Includes}
+use Rattle.file_pass.specs.AllTaken.{TakesAll, TakesOne}
+use Rattle.file_pass.specs.Fed.{rules_in}
+use Rattle.file_pass.specs.Full.{line_of, lines_text}
+use Rattle.file_pass.specs.Gain.{Gain, Counted, no_gain, both, gain_of}
+use Rattle.file_pass.specs.LookTaken.{OpenTaken, SeenTaken}
+use Rattle.file_pass.specs.PathTaken.{PathTaken}
+use Rattle.file_pass.specs.Sane.{AreSaneRows, IsSaneTaking}
+use Rattle.file_pass.specs.Taken.{Takes, KeepsTreeAt}
+use Rattle.standing.specs.AreRules.{AreRules}
+use Rattle.file_pass.specs.TreeTerms.{KeepsTree, IsNoWider, GoesLater, HasEnding, ReadsOnly}
+use Rattle.file_pass.specs.Overflow.{AllFill, OpenFills, PathFills, SeenFills}
+use Rattle.file_pass.specs.Reads.{Reads}
+use Rattle.file_pass.specs.declared.counts.Counts.{Counts}
+use Rattle.file_pass.specs.declared.ending.Ending.{Ending}
+use Rattle.file_pass.specs.declared.ending.Ending.TheVariants.{Whole, Failed as ReadFailed, Shrunk}
+use Rattle.file_pass.specs.declared.ending.OpenFile.{OpenFile}
+use Rattle.file_pass.specs.declared.found.Found.TheVariants.{Missed, Unread, Gone as NoFile}
+use Rattle.file_pass.specs.declared.setup.Setup.{Setup}
+use Rattle.file_pass.specs.declared.taking.Taking.{Taking}
+use Rattle.file_pass.proofs.DiskLemmas.{appends_none, appends_then, appends_same}
+use Rattle.file_pass.proofs.Opening.{later_moves, open_unread, open_shrunk, open_seen, open_fills, path_looked, path_fills, path_missed, path_lost, WithFile}
+use Rattle.file_pass.proofs.Saning.{text_long}
+use Rattle.file_pass.proofs.TreeLemmas.{keeps_tree_none, keeps_tree_then, no_wider_none}
+use Rattle.file_pass.proofs.Turning.{all_none, all_more, all_fill}
+
+one_later : {own : List Event} {fact : History → Type 0} {old new : History} → AtOneMoment own fact old new → IsLater old new
+one_later {own} {fact} {old} {new} at =
+    later_then old at.moment new (later_moves at.before) (later_then at.moment (own ++ at.moment) new (record { events = own; goes_on = refl }) (later_moves at.after))
+
+opens_later : (path : List ℕ) (result : Result Opened CallFault) (old new : World) → Opens path result old new → GoesLater old new
+opens_later path (Ok (File handle size)) old new opens = one_later opens.history
+opens_later path (Ok Gone) old new opens = one_later opens.history
+opens_later path (Ok NotAFile) old new opens = one_later opens.history
+opens_later path (Err Failed) old new opens = one_later opens.history
+opens_later path (Err Memory) old new opens = one_later opens.history
+
+cause_falls : {X : Type 0} (result : Result X CallFault) (before after : ℕ) → HasCause result before after → NeverFalls before after
+cause_falls (Ok x) before after same = never_falls_same same
+cause_falls (Err Failed) before after rose = never_falls_rose rose
+cause_falls (Err Memory) before after same = never_falls_same same
+
+no_wider_more : (most more : ℕ) (old new : Option ℕ) → most ≤ more → IsNoWider most old new → IsNoWider more old new
+no_wider_more most more None None le narrow = tt
+no_wider_more most more None (Some n) le narrow = narrow
+no_wider_more most more (Some k) None le narrow = narrow
+no_wider_more most more (Some k) (Some n) le narrow = omega (arith, le, narrow)
+
+-- into a shorter buffer
+pub tree_wider : {T : Type 0} (meaning : TreeMeaning T) (most more taken : ℕ) (old new : T) → most ≤ more → KeepsTree meaning most taken old new → KeepsTreeAt meaning more old new
+tree_wider meaning most more taken old new le keeps = (
+  taken,
+  record {
+    later = keeps.later;
+    faults = keeps.faults;
+    nameless = keeps.nameless;
+    plan = keeps.plan;
+    bound = keeps.bound;
+    taken_then = keeps.taken_then;
+    widest = no_wider_more most more (meaning.widest old) (meaning.widest new) le keeps.widest;
+  },
+)
+
+module _ {T : Type 0} (meaning : TreeMeaning T) (most : ℕ) where
+  pub tree_none : (tree : T) → KeepsTreeAt meaning most tree tree
+  tree_none tree = (0, keeps_tree_none meaning most tree)
+
+  pub tree_then : (old mid new : T) → KeepsTreeAt meaning most old mid → KeepsTreeAt meaning most mid new → KeepsTreeAt meaning most old new
+  tree_then old mid new a b = (a.0 + b.0, keeps_tree_then meaning most a.0 b.0 old mid new a.1 b.1)
+
+  same_widest : (old new : Option ℕ) → new ≡ old → IsNoWider most old new
+  same_widest old new same = rw same (no_wider_none most old)
+
+  pub tree_opens : (path : List ℕ) (result : Result Opened CallFault) (old new : T) → Told (Opens path result) (meaning.world old) (meaning.world new) → HasCause result (meaning.faults old) (meaning.faults new) → meaning.nameless new ≡ meaning.nameless old
+      → meaning.taken new ≡ meaning.taken old → meaning.widest new ≡ meaning.widest old → meaning.plan new ≡ meaning.plan old → meaning.bound new ≡ meaning.bound old → KeepsTreeAt meaning most old new
+  tree_opens path result old new world cause nameless taken widest plan bound = (
+    0,
+    record {
+      later = told_weaker _ _ (meaning.world old) (meaning.world new) (opens_later path result) world;
+      faults = cause_falls result (meaning.faults old) (meaning.faults new) cause;
+      nameless = nameless;
+      plan = plan;
+      bound = bound;
+      taken_then = omega (arith, taken);
+      widest = same_widest (meaning.widest old) (meaning.widest new) widest;
+    },
+  )
+
+  pub tree_closes : (handle : ℕ) (old new : T) → Told (Closes handle) (meaning.world old) (meaning.world new) → meaning.faults new ≡ meaning.faults old → meaning.nameless new ≡ meaning.nameless old
+      → meaning.taken new ≡ meaning.taken old → meaning.widest new ≡ meaning.widest old → meaning.plan new ≡ meaning.plan old → meaning.bound new ≡ meaning.bound old → KeepsTreeAt meaning most old new
+  tree_closes handle old new world faults nameless taken widest plan bound = (
+    0,
+    record {
+      later = told_weaker _ _ (meaning.world old) (meaning.world new) (λ x y closes. later_moves closes.history) world;
+      faults = never_falls_same faults;
+      nameless = nameless;
+      plan = plan;
+      bound = bound;
+      taken_then = omega (arith, taken);
+      widest = same_widest (meaning.widest old) (meaning.widest new) widest;
+    },
+  )
+
+counted_more : (before mid after : Counts) (gain more : Gain) → Counted before gain mid → Counted mid more after → Counted before (both gain more) after
+counted_more before mid after gain more a b = record {
+  files = omega (arith, a.files, b.files);
+  lines = omega (arith, a.lines, b.lines);
+  left = omega (arith, a.left, b.left);
+  gone = omega (arith, a.gone, b.gone);
+  failed = omega (arith, a.failed, b.failed);
+  compressed = omega (arith, a.compressed, b.compressed);
+  shrunk = omega (arith, a.shrunk, b.shrunk);
+  full = omega (arith, a.full, b.full);
+}
+
+-- nothing was done
+module _ {T D : Type 0} (trees : TreeMeaning T) (disks : DiskMeaning D) where
+  pub takes_idle : (change : List Mark → World → World → Type 0) (gain : Gain) (end : ℕ) (tree : T) (disk : D) → gain.lines ≡ 0 → gain.failed ≡ 0 → ((world : World) → change [] world world) → Takes trees disks change gain end end tree tree disk disk
+  takes_idle change gain end tree disk no_lines no_failure idle = record {
+    added = [];
+    lines = no_lines;
+    appends = appends_none disks end disk;
+    rose = omega (arith, no_failure);
+    world = told_same (change []) (trees.world tree) idle;
+  }
+
+  -- with a call on the tree alone
+  pub takes_call : (change : List Mark → World → World → Type 0) (gain : Gain) (end : ℕ) (old new : T) (disk : D) → gain.lines ≡ 0 → raised (trees.faults old) gain.failed ≤ trees.faults new → Told (change []) (trees.world old) (trees.world new)
+      → Takes trees disks change gain end end old new disk disk
+  takes_call change gain end old new disk no_lines rose told = record { added = []; lines = no_lines; appends = appends_none disks end disk; rose = rose; world = told }
+
+  -- behind calls on the tree that didn't fail, and before others
+  pub takes_after : (first : World → World → Type 0) (change whole : List Mark → World → World → Type 0) (gain : Gain) (end end_after : ℕ) (old mid new : T) (disk disk_after : D)
+      → ((added : List Mark) (x y z : World) → first x y → change added y z → whole added x z) → trees.faults mid ≡ trees.faults old → Told first (trees.world old) (trees.world mid)
+      → Takes trees disks change gain end end_after mid new disk disk_after → Takes trees disks whole gain end end_after old new disk disk_after
+  takes_after first change whole gain end end_after old mid new disk disk_after join same told takes = record {
+    added = takes.added;
+    lines = takes.lines;
+    appends = takes.appends;
+    rose = omega (arith, same, takes.rose);
+    world = told_then first (change takes.added) (whole takes.added) (trees.world old) (trees.world mid) (trees.world new) (join takes.added) told takes.world;
+  }
+
+  pub takes_before : (change last whole : List Mark → World → World → Type 0) (gain : Gain) (end end_after : ℕ) (old mid new : T) (disk disk_after : D)
+      → ((added : List Mark) (x y z : World) → change added x y → last added y z → whole added x z) → trees.faults new ≡ trees.faults mid → ((added : List Mark) → Told (last added) (trees.world mid) (trees.world new))
+      → Takes trees disks change gain end end_after old mid disk disk_after → Takes trees disks whole gain end end_after old new disk disk_after
+  takes_before change last whole gain end end_after old mid new disk disk_after join same told takes = record {
+    added = takes.added;
+    lines = takes.lines;
+    appends = takes.appends;
+    rose = omega (arith, same, takes.rose);
+    world = told_then (change takes.added) (last takes.added) (whole takes.added) (trees.world old) (trees.world mid) (trees.world new) (join takes.added) takes.world (told takes.added);
+  }
+
+  pub takes_same : (change whole : List Mark → World → World → Type 0) (gain : Gain) (end end_after : ℕ) (old new : T) (disk disk_after : D) → ((added : List Mark) (x y : World) → change added x y → whole added x y)
+      → Takes trees disks change gain end end_after old new disk disk_after → Takes trees disks whole gain end end_after old new disk disk_after
+  takes_same change whole gain end end_after old new disk disk_after weaken takes = record {
+    added = takes.added;
+    lines = takes.lines;
+    appends = takes.appends;
+    rose = takes.rose;
+    world = told_weaker (change takes.added) (whole takes.added) (trees.world old) (trees.world new) (weaken takes.added) takes.world;
+  }
+
+  -- no path yet, and one more
+  pub takes_all_none : (setup : Setup) (taking : Taking) (tree : T) (disk : D) → Counted taking.counts no_gain taking.counts → TakesAll trees disks setup [] taking taking tree tree disk disk
+  takes_all_none setup taking tree disk counted = record {
+    gain = no_gain;
+    counted = counted;
+    takes = takes_idle _ no_gain taking.end tree disk refl refl (λ world. all_none (rules_in setup) setup.first taking.tracker world);
+  }
+
+  pub takes_all_more : (setup : Setup) (paths : List (List ℕ)) (path : List ℕ) (before mid after : Taking) (old between new : T) (disk disk_between disk_after : D) → disks.images.tells disk_between ≡ disks.images.tells disk
+      → TakesAll trees disks setup paths before mid old between disk disk_between → TakesOne trees disks setup path mid after between new disk_between disk_after
+      → TakesAll trees disks setup (paths ++ path ∷ []) before after old new disk disk_after
+  takes_all_more setup paths path before mid after old between new disk disk_between disk_after tells a b = record {
+    gain = both a.gain b.gain;
+    counted = counted_more before.counts mid.counts after.counts a.gain b.gain a.counted b.counted;
+    takes = record {
+      added = a.takes.added ++ b.takes.added;
+      lines = omega (arith, a.takes.lines, b.takes.lines, length-append a.takes.added b.takes.added);
+      appends = appends_same disks (lines_text a.takes.added ++ lines_text b.takes.added) (lines_text (a.takes.added ++ b.takes.added)) before.end after.end disk disk_after (sym (flat_map-append line_of a.takes.added b.takes.added))
+          (appends_then disks (lines_text a.takes.added) (lines_text b.takes.added) before.end mid.end after.end disk disk_between disk_after tells a.takes.appends b.takes.appends);
+      rose = omega (arith, a.takes.rose, b.takes.rose);
+      world = told_then _ _ _ (trees.world old) (trees.world between) (trees.world new)
+          (λ x y z first second. all_more (rules_in setup) setup.first paths path before.tracker mid.tracker after.tracker a.gain b.gain a.takes.added b.takes.added x y z first second) a.takes.world b.takes.world;
+    };
+  }
+
+-- the front of an open file was read, or not
+module _ {T D : Type 0} (trees : TreeMeaning T) (disks : DiskMeaning D) (rules : Rules) (first : Bool) (path : List ℕ) (file : OpenFile) (some : 0 < file.size) (before : List tracked.Row) where
+  pub takes_unread : (ending : Ending) (last : ℕ) (given : List ℕ) (end : ℕ) (old new : T) (disk : D) → (ending ≡ Whole → ⊥) → last ≤ file.size → Told (Reads file.handle.0 0 last given ending) (trees.world old) (trees.world new) → HasEnding ending (trees.faults old) (trees.faults new)
+      → Takes trees disks (OpenTaken rules first path file before before (gain_of (Unread ending))) (gain_of (Unread ending)) end end old new disk disk
+  takes_unread Whole last given end old new disk differs le told cause = absurd (differs refl)
+  takes_unread ReadFailed last given end old new disk differs le told cause =
+      takes_call trees disks _ _ end old new disk refl cause.1 (told_weaker _ _ (trees.world old) (trees.world new) (λ x y reads. open_unread rules first path file before x y last given le some reads) told)
+  takes_unread Shrunk last given end old new disk differs le told cause =
+      takes_call trees disks _ _ end old new disk refl (omega (arith, cause)) (told_weaker _ _ (trees.world old) (trees.world new) (λ x y reads. open_shrunk rules first path file before x y last given le reads) told)
+
+  module _ (old mid new : T) (seen_front : List ℕ) (last : ℕ) (is : last ≡ min rules.front_size file.size) (many : length seen_front ≡ last) (told : Told (Reads file.handle.0 0 last seen_front Whole) (trees.world old) (trees.world mid)) (same : trees.faults mid ≡ trees.faults old) where
+    pub takes_open : (after : List tracked.Row) (gain : Gain) (end end_after : ℕ) (disk disk_after : D) → Takes trees disks (SeenTaken rules first path file seen_front before after gain) gain end end_after mid new disk disk_after
+        → Takes trees disks (OpenTaken rules first path file before after gain) gain end end_after old new disk disk_after
+    takes_open after gain end end_after disk disk_after takes =
+        takes_after trees disks (Reads file.handle.0 0 last seen_front Whole) (SeenTaken rules first path file seen_front before after gain) (OpenTaken rules first path file before after gain) gain end end_after old mid new disk disk_after
+        (λ added x y z reads taken. open_seen rules first path file before x y z seen_front last is many reads after gain added taken) same told takes
+
+    pub fills_open : (limit end full : ℕ) → Told (SeenFills rules first limit path file seen_front before end full) (trees.world mid) (trees.world new) → Told (OpenFills rules first limit path file before end full) (trees.world old) (trees.world new)
+    fills_open limit end full fills =
+        told_then _ _ _ (trees.world old) (trees.world mid) (trees.world new) (λ x y z reads seen. open_fills rules first path file before x y z seen_front last is many reads limit end full seen) told fills
+
+  -- by what was read into a buffer
+  module _ (front old_front : List ℕ) (count : ℕ) (ending : Ending) (old mid : T) (reads : ReadsOnly trees (Reads file.handle.0 0 (length old_front) (take count front) ending) ending count (length old_front) old mid)
+      (long : length front ≡ length old_front) (many : length front ≡ min rules.front_size file.size) where
+    pub front_unread : (end : ℕ) (disk : D) → (ending ≡ Whole → ⊥) → Takes trees disks (OpenTaken rules first path file before before (gain_of (Unread ending))) (gain_of (Unread ending)) end end old mid disk disk
+    front_unread end disk differs = takes_unread ending (length old_front) (take count front) end old mid disk differs (omega (arith, long, many)) reads.world reads.cause
+
+    all_read : ending ≡ Whole → count ≡ length front → Told (Reads file.handle.0 0 (length front) front Whole) (trees.world old) (trees.world mid)
+    all_read is all =
+        let whole : take count front ≡ front = take_all count front (omega (arith, all)) in
+        subst (λ (e : Ending). Told (Reads file.handle.0 0 (length front) front e) (trees.world old) (trees.world mid)) is
+        (subst (λ (l : List ℕ). Told (Reads file.handle.0 0 (length front) l ending) (trees.world old) (trees.world mid)) whole
+        (subst (λ n. Told (Reads file.handle.0 0 n (take count front) ending) (trees.world old) (trees.world mid)) (sym long) reads.world))
+
+    stood : ending ≡ Whole → trees.faults mid ≡ trees.faults old
+    stood is = subst (λ (e : Ending). HasEnding e (trees.faults old) (trees.faults mid)) is reads.cause
+
+    pub front_takes : ending ≡ Whole → count ≡ length front → (new : T) (after : List tracked.Row) (gain : Gain) (end end_after : ℕ) (disk disk_after : D) → Takes trees disks (SeenTaken rules first path file front before after gain) gain end end_after mid new disk disk_after
+        → Takes trees disks (OpenTaken rules first path file before after gain) gain end end_after old new disk disk_after
+    front_takes is all new after gain end end_after disk disk_after takes = takes_open old mid new front (length front) many refl (all_read is all) (stood is) after gain end end_after disk disk_after takes
+
+    pub front_fills : ending ≡ Whole → count ≡ length front → (new : T) (limit end full : ℕ) → Told (SeenFills rules first limit path file front before end full) (trees.world mid) (trees.world new) → Told (OpenFills rules first limit path file before end full) (trees.world old) (trees.world new)
+    front_fills is all new limit end full fills = fills_open old mid new front (length front) many refl (all_read is all) (stood is) limit end full fills
+
+    pub front_tree : (most : ℕ) → length old_front ≤ most → KeepsTreeAt trees most old mid
+    front_tree most le = tree_wider trees (length old_front) most count old mid le reads.keeps
+
+-- a file was opened, taken and closed
+module _ {T D : Type 0} (trees : TreeMeaning T) (disks : DiskMeaning D) (rules : Rules) (first : Bool) (path : List ℕ) (included : Includes rules path) (file : OpenFile) (before : List tracked.Row) (old opened taken closed : T)
+    (opens : Told (OpensFile path file.handle.0 file.size) (trees.world old) (trees.world opened)) (closes : Told (Closes file.handle.0) (trees.world taken) (trees.world closed))
+    (still : trees.faults opened ≡ trees.faults old) (stays : trees.faults closed ≡ trees.faults taken) where
+  pub takes_file : (after : List tracked.Row) (gain : Gain) (end end_after : ℕ) (disk disk_after : D) → Takes trees disks (OpenTaken rules first path file before after gain) gain end end_after opened taken disk disk_after
+      → Takes trees disks (PathTaken rules first path before after gain) gain end end_after old closed disk disk_after
+  takes_file after gain end end_after disk disk_after takes =
+      let change = λ (added : List Mark). WithFile (OpenTaken rules first path file before after gain added) path file in
+      takes_before trees disks change (λ _. Closes file.handle.0) (PathTaken rules first path before after gain) gain end end_after old taken closed disk disk_after
+      (λ added x y z with_file closing. path_looked rules first path included file before x with_file.opened y z with_file.opens closing after gain added with_file.changes) stays (λ _. closes)
+      (takes_after trees disks (OpensFile path file.handle.0 file.size) (OpenTaken rules first path file before after gain) change gain end end_after old opened taken disk disk_after
+      (λ added x y z opening changes. record { opened = y; opens = opening; changes = changes }) still opens takes)
+
+  pub fills_file : (limit end full : ℕ) → Told (OpenFills rules first limit path file before end full) (trees.world opened) (trees.world taken) → Told (PathFills rules first limit path before end full) (trees.world old) (trees.world closed)
+  fills_file limit end full fills =
+      told_then _ _ _ (trees.world old) (trees.world taken) (trees.world closed)
+      (λ x y z with_file closing. path_fills rules first path included file before x with_file.opened y z with_file.opens closing limit end full with_file.changes)
+      (told_then _ _ (WithFile (OpenFills rules first limit path file before end full) path file) (trees.world old) (trees.world opened) (trees.world taken) (λ x y z opening changes. record { opened = y; opens = opening; changes = changes }) opens fills) closes
+
+-- a path that could not be opened, or was no file's
+module _ {T D : Type 0} (trees : TreeMeaning T) (disks : DiskMeaning D) (rules : Rules) (first : Bool) (path : List ℕ) (before : List tracked.Row) (end : ℕ) (old new : T) (disk : D) where
+  pub takes_missed : Told (OpensNothing (miss path ∷ []) (λ _. Unit {0})) (trees.world old) (trees.world new) → Rose (trees.faults old) (trees.faults new)
+      → Takes trees disks (PathTaken rules first path before before (gain_of Missed)) (gain_of Missed) end end old new disk disk
+  takes_missed told rose = takes_call trees disks _ _ end old new disk refl rose.1 (told_weaker _ _ (trees.world old) (trees.world new) (λ x y opens. path_missed rules first path before x y opens) told)
+
+  pub takes_lost : (fact : History → Type 0) → ((history : History) → fact history → kind_at (names history) path ≡ Some PlainFile → ⊥) → Told (OpensNothing [] fact) (trees.world old) (trees.world new) → trees.faults new ≡ trees.faults old
+      → Takes trees disks (PathTaken rules first path before before (gain_of NoFile)) (gain_of NoFile) end end old new disk disk
+  takes_lost fact other told same = takes_call trees disks _ _ end old new disk refl (omega (arith, same)) (told_weaker _ _ (trees.world old) (trees.world new) (λ x y opens. path_lost rules first path before x y fact opens other) told)
+
+-- what was found at a path is counted
+module _ {T D : Type 0} (trees : TreeMeaning T) (disks : DiskMeaning D) (setup : Setup) (laws : AreRules (rules_in setup)) (before taken : Taking) (sane : IsSaneTaking setup before) (sane_taken : IsSaneTaking setup taken) (counts_same : taken.counts ≡ before.counts)
+    (change : List Mark → World → World → Type 0) (gain : Gain) (tree tree_after : T) (disk disk_after : D) (takes : Takes trees disks change gain before.end taken.end tree tree_after disk disk_after) where
+  pub lines_fit : before.counts.lines + gain.lines ≤ taken.end
+  lines_fit = omega (arith, sane.lines, takes.lines, takes.appends.end_is, text_long laws.lines.not_empty takes.added)
+
+  pub few_lines : setup.limit ≤ 2 ^ 40 → taken.counts.lines + gain.lines < 2 ^ 64
+  few_lines limit = omega (arith, lines_fit, sane_taken.end_within, limit, ap (λ (c : Counts). c.lines) counts_same)
+
+  pub sane_counted : (after : Taking) → after.tracker ≡ taken.tracker → after.changed.items ≡ taken.changed.items → after.end ≡ taken.end → Counted taken.counts gain after.counts → IsSaneTaking setup after
+  sane_counted after tracker changed end counted = record {
+    rows = subst (λ (rows : List tracked.Row). AreSaneRows (rules_in setup) after.end rows) (sym tracker) (subst (λ e. AreSaneRows (rules_in setup) e taken.tracker) (sym end) sane_taken.rows);
+    few = omega (arith, sane_taken.few, ap (λ (rows : List tracked.Row). length rows) tracker);
+    flags = omega (arith, ap (λ (flags : List Bool). length flags) changed, sane_taken.flags, ap (λ (rows : List tracked.Row). length rows) tracker);
+    end_within = omega (arith, end, sane_taken.end_within);
+    lines = omega (arith, end, lines_fit, counted.lines, ap (λ (c : Counts). c.lines) counts_same);
+  }
+
+-- a line of the newest look would be too much
+module _ {T D : Type 0} (trees : TreeMeaning T) (disks : DiskMeaning D) where
+  pub takes_all_fill : (setup : Setup) (paths : List (List ℕ)) (path : List ℕ) (all : List (List ℕ)) (before mid : Taking) (old between new : T) (disk disk_between : D) (full : ℕ) → TakesAll trees disks setup paths before mid old between disk disk_between
+      → take (length paths + 1) all ≡ paths ++ path ∷ [] → Told (PathFills (rules_in setup) setup.first setup.limit path mid.tracker mid.end full) (trees.world between) (trees.world new)
+      → Told (AllFill (rules_in setup) setup.first setup.limit all before.tracker before.end full) (trees.world old) (trees.world new)
+  takes_all_fill setup paths path all before mid old between new disk disk_between full a firsts b =
+      told_then _ _ _ (trees.world old) (trees.world between) (trees.world new)
+      (λ x y z taken fills. all_fill (rules_in setup) setup.first paths path before.tracker mid.tracker mid.tracker a.gain no_gain a.takes.added [] x y z taken setup.limit before.end mid.end full all a.takes.appends.end_is firsts fills)
+      a.takes.world b
+
+-- one path more of a list
+pub one_more : (paths : List (List ℕ)) (place : ℕ) (path : List ℕ) → place < length paths → path ≡ get_or paths place path → take (place + 1) paths ≡ take place paths ++ path ∷ []
+one_more paths place path within is = take_more paths place path within ∙ ap (λ (p : List ℕ). take place paths ++ p ∷ []) (sym is)
+
+pub firsts_more : (paths : List (List ℕ)) (place : ℕ) (path : List ℕ) → place < length paths → path ≡ get_or paths place path → take (length (take place paths) + 1) paths ≡ take place paths ++ path ∷ []
+firsts_more paths place path within is = ap (λ n. take (n + 1) paths) (length-take-le place paths (omega (arith, within))) ∙ one_more paths place path within is

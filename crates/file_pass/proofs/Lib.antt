@@ -1,0 +1,17 @@
+pub mod FeedingOn
+pub mod ReadingLemmas
+pub mod DiskLemmas
+pub mod TreeLemmas
+pub mod GoingOn
+pub mod Crossing
+pub mod PieceLemmas
+pub mod Listing
+pub mod Looking
+pub mod Bridging
+pub mod Filling
+pub mod Opening
+pub mod Turning
+pub mod Saning
+pub mod RowLemmas
+pub mod Joining
+pub mod Finding

@@ -1,0 +1,264 @@
+-- An open file, and a path that is opened.
+use Rattle.std.proofs.Common.{◌≡◌, ℕ, ◌<◌, ◌≤◌, List, [], ◌∷◌, length, take, drop, min, Bool, true, false, refl, sym, ap, subst, ◌∙◌, inl, inr, arith, eq-eqb, ◌==◌, not}
+use Rattle.std.proofs.lemmas.Bool.{cases_lt}
+use Rattle.std.proofs.lemmas.List.{take_all}
+use Rattle.std.specs.Prelude.{Option, None, Some, filter}
+use Rattle.file_tracker.specs.Places.{place_of}
+use Rattle.file_tracker.specs.declared.row.Row as tracked
+use Rattle.outside.proofs.Moving.{moves_none, moves_then, moves_by_moment}
+use Rattle.outside.proofs.Seeing.{looks_stay, misses_stay, unlisted_stay, given_back}
+use Rattle.outside.specs.Closing.{Closes}
+use Rattle.outside.specs.Listing.{kind_at}
+use Rattle.outside.specs.Moment.{Moves}
+use Rattle.outside.specs.Opening.{OpensFile, OpensNothing}
+use Rattle.outside.specs.Reading.{file_of}
+use Rattle.outside.specs.Seen.{looked, missed, left_unlisted}
+use Rattle.outside.specs.World.{World, History, bytes, look, miss, names, file_at}
+use Rattle.outside.specs.declared.tree.Kind.TheVariants.{File}
+use Rattle.standing.proofs.MomentLemmas.{bytes_grow, later_then, at_look}
+use Rattle.standing.specs.Limits.{is_compressed}
+use Rattle.standing.specs.Look.{ComesAt}
+use Rattle.standing.specs.Marks.{Mark}
+use Rattle.standing.specs.Moments.{IsLater}
+use Rattle.standing.specs.Rules.{Rules, Includes}
+use Rattle.file_pass.specs.Gain.{Gain, no_gain, one_file}
+use Rattle.file_pass.specs.LookTaken.{IsOpenAt, IsSeenAt, OpenTaken, SeenTaken, look_at}
+use Rattle.file_pass.specs.Overflow.{OpenFills, SeenFills, PathFills}
+use Rattle.file_pass.specs.PathTaken.{PathTaken}
+use Rattle.file_pass.specs.Reads.{Reads}
+use Rattle.file_pass.specs.Settled.{IsLeftOut}
+use Rattle.file_pass.specs.Turns.{looks_at, misses_path, finds_none}
+use Rattle.file_pass.specs.declared.ending.Ending.TheVariants.{Whole, Failed, Shrunk}
+use Rattle.file_pass.specs.declared.ending.OpenFile.{OpenFile}
+use Rattle.file_pass.proofs.Bridging.{still_open, look_same}
+use Rattle.file_pass.proofs.Looking.{takes_nothing, takes_unread, takes_compressed, takes_full}
+use Rattle.file_pass.proofs.ReadingLemmas.{same_piece}
+
+pub later_moves : {old new : History} → Moves old new → IsLater old new
+later_moves moves = record { events = moves.steps; goes_on = moves.goes_on }
+
+module _ (rules : Rules) (first : Bool) (path : List ℕ) (file : OpenFile) (before : List tracked.Row) where
+  -- nothing was done with an empty file
+  pub open_nothing : (world : World) → file.size ≡ 0 → OpenTaken rules first path file before before no_gain [] world world
+  open_nothing world none = record {
+    handles = refl;
+    moves = moves_none world.history;
+    end = 0;
+    skipped = false;
+    looks = λ seen moment at. takes_nothing rules first (look_at path seen moment 0 false) before refl (sym at.size_then ∙ none) refl;
+  }
+
+  -- its front could not be read
+  pub open_unread : (old new : World) (last : ℕ) (given : List ℕ) → last ≤ file.size → 0 < file.size → Reads file.handle.0 0 last given Failed old new → OpenTaken rules first path file before before (record one_file { failed = 1 }) [] old new
+  open_unread old new last given le some reads = record {
+    handles = reads.handles;
+    moves = reads.moves;
+    end = 0;
+    skipped = true;
+    looks = λ seen moment at. takes_unread rules first (look_at path seen moment 0 true) before refl (omega (arith, some, at.size_then)) (omega arith);
+  }
+
+  -- no file is found to be shorter than it was
+  pub open_shrunk : (old new : World) (last : ℕ) (given : List ℕ) → last ≤ file.size → Reads file.handle.0 0 last given Shrunk old new → OpenTaken rules first path file before before (record one_file { shrunk = 1 }) [] old new
+  open_shrunk old new last given le reads = record {
+    handles = reads.handles;
+    moves = reads.moves;
+    end = 0;
+    skipped = true;
+    looks = λ seen moment at.
+        let has = still_open file seen moment old at in
+        absurd (reads.grows seen (record { is = has.is; long = omega (arith, le, has.long) }) refl);
+  }
+
+  -- the front that was read is what a look sees
+  seen_then : (old mid : World) (seen_front : List ℕ) (last : ℕ) → last ≡ min rules.front_size file.size → length seen_front ≡ last → Reads file.handle.0 0 last seen_front Whole old mid
+      → (seen : ℕ) (moment : History) → IsOpenAt file seen moment old → IsSeenAt rules file seen_front seen moment mid
+  seen_then old mid seen_front last is many reads seen moment at =
+      let has = still_open file seen moment old at in
+      let grown = bytes_grow moment old.history seen at.later in
+      record {
+        open_at = record {
+          is = ap (λ hs. file_of hs file.handle.0) reads.handles ∙ at.is;
+          size_then = at.size_then;
+          later = later_then moment old.history mid.history at.later (later_moves reads.moves);
+        };
+        front_is =
+            reads.are seen (record { is = has.is; long = omega (arith, is, has.long) })
+            ∙ ap (λ l. take (length seen_front) (drop 0 l)) grown.1
+            ∙ same_piece 0 (length seen_front) (bytes moment seen) grown.0 (omega (arith, is, many, at.size_then))
+            ∙ front_size_of (bytes moment seen) (omega (arith, is, many, at.size_then));
+      }
+    where
+      front_size_of : (content : List ℕ) → length seen_front ≡ min rules.front_size (length content) → take (length seen_front) content ≡ take rules.front_size content
+      front_size_of content few = elim (cases_lt rules.front_size (length content)) [
+        | inl long ↦ ap (λ n. take n content) (omega (arith, few, long))
+        | inr short ↦ (take_all (length seen_front) content (omega (arith, few, short)) ∙ sym (take_all rules.front_size content short))
+      ]
+
+  module _ (old mid new : World) (seen_front : List ℕ) (last : ℕ) (is : last ≡ min rules.front_size file.size) (many : length seen_front ≡ last) (reads : Reads file.handle.0 0 last seen_front Whole old mid) where
+    pub open_seen : (after : List tracked.Row) (gain : Gain) (added : List Mark) → SeenTaken rules first path file seen_front before after gain added mid new → OpenTaken rules first path file before after gain added old new
+    open_seen after gain added taken = record {
+      handles = taken.handles ∙ reads.handles;
+      moves = moves_then reads.moves taken.moves;
+      end = taken.end;
+      skipped = false;
+      looks = λ seen moment at. taken.looks seen moment (seen_then old mid seen_front last is many reads seen moment at);
+    }
+
+    pub open_fills : (limit end full : ℕ) → SeenFills rules first limit path file seen_front before end full mid new → OpenFills rules first limit path file before end full old new
+    open_fills limit end full fills = record {
+      handles = fills.handles ∙ reads.handles;
+      moves = moves_then reads.moves fills.moves;
+      looks = λ seen moment at. fills.looks seen moment (seen_then old mid seen_front last is many reads seen moment at);
+    }
+
+  -- what is seen of a file that is passed over
+  pub seen_compressed : (world : World) (seen_front : List ℕ) → is_compressed seen_front ≡ true → 0 < file.size → SeenTaken rules first path file seen_front before before (record one_file { compressed = 1 }) [] world world
+  seen_compressed world seen_front is some = record {
+    handles = refl;
+    moves = moves_none world.history;
+    end = file.size;
+    looks = λ seen moment at.
+        takes_compressed rules first (look_at path seen moment file.size false) before refl (omega (arith, some, at.open_at.size_then)) (ap is_compressed (sym at.front_is) ∙ is) at.open_at.size_then;
+  }
+
+  pub seen_full : (world : World) (seen_front : List ℕ) (after : List tracked.Row) → is_compressed seen_front ≡ false → 0 < file.size → IsLeftOut seen_front before after
+      → SeenTaken rules first path file seen_front before after (record one_file { full = 1 }) [] world world
+  seen_full world seen_front after plain some left_out = record {
+    handles = refl;
+    moves = moves_none world.history;
+    end = file.size;
+    looks = λ seen moment at.
+        let here = look_at path seen moment file.size false in
+        look_same rules first here before left_out.same refl refl
+        (takes_full rules first here before refl (omega (arith, some, at.open_at.size_then)) (ap is_compressed (sym at.front_is) ∙ plain)
+        (subst (λ (f : List ℕ). place_of f before ≡ None) at.front_is left_out.none) (omega (arith, left_out.all)) at.open_at.size_then);
+  }
+
+-- a path that was opened, whose file was taken and closed
+module _ (rules : Rules) (first : Bool) (path : List ℕ) (included : Includes rules path) (file : OpenFile) (before : List tracked.Row) (old opened taken closed : World)
+    (opens : OpensFile path file.handle.0 file.size old opened) (closes : Closes file.handle.0 taken closed) where
+  open_at : IsOpenAt file opens.file opens.history.moment opened
+  open_at = record {
+    is = found opened opens.handles;
+    size_then = opens.history.holds.length_then;
+    later = later_then opens.history.moment (look opens.file ∷ opens.history.moment) opened.history (at_look opens.file opens.history.moment) (later_moves opens.history.after);
+  }
+    where
+      found : (world : World) → world.handles ≡ (file.handle.0, opens.file) ∷ old.handles → file_of world.handles file.handle.0 ≡ Some opens.file
+      found world is = let same : (file.handle.0 == file.handle.0) ≡ true = eq-eqb file.handle.0 file.handle.0 refl in rw (is, same) refl
+
+  comes : (end : ℕ) (skipped : Bool) → Moves opened.history taken.history → end ≤ length (bytes opens.history.moment opens.file) → ComesAt rules (look_at path opens.file opens.history.moment end skipped) closed.history
+  comes end skipped moves within =
+      let after = later_then (look opens.file ∷ opens.history.moment) taken.history closed.history (later_then (look opens.file ∷ opens.history.moment) opened.history taken.history (later_moves opens.history.after) (later_moves moves)) (later_moves closes.history) in
+      record {
+        looks = record { later = after.events; split = after.goes_on };
+        under = opens.history.holds.named;
+        included = included;
+        end_within = within;
+      }
+
+  handles_back : taken.handles ≡ opened.handles → closed.handles ≡ old.handles
+  handles_back same = closes.handles ∙ ap (λ (hs : List (ℕ × ℕ)). filter (λ pair. not (pair.0 == file.handle.0)) hs) (same ∙ opens.handles) ∙ given_back file.handle.0 opens.file old.handles opens.is_new
+
+  seen_looks : Moves opened.history taken.history → looked closed.history ≡ opens.file ∷ looked old.history
+  seen_looks moves =
+      looks_stay taken.history closed.history closes.history ∙ looks_stay opened.history taken.history moves ∙ looks_stay (look opens.file ∷ opens.history.moment) opened.history opens.history.after
+      ∙ ap (λ (l : List ℕ). opens.file ∷ l) (looks_stay old.history opens.history.moment opens.history.before)
+
+  seen_misses : Moves opened.history taken.history → missed closed.history ≡ missed old.history
+  seen_misses moves =
+      misses_stay taken.history closed.history closes.history ∙ misses_stay opened.history taken.history moves ∙ misses_stay (look opens.file ∷ opens.history.moment) opened.history opens.history.after ∙ misses_stay old.history opens.history.moment opens.history.before
+
+  seen_unlisted : Moves opened.history taken.history → left_unlisted closed.history ≡ left_unlisted old.history
+  seen_unlisted moves =
+      unlisted_stay taken.history closed.history closes.history ∙ unlisted_stay opened.history taken.history moves ∙ unlisted_stay (look opens.file ∷ opens.history.moment) opened.history opens.history.after ∙ unlisted_stay old.history opens.history.moment opens.history.before
+
+  pub path_looked : (after : List tracked.Row) (gain : Gain) (added : List Mark) → OpenTaken rules first path file before after gain added opened taken → PathTaken rules first path before after gain added old closed
+  path_looked after gain added open_taken =
+      let took = open_taken.looks opens.file opens.history.moment open_at in
+      record {
+        turn = looks_at (look_at path opens.file opens.history.moment open_taken.end open_taken.skipped);
+        path_is = refl;
+        comes = record {
+          later = later_moves opens.history.before;
+          comes = comes open_taken.end open_taken.skipped open_taken.moves took.end_within;
+          all_looks = seen_looks open_taken.moves;
+          all_misses = seen_misses open_taken.moves;
+          takes = took;
+        };
+        handles = handles_back open_taken.handles;
+        no_unlisted = seen_unlisted open_taken.moves;
+      }
+
+  pub path_fills : (limit end full : ℕ) → OpenFills rules first limit path file before end full opened taken → PathFills rules first limit path before end full old closed
+  path_fills limit end full fills = record {
+    here = look_at path opens.file opens.history.moment file.size false;
+    path_is = refl;
+    whole = opens.history.holds.length_then;
+    later = later_moves opens.history.before;
+    comes = comes file.size false fills.moves (omega (arith, opens.history.holds.length_then));
+    all_looks = seen_looks fills.moves;
+    all_misses = seen_misses fills.moves;
+    no_unlisted = seen_unlisted fills.moves;
+    fills = fills.looks opens.file opens.history.moment open_at;
+    handles = handles_back fills.handles;
+  }
+
+-- what a file that was opened and closed makes of its path
+pub record WithFile (change : World → World → Type 0) (path : List ℕ) (file : OpenFile) (old taken : World) : Type 0 where
+  pub opened : World
+  pub opens : OpensFile path file.handle.0 file.size old opened
+  pub changes : change opened taken
+
+-- a path that could not be opened, or was no file's
+module _ (rules : Rules) (first : Bool) (path : List ℕ) (before : List tracked.Row) (old new : World) where
+  pub path_missed : OpensNothing (miss path ∷ []) (λ _. Unit {0}) old new → PathTaken rules first path before before (record no_gain { failed = 1 }) [] old new
+  path_missed opens = record {
+    turn = misses_path path;
+    path_is = refl;
+    comes = record {
+      later = later_then old.history opens.history.moment new.history (later_moves opens.history.before)
+          (later_then opens.history.moment (miss path ∷ opens.history.moment) new.history (record { events = miss path ∷ []; goes_on = refl }) (later_moves opens.history.after));
+      all_looks = looks_stay (miss path ∷ opens.history.moment) new.history opens.history.after ∙ looks_stay old.history opens.history.moment opens.history.before;
+      all_misses = misses_stay (miss path ∷ opens.history.moment) new.history opens.history.after ∙ ap (λ (l : List (List ℕ)). path ∷ l) (misses_stay old.history opens.history.moment opens.history.before);
+      same = refl;
+      none = refl;
+      gain_is = refl;
+    };
+    handles = opens.handles;
+    no_unlisted = unlisted_stay (miss path ∷ opens.history.moment) new.history opens.history.after ∙ unlisted_stay old.history opens.history.moment opens.history.before;
+  }
+
+  no_file : (history : History) → (kind_at (names history) path ≡ Some File → ⊥) → file_at (names history) path ≡ None
+  no_file history other_kind = by (file_at (names history) path) refl
+    where
+      named : (seen : ℕ) → file_at (names history) path ≡ Some seen → kind_at (names history) path ≡ Some File
+      named seen e = rw e refl
+
+      by : (at : Option ℕ) → file_at (names history) path ≡ at → file_at (names history) path ≡ None
+      by None e = e
+      by (Some seen) e = absurd (other_kind (named seen e))
+
+  pub path_lost : (fact : History → Type 0) → OpensNothing [] fact old new → ((history : History) → fact history → kind_at (names history) path ≡ Some File → ⊥) → PathTaken rules first path before before (record no_gain { gone = 1 }) [] old new
+  path_lost fact opens other_kind =
+      let moves = moves_by_moment opens.history in
+      record {
+        turn = finds_none path;
+        path_is = refl;
+        comes = record {
+          had_none = record {
+            moment = opens.history.moment;
+            after = later_moves opens.history.before;
+            before = later_moves opens.history.after;
+            none = no_file opens.history.moment (other_kind opens.history.moment opens.history.holds);
+          };
+          all_looks = looks_stay old.history new.history moves;
+          all_misses = misses_stay old.history new.history moves;
+          same = refl;
+          none = refl;
+          gain_is = refl;
+        };
+        handles = opens.handles;
+        no_unlisted = unlisted_stay old.history new.history moves;
+      }

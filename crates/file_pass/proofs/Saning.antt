@@ -1,0 +1,170 @@
+-- The numbers of a pass, whatever is read.
+use Rattle.std.proofs.Common.{◌≡◌, ℕ, ◌+◌, ◌<◌, ◌≤◌, ◌^◌, suc, List, [], ◌∷◌, ◌++◌, length, Bool, true, false, refl, sym, ap, subst, ◌∙◌, inl, inr, arith, length-append}
+use Rattle.std.proofs.lemmas.List.{length-set, length_push}
+use Rattle.std.proofs.lemmas.List.Sums.{sum_by-cons}
+use Rattle.std.proofs.lemmas.Option.{slice_get_within}
+use Rattle.file_tracker.specs.declared.tracker.TheConstants.{ROW_LIMIT}
+use Rattle.file_pass.specs.declared.counts.Counts.{Counts}
+use Rattle.file_pass.specs.declared.taking.Taking.{Taking}
+use Rattle.std.specs.Prelude.{Option, None, Some, All, slice_get, slice_set, ◌&&◌}
+use Rattle.file_tracker.specs.Places.{with_front, with_progress}
+use Rattle.file_tracker.specs.declared.row.Row.{Row}
+use Rattle.line_splitter.specs.Cuts.{Cut}
+use Rattle.standing.specs.AreRules.{AreRules}
+use Rattle.standing.specs.Marks.{Mark, numbered}
+use Rattle.standing.specs.Rules.{Rules}
+use Rattle.standing.specs.Tokens.{tokens_of, used, used_by, texts}
+use Rattle.entry_model.specs.LogRecord.{LogRecord}
+use Rattle.state_codec.specs.Rules.{IsShortText}
+use Rattle.file_pass.specs.Fed.{rules_in}
+use Rattle.file_pass.specs.Full.{line_of, lines_text}
+use Rattle.file_pass.specs.Sane.{IsSaneRow, AreSaneRows, IsSaneTaking}
+use Rattle.file_pass.specs.Settled.{IsKnown, IsAdmitted, Settles, admitted}
+use Rattle.file_pass.specs.Unchanged.{KeepsUnchanged}
+use Rattle.file_pass.specs.declared.setup.Setup.{Setup}
+use Rattle.file_pass.proofs.Bridging.{start_within}
+use Rattle.file_pass.proofs.Listing.{set_cases, set_others, push_cases, push_before}
+
+-- rows that are found or made
+module _ (setup : Setup) (end size : ℕ) (path front : List ℕ) (before after : List Row) (place : ℕ) (sane : AreSaneRows (rules_in setup) end before)
+    (size_within : size ≤ 2 ^ 62) (short : IsShortText path) (some : (1 ≤ length front) × (length front ≤ 4096)) where
+  pub sane_known : IsKnown front before place after → AreSaneRows (rules_in setup) end after
+  sane_known known k row at =
+      elim (set_cases before place k (with_front front known.row) row (sym (ap (λ (l : List Row). slice_get l k) known.grown) ∙ at)) [
+        | inl here ↦ (
+            let was = sane place known.row known.at in
+            let grown : IsSaneRow (rules_in setup) end place (with_front front known.row) = record {
+              id = was.id;
+              path = was.path;
+              front = some;
+              start = was.start;
+              offset = was.offset;
+              records = was.records;
+              lines = was.lines;
+              state = was.state;
+            } in
+            rw (here.0, here.1) grown)
+        | inr other ↦ sane k row other.1
+      ]
+
+  pub sane_admitted : IsAdmitted setup size path front before place after → AreSaneRows (rules_in setup) end after
+  sane_admitted fresh k row at =
+      let new : Row = admitted setup size path front (length before + 1) in
+      elim (push_cases before k new row (sym (ap (λ (l : List Row). slice_get l k) fresh.added) ∙ at)) [
+        | inl here ↦ (
+            let le : new.start ≤ size = start_within (setup.first && (rules_in setup).from_end) size in
+            let made : IsSaneRow (rules_in setup) end (length before) new = record {
+              id = refl;
+              path = short;
+              front = some;
+              start = omega arith;
+              offset = omega (arith, le, size_within);
+              records = omega arith;
+              lines = omega arith;
+              state = refl;
+            } in
+            rw (here.0, here.1) made)
+        | inr other ↦ sane k row other
+      ]
+
+module _ (setup : Setup) (size : ℕ) (path front : List ℕ) (before after : Taking) (sane : IsSaneTaking setup before) (size_within : size ≤ 2 ^ 62) (short : IsShortText path)
+    (some : (1 ≤ length front) × (length front ≤ 4096)) (flags : length after.changed.items ≡ length after.tracker) (end : after.end ≡ before.end) (counts : after.counts ≡ before.counts) where
+  settled_by : AreSaneRows (rules_in setup) before.end after.tracker → length after.tracker ≤ ROW_LIMIT → IsSaneTaking setup after
+  settled_by rows few = record {
+    rows = subst (λ e. AreSaneRows (rules_in setup) e after.tracker) (sym end) rows;
+    few = few;
+    flags = flags;
+    end_within = omega (arith, end, sane.end_within);
+    lines = omega (arith, end, sane.lines, ap (λ (c : Counts). c.lines) counts);
+  }
+
+  pub sane_settled : (place : Option ℕ) → Settles setup size path front before.tracker place after.tracker → IsSaneTaking setup after
+  sane_settled None left_out = settled_by (subst (λ (rows : List Row). AreSaneRows (rules_in setup) before.end rows) (sym left_out.same) sane.rows) (omega (arith, ap (λ (rows : List Row). length rows) left_out.same, sane.few))
+  sane_settled (Some place) (inl known) =
+      settled_by (sane_known setup before.end size path front before.tracker after.tracker place sane.rows size_within short some known)
+      (omega (arith, ap (λ (rows : List Row). length rows) known.grown, length-set before.tracker place (with_front front known.row), sane.few))
+  sane_settled (Some place) (inr fresh) =
+      settled_by (sane_admitted setup before.end size path front before.tracker after.tracker place sane.rows size_within short some fresh)
+      (omega (arith, ap (λ (rows : List Row). length rows) fresh.added, length_push before.tracker (admitted setup size path front (length before.tracker + 1)), fresh.room))
+
+-- a row that was read on
+pub sane_progress : (rules : Rules) (end end_after : ℕ) (rows after : List Row) (place : ℕ) (row : Row) (far cut made : ℕ) → AreSaneRows rules end rows → end ≤ end_after → slice_get rows place ≡ Some row
+    → after ≡ slice_set rows place (with_progress far cut made row.state row) → row.offset ≤ far → far ≤ 2 ^ 62 → row.start + cut ≤ far → made ≤ end_after → AreSaneRows rules end_after after
+sane_progress rules end end_after rows after place row far cut made sane later at is gone far_within few lines k other there =
+    elim (set_cases rows place k (with_progress far cut made row.state row) other (sym (ap (λ (l : List Row). slice_get l k) is) ∙ there)) [
+      | inl here ↦ (
+          let was = sane place row at in
+          let on : IsSaneRow rules end_after place (with_progress far cut made row.state row) = record {
+            id = was.id;
+            path = was.path;
+            front = was.front;
+            start = omega (arith, was.start, gone);
+            offset = far_within;
+            records = few;
+            lines = lines;
+            state = was.state;
+          } in
+          rw (here.0, here.1) on)
+      | inr another ↦ (
+          let was = sane k other another.1 in
+          record { id = was.id; path = was.path; front = was.front; start = was.start; offset = was.offset; records = was.records; lines = omega (arith, was.lines, later); state = was.state })
+    ]
+
+pub sane_later : (rules : Rules) (end end_after : ℕ) (rows : List Row) → AreSaneRows rules end rows → end ≤ end_after → AreSaneRows rules end_after rows
+sane_later rules end end_after rows sane later k row at =
+    let was = sane k row at in
+    record { id = was.id; path = was.path; front = was.front; start = was.start; offset = was.offset; records = was.records; lines = omega (arith, was.lines, later); state = was.state }
+
+-- each token uses a byte or more
+few_cuts : (cuts : List Cut) → All (λ (c : Cut). 1 ≤ c.used) cuts → length (texts cuts) ≤ used_by cuts
+few_cuts [] each = omega arith
+few_cuts (first ∷ rest) each =
+    let here : 1 ≤ first.used = each 0 first (omega arith) in
+    omega (arith, here, few_cuts rest (λ k other within. each (suc k) other (omega arith)), sum_by-cons (λ (c : Cut). c.used) first rest)
+
+pub few_tokens : (rules : Rules) → AreRules rules → (given : List ℕ) → length (tokens_of rules given) ≤ used rules given
+few_tokens rules laws given = few_cuts (rules.cuts given) (laws.tokens.each_uses given)
+
+-- each line has a byte or more
+pub text_long : ((mark : Mark) → 0 < length (line_of mark)) → (marks : List Mark) → length marks ≤ length (lines_text marks)
+text_long filled [] = omega arith
+text_long filled (first ∷ rest) = omega (arith, filled first, text_long filled rest, length-append (line_of first) (lines_text rest))
+
+pub length-numbered : (id number : ℕ) (entries : List LogRecord) → length (numbered id number entries) ≡ length entries
+length-numbered id number [] = refl
+length-numbered id number (entry ∷ entries) = omega (arith, length-numbered id (number + 1) entries)
+
+-- flags
+pub unchanged_none : (rows : List Row) (flags : List Bool) → KeepsUnchanged rows flags rows flags
+unchanged_none rows flags = record { more = omega arith; kept = λ place is. (is, refl) }
+
+pub unchanged_then : (rows mid after : List Row) (flags between last : List Bool) → KeepsUnchanged rows flags mid between → KeepsUnchanged mid between after last → KeepsUnchanged rows flags after last
+unchanged_then rows mid after flags between last a b = record {
+  more = omega (arith, a.more, b.more);
+  kept = λ place is.
+      let second = b.kept place is in
+      let first = a.kept place second.0 in
+      (first.0, second.1 ∙ first.1);
+}
+
+-- the flag of the row that was changed is set
+pub unchanged_set : (rows : List Row) (flags : List Bool) (place : ℕ) (row : Row) → KeepsUnchanged rows flags (slice_set rows place row) (slice_set flags place true)
+unchanged_set rows flags place row = record {
+  more = omega (arith, length-set rows place row);
+  kept = λ k is.
+      elim (set_cases flags place k true false is) [
+        | inl here ↦ absurd (let never : false ≡ true = here.1 in cc)
+        | inr other ↦ (other.1, set_others rows place k row other.0)
+      ];
+}
+
+-- a row was added, and its flag
+pub unchanged_push : (rows : List Row) (flags : List Bool) (row : Row) → length flags ≡ length rows → KeepsUnchanged rows flags (rows ++ row ∷ []) (flags ++ true ∷ [])
+unchanged_push rows flags row many = record {
+  more = omega (arith, length_push rows row);
+  kept = λ k is.
+      elim (push_cases flags k true false is) [
+        | inl here ↦ absurd (let never : false ≡ true = here.1 in cc)
+        | inr was ↦ (was, push_before rows k row (omega (arith, many, slice_get_within flags k false was)))
+      ];
+}

@@ -1,0 +1,25 @@
+use Rattle.std.proofs.Common.{◌≡◌, ◌≤◌, ◌+◌, ◌-◌, length, IsTrue}
+use Rattle.outside.specs.declared.disk.DiskFile.TheVariants.{Output}
+use Rattle.file_pass.specs.DiskTerms.{KeepsDisk}
+use Rattle.file_pass.specs.Fed.{IsReading, IsSane}
+use Rattle.file_pass.specs.TreeTerms.{KeepsTree}
+use Rattle.file_pass.proofs.feeding.read_on.Given as goal
+
+abbrev pub invariant-loop-from : goal.invariant-loop-from
+invariant-loop-from g l =
+    let trees = g.T.Tree.meaning in
+    let disks = g.D.Disk.meaning in
+    record {
+      reading : IsReading trees disks l.setup l.file l.fn.feeding l.feeding l.fn.end l.end l.from l.carried.items l.fn.tree l.tree l.fn.disk l.disk;
+      sane : IsSane l.setup l.feeding l.end;
+      offset : l.feeding.offset + length l.carried.items ≡ l.from;
+      later : l.fn.end ≤ l.end;
+      ends : IsTrue (disks.images.tells l.disk) → length (disks.images.seen l.disk Output) ≡ l.end;
+      keeps_tree : KeepsTree trees (length l.fn.buffer) (l.from - l.fn.feeding.offset) l.fn.tree l.tree;
+      keeps_disk : KeepsDisk disks l.fn.end l.fn.disk l.disk;
+      stood : disks.faults l.disk ≡ disks.faults l.fn.disk;
+      long : length l.buffer ≡ length l.fn.buffer;
+    }
+
+abbrev pub decreases-loop-from : goal.decreases-loop-from
+decreases-loop-from g l = l.last - l.from

@@ -1,0 +1,78 @@
+use Rattle.std.proofs.Common.{◌≡◌, ◌∙◌, sym, Some, None, Ok, Err}
+use Rattle.std.proofs.lemmas.Result.{IfOk-weaker}
+use Rattle.outside.proofs.Telling.{told_weaker}
+use Rattle.outside.specs.Listing.{kind_at}
+use Rattle.outside.specs.Opening.{Opens, OpensFile}
+use Rattle.outside.specs.World.{names, History}
+use Rattle.outside.specs.declared.tree.Kind.TheVariants.{Folder, File as PlainFile}
+use Rattle.outside.specs.declared.tree.Opened.TheVariants.{File, Gone, NotAFile}
+use Rattle.outside.specs.declared.fault.CallFault.TheVariants.{Failed}
+use Rattle.file_pass.specs.Fed.{rules_in}
+use Rattle.file_pass.specs.declared.ending.OpenFile.{OpenFile}
+use Rattle.file_pass.specs.declared.taking.TheConstants.{BUFFER_SIZE}
+use Rattle.file_pass.proofs.Joining.{tree_then, tree_opens, tree_closes, takes_file, fills_file, takes_missed, takes_lost}
+use Rattle.file_pass.proofs.taking.open_path.Goals as goal
+
+pub returns-in-Ok-File-clause-ok : goal.returns-in-Ok-File-clause-ok
+returns-in-Ok-File-clause-ok g c =
+    let opened = rw c.in-Ok-File.field-0-is at c.in-Ok-File.ensures in
+    let file : OpenFile = record { handle = c.in-Ok-File.handle; size = c.in-Ok-File.size } in
+    IfOk-weaker c.take_opened-found.result _ _ (λ found takes.
+    takes_file g.T.Tree.meaning g.D.Disk.meaning (rules_in c.args.setup.now) c.args.setup.now.first c.args.path.now c.requires.included file c.args.taking.now.tracker c.args.tree.now c.open_file.new.self c.take_opened-found.new.tree c.close.new.self
+    (told_weaker (Opens c.args.path.now (Ok (File c.in-Ok-File.handle c.in-Ok-File.size))) (OpensFile c.args.path.now file.handle.0 file.size) (g.T.Tree.meaning.world c.args.tree.now) (g.T.Tree.meaning.world c.open_file.new.self) (λ x y o. o) (rw c.as_str.ensures at opened.history))
+    c.close.ensures.history opened.cause c.close.ensures.cause
+    c.take_opened-found.new.taking.tracker _ c.args.taking.now.end c.take_opened-found.new.taking.end c.args.disk.now c.take_opened-found.new.disk takes)
+    c.take_opened-found.ensures.ok
+
+pub returns-in-Ok-File-clause-full : goal.returns-in-Ok-File-clause-full
+returns-in-Ok-File-clause-full g c = λ size is.
+    let opened = rw c.in-Ok-File.field-0-is at c.in-Ok-File.ensures in
+    let file : OpenFile = record { handle = c.in-Ok-File.handle; size = c.in-Ok-File.size } in
+    fills_file g.T.Tree.meaning g.D.Disk.meaning (rules_in c.args.setup.now) c.args.setup.now.first c.args.path.now c.requires.included file c.args.taking.now.tracker c.args.tree.now c.open_file.new.self c.take_opened-found.new.tree c.close.new.self
+    (told_weaker (Opens c.args.path.now (Ok (File c.in-Ok-File.handle c.in-Ok-File.size))) (OpensFile c.args.path.now file.handle.0 file.size) (g.T.Tree.meaning.world c.args.tree.now) (g.T.Tree.meaning.world c.open_file.new.self) (λ x y o. o) (rw c.as_str.ensures at opened.history))
+    c.close.ensures.history opened.cause c.close.ensures.cause
+    c.args.setup.now.limit c.args.taking.now.end size (c.take_opened-found.ensures.full size is)
+
+pub returns-in-Ok-File-clause-tree : goal.returns-in-Ok-File-clause-tree
+returns-in-Ok-File-clause-tree g c =
+    tree_then g.T.Tree.meaning BUFFER_SIZE c.args.tree.now c.take_opened-found.new.tree c.close.new.self
+    (tree_then g.T.Tree.meaning BUFFER_SIZE c.args.tree.now c.open_file.new.self c.take_opened-found.new.tree
+    (tree_opens g.T.Tree.meaning BUFFER_SIZE c.as_str.result.now c.open_file.result c.args.tree.now c.open_file.new.self c.open_file.ensures.history c.open_file.ensures.cause c.open_file.ensures.nameless c.open_file.ensures.taken c.open_file.ensures.widest c.open_file.ensures.plan c.open_file.ensures.bound)
+    c.take_opened-found.ensures.tree)
+    (tree_closes g.T.Tree.meaning BUFFER_SIZE c.in-Ok-File.handle.0 c.take_opened-found.new.tree c.close.new.self c.close.ensures.history c.close.ensures.cause c.close.ensures.nameless c.close.ensures.taken c.close.ensures.widest c.close.ensures.plan c.close.ensures.bound)
+
+pub returns-in-Ok-Gone-clause-ok : goal.returns-in-Ok-Gone-clause-ok
+returns-in-Ok-Gone-clause-ok g c =
+    let opened = rw c.in-Ok-Gone.field-0-is at c.in-Ok-Gone.ensures in
+    takes_lost g.T.Tree.meaning g.D.Disk.meaning (rules_in c.args.setup.now) c.args.setup.now.first c.args.path.now c.args.taking.now.tracker c.args.taking.now.end c.args.tree.now c.open_file.new.self c.args.disk.now
+    (λ (history : History). kind_at (names history) c.args.path.now ≡ None) (λ history none some. (let never : None ≡ Some PlainFile = sym none ∙ some in cc))
+    (told_weaker (Opens c.args.path.now (Ok Gone)) _ (g.T.Tree.meaning.world c.args.tree.now) (g.T.Tree.meaning.world c.open_file.new.self) (λ x y o. o) (rw c.as_str.ensures at opened.history)) opened.cause
+
+pub returns-in-Ok-NotAFile-clause-ok : goal.returns-in-Ok-NotAFile-clause-ok
+returns-in-Ok-NotAFile-clause-ok g c =
+    let opened = rw c.in-Ok-NotAFile.field-0-is at c.in-Ok-NotAFile.ensures in
+    takes_lost g.T.Tree.meaning g.D.Disk.meaning (rules_in c.args.setup.now) c.args.setup.now.first c.args.path.now c.args.taking.now.tracker c.args.taking.now.end c.args.tree.now c.open_file.new.self c.args.disk.now
+    (λ (history : History). kind_at (names history) c.args.path.now ≡ Some Folder) (λ history folder some. (let never : Some Folder ≡ Some PlainFile = sym folder ∙ some in cc))
+    (told_weaker (Opens c.args.path.now (Ok NotAFile)) _ (g.T.Tree.meaning.world c.args.tree.now) (g.T.Tree.meaning.world c.open_file.new.self) (λ x y o. o) (rw c.as_str.ensures at opened.history)) opened.cause
+
+pub returns-in-Err-Failed-clause-ok : goal.returns-in-Err-Failed-clause-ok
+returns-in-Err-Failed-clause-ok g c =
+    let opened = rw c.in-Err-Failed.field-0-is at c.in-Err-Failed.ensures in
+    takes_missed g.T.Tree.meaning g.D.Disk.meaning (rules_in c.args.setup.now) c.args.setup.now.first c.args.path.now c.args.taking.now.tracker c.args.taking.now.end c.args.tree.now c.open_file.new.self c.args.disk.now
+    (told_weaker (Opens c.args.path.now (Err Failed)) _ (g.T.Tree.meaning.world c.args.tree.now) (g.T.Tree.meaning.world c.open_file.new.self) (λ x y o. o) (rw c.as_str.ensures at opened.history)) opened.cause
+
+pub returns-in-Ok-Gone-clause-tree : goal.returns-in-Ok-Gone-clause-tree
+returns-in-Ok-Gone-clause-tree g c =
+    tree_opens g.T.Tree.meaning BUFFER_SIZE c.as_str.result.now c.open_file.result c.args.tree.now c.open_file.new.self c.open_file.ensures.history c.open_file.ensures.cause c.open_file.ensures.nameless c.open_file.ensures.taken c.open_file.ensures.widest c.open_file.ensures.plan c.open_file.ensures.bound
+
+pub returns-in-Ok-NotAFile-clause-tree : goal.returns-in-Ok-NotAFile-clause-tree
+returns-in-Ok-NotAFile-clause-tree g c =
+    tree_opens g.T.Tree.meaning BUFFER_SIZE c.as_str.result.now c.open_file.result c.args.tree.now c.open_file.new.self c.open_file.ensures.history c.open_file.ensures.cause c.open_file.ensures.nameless c.open_file.ensures.taken c.open_file.ensures.widest c.open_file.ensures.plan c.open_file.ensures.bound
+
+pub returns-in-Err-Failed-clause-tree : goal.returns-in-Err-Failed-clause-tree
+returns-in-Err-Failed-clause-tree g c =
+    tree_opens g.T.Tree.meaning BUFFER_SIZE c.as_str.result.now c.open_file.result c.args.tree.now c.open_file.new.self c.open_file.ensures.history c.open_file.ensures.cause c.open_file.ensures.nameless c.open_file.ensures.taken c.open_file.ensures.widest c.open_file.ensures.plan c.open_file.ensures.bound
+
+pub returns-in-Err-Memory-clause-tree : goal.returns-in-Err-Memory-clause-tree
+returns-in-Err-Memory-clause-tree g c =
+    tree_opens g.T.Tree.meaning BUFFER_SIZE c.as_str.result.now c.open_file.result c.args.tree.now c.open_file.new.self c.open_file.ensures.history c.open_file.ensures.cause c.open_file.ensures.nameless c.open_file.ensures.taken c.open_file.ensures.widest c.open_file.ensures.plan c.open_file.ensures.bound

@@ -1,0 +1,64 @@
+-- What a pass makes of its paths.
+use Rattle.std.specs.Prelude.{◌≡◌, ℕ, ◌+◌, List, [], ◌++◌, length, map, reverse, Bool, Contains, count_by}
+use Rattle.file_tracker.specs.declared.row.Row as tracked
+use Rattle.outside.specs.DiskMeaning.{DiskMeaning}
+use Rattle.outside.specs.Seen.{looked, missed, left_unlisted}
+use Rattle.outside.specs.TreeMeaning.{TreeMeaning}
+use Rattle.outside.specs.World.{World, History}
+use Rattle.standing.specs.Look.{Look, Progress}
+use Rattle.standing.specs.Looks.{Come, ReadOn, progress_by, count_of}
+use Rattle.standing.specs.Marks.{Mark}
+use Rattle.standing.specs.Moments.{IsLater}
+use Rattle.standing.specs.Pass.{is_short}
+use Rattle.standing.specs.Rules.{Rules}
+use Rattle.standing.specs.Sums.{is_filled, is_passed_as_compressed, is_left_out, has_more, is_shrunk}
+use Rattle.file_pass.specs.Fed.{rules_in}
+use Rattle.file_pass.specs.Gain.{Gain, Counted}
+use Rattle.file_pass.specs.PathTaken.{PathTaken}
+use Rattle.file_pass.specs.Seen.{progress_of}
+use Rattle.file_pass.specs.Taken.{Takes}
+use Rattle.file_pass.specs.Turns.{Turn, path_of, looks_of, misses_of, gone_of, HadNone}
+use Rattle.file_pass.specs.declared.setup.Setup.{Setup}
+use Rattle.file_pass.specs.declared.taking.Taking.{Taking}
+
+-- the agent's own events are those of these turns
+pub record OwnTurns (rules : Rules) (turns : List Turn) (old new : History) : Type 0 where
+  pub come : Come rules (looks_of turns) old new
+  pub later : IsLater old new
+  pub all_looks : looked new ≡ map (λ (here : Look). here.file) (looks_of turns) ++ looked old
+  pub all_misses : missed new ≡ misses_of turns ++ missed old
+  pub no_unlisted : left_unlisted new ≡ left_unlisted old
+  pub had_none : (path : List ℕ) → Contains (gone_of turns) path → HadNone old new path
+
+-- what these turns add to the counts
+pub record AreGains (rules : Rules) (first : Bool) (turns : List Turn) (start : Progress) (added : List Mark) (gain : Gain) : Type 0 where
+  pub files : gain.files ≡ count_by is_filled (looks_of turns)
+  pub lines : gain.lines ≡ length added
+  pub left : gain.left ≡ count_of rules first (has_more rules first) (looks_of turns) start
+  pub gone : gain.gone ≡ length (gone_of turns)
+  pub failed : gain.failed ≡ count_by is_short (looks_of turns) + length (misses_of turns)
+  pub compressed : gain.compressed ≡ count_of rules first is_passed_as_compressed (looks_of turns) start
+  pub shrunk : gain.shrunk ≡ count_of rules first (is_shrunk rules first) (looks_of turns) start
+  pub full : gain.full ≡ count_of rules first is_left_out (looks_of turns) start
+
+-- Each path has its turn, and the looks lead from the rows before to those after, with these lines.
+pub record AllTaken (rules : Rules) (first : Bool) (paths : List (List ℕ)) (before after : List tracked.Row) (gain : Gain) (added : List Mark) (old new : World) : Type 0 where
+  pub turns : List Turn
+  pub each : map path_of turns ≡ reverse paths
+  pub handles : new.handles ≡ old.handles
+  pub own : OwnTurns rules turns old.history new.history
+  pub read_on : ReadOn rules first (looks_of turns) (progress_of before [])
+  pub leads_to : progress_by rules first (looks_of turns) (progress_of before []) ≡ progress_of after added
+  pub gains : AreGains rules first turns (progress_of before []) added gain
+
+-- One path was taken, and counted.
+pub record TakesOne {T D : Type 0} (trees : TreeMeaning T) (disks : DiskMeaning D) (setup : Setup) (path : List ℕ) (before after : Taking) (tree tree_after : T) (disk disk_after : D) : Type 0 where
+  pub gain : Gain
+  pub counted : Counted before.counts gain after.counts
+  pub takes : Takes trees disks (PathTaken (rules_in setup) setup.first path before.tracker after.tracker gain) gain before.end after.end tree tree_after disk disk_after
+
+-- A pass came to its end.
+pub record TakesAll {T D : Type 0} (trees : TreeMeaning T) (disks : DiskMeaning D) (setup : Setup) (paths : List (List ℕ)) (before after : Taking) (tree tree_after : T) (disk disk_after : D) : Type 0 where
+  pub gain : Gain
+  pub counted : Counted before.counts gain after.counts
+  pub takes : Takes trees disks (AllTaken (rules_in setup) setup.first paths before.tracker after.tracker gain) gain before.end after.end tree tree_after disk disk_after

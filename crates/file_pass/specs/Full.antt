@@ -1,0 +1,21 @@
+-- The line with which an output is too long.
+use Rattle.std.specs.Prelude.{◌≡◌, ℕ, ◌+◌, ◌<◌, ◌≤◌, List, [], ◌∷◌, ◌++◌, length, flat_map}
+use Rattle.otlp_json.specs.OutputLine.{output_line}
+use Rattle.standing.specs.Marks.{Mark}
+
+abbrev pub line_of : Mark → List ℕ
+line_of mark = output_line mark.id mark.number mark.entry
+
+abbrev pub lines_text : List Mark → List ℕ
+lines_text marks = flat_map line_of marks
+
+-- With all lines up to one of these the output, which ends at this place, has this length, which is more than the limit;
+-- without that one it isn't.
+pub record Crosses (limit end : ℕ) (marks : List Mark) (size : ℕ) : Type 0 where
+  pub front : List Mark
+  pub last : Mark
+  pub back : List Mark
+  pub split : marks ≡ front ++ last ∷ back
+  pub within_before : end + length (lines_text front) ≤ limit
+  pub size_then : size ≡ end + length (lines_text (front ++ last ∷ []))
+  pub too_much : limit < size

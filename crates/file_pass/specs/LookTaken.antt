@@ -1,0 +1,61 @@
+-- What a look at a file makes of the rows and of the counts.
+use Rattle.std.specs.Prelude.{◌≡◌, ℕ, ◌≤◌, List, [], length, take, Bool, false, Some}
+use Rattle.file_tracker.specs.declared.row.Row as tracked
+use Rattle.outside.specs.Moment.{Moves}
+use Rattle.outside.specs.Reading.{file_of}
+use Rattle.outside.specs.World.{World, History, bytes}
+use Rattle.standing.specs.Look.{Look, Outcome, ReadsOn, outcome, after_look, size}
+use Rattle.standing.specs.Marks.{Mark}
+use Rattle.standing.specs.Moments.{IsLater}
+use Rattle.standing.specs.Pass.{is_short}
+use Rattle.standing.specs.Rules.{Rules}
+use Rattle.standing.specs.Sums.{is_filled, is_passed_as_compressed, is_left_out, has_more, is_shrunk}
+use Rattle.file_pass.specs.Gain.{Gain, one_if}
+use Rattle.file_pass.specs.Seen.{rows_of, progress_of}
+use Rattle.file_pass.specs.declared.ending.OpenFile.{OpenFile}
+
+abbrev pub look_at : List ℕ → ℕ → History → ℕ → Bool → Look
+look_at path file moment end skipped = record { path = path; file = file; moment = moment; end = end; skipped = skipped }
+
+-- the counts that the look adds to, by what it finds
+pub record IsGainOf (rules : Rules) (first : Bool) (here : Look) (found : Outcome) (added : List Mark) (gain : Gain) : Type 0 where
+  pub files : gain.files ≡ one_if (is_filled here)
+  pub lines : gain.lines ≡ length added
+  pub left : gain.left ≡ one_if (has_more rules first here found)
+  pub gone : gain.gone ≡ 0
+  pub failed : gain.failed ≡ one_if (is_short here)
+  pub compressed : gain.compressed ≡ one_if (is_passed_as_compressed here found)
+  pub shrunk : gain.shrunk ≡ one_if (is_shrunk rules first here found)
+  pub full : gain.full ≡ one_if (is_left_out here found)
+
+pub record TakesLook (rules : Rules) (first : Bool) (here : Look) (before after : List tracked.Row) (added : List Mark) (gain : Gain) : Type 0 where
+  pub end_within : here.end ≤ size here
+  pub reads_on : ReadsOn rules first here (outcome rules (rows_of before) here)
+  pub leads_to : after_look rules first here (progress_of before []) ≡ progress_of after added
+  pub sums : IsGainOf rules first here (outcome rules (rows_of before) here) added gain
+
+-- the handle stands for this file, which had that size at an earlier moment
+pub record IsOpenAt (file : OpenFile) (seen : ℕ) (moment : History) (world : World) : Type 0 where
+  pub is : file_of world.handles file.handle.0 ≡ Some seen
+  pub size_then : file.size ≡ length (bytes moment seen)
+  pub later : IsLater moment world.history
+
+-- and these are its first bytes then
+pub record IsSeenAt (rules : Rules) (file : OpenFile) (front : List ℕ) (seen : ℕ) (moment : History) (world : World) : Type 0 where
+  pub open_at : IsOpenAt file seen moment world
+  pub front_is : front ≡ take rules.front_size (bytes moment seen)
+
+-- An open file with this front was taken: what that makes of the rows is what a look at it makes of them.
+pub record SeenTaken (rules : Rules) (first : Bool) (path : List ℕ) (file : OpenFile) (front : List ℕ) (before after : List tracked.Row) (gain : Gain) (added : List Mark) (old new : World) : Type 0 where
+  pub handles : new.handles ≡ old.handles
+  pub moves : Moves old.history new.history
+  pub end : ℕ
+  pub looks : (seen : ℕ) (moment : History) → IsSeenAt rules file front seen moment old → TakesLook rules first (look_at path seen moment end false) before after added gain
+
+-- The same of any open file.
+pub record OpenTaken (rules : Rules) (first : Bool) (path : List ℕ) (file : OpenFile) (before after : List tracked.Row) (gain : Gain) (added : List Mark) (old new : World) : Type 0 where
+  pub handles : new.handles ≡ old.handles
+  pub moves : Moves old.history new.history
+  pub end : ℕ
+  pub skipped : Bool
+  pub looks : (seen : ℕ) (moment : History) → IsOpenAt file seen moment old → TakesLook rules first (look_at path seen moment end skipped) before after added gain

@@ -1,0 +1,49 @@
+-- What a pass makes of one path.
+use Rattle.std.specs.Prelude.{◌≡◌, ℕ, List, [], ◌∷◌, Bool}
+use Rattle.file_tracker.specs.declared.row.Row as tracked
+use Rattle.outside.specs.Seen.{looked, missed, left_unlisted}
+use Rattle.outside.specs.World.{World, History}
+use Rattle.standing.specs.Look.{Look, ComesAt}
+use Rattle.standing.specs.Marks.{Mark}
+use Rattle.standing.specs.Moments.{IsLater}
+use Rattle.standing.specs.Rules.{Rules}
+use Rattle.file_pass.specs.Gain.{Gain, no_gain}
+use Rattle.file_pass.specs.LookTaken.{TakesLook}
+use Rattle.file_pass.specs.Turns.{Turn, looks_at, misses_path, finds_none, path_of, HadNone}
+
+-- a file was looked at under the path
+pub record LooksAtPath (rules : Rules) (first : Bool) (here : Look) (before after : List tracked.Row) (gain : Gain) (added : List Mark) (old new : History) : Type 0 where
+  pub later : IsLater old here.moment
+  pub comes : ComesAt rules here new
+  pub all_looks : looked new ≡ here.file ∷ looked old
+  pub all_misses : missed new ≡ missed old
+  pub takes : TakesLook rules first here before after added gain
+
+-- the path could not be opened
+pub record MissesPath (path : List ℕ) (before after : List tracked.Row) (gain : Gain) (added : List Mark) (old new : History) : Type 0 where
+  pub later : IsLater old new
+  pub all_looks : looked new ≡ looked old
+  pub all_misses : missed new ≡ path ∷ missed old
+  pub same : after ≡ before
+  pub none : added ≡ []
+  pub gain_is : gain ≡ record no_gain { failed = 1 }
+
+pub record FindsNoFile (path : List ℕ) (before after : List tracked.Row) (gain : Gain) (added : List Mark) (old new : History) : Type 0 where
+  pub had_none : HadNone old new path
+  pub all_looks : looked new ≡ looked old
+  pub all_misses : missed new ≡ missed old
+  pub same : after ≡ before
+  pub none : added ≡ []
+  pub gain_is : gain ≡ record no_gain { gone = 1 }
+
+abbrev pub Comes : Rules → Bool → List tracked.Row → List tracked.Row → Gain → List Mark → Turn → History → History → Type 0
+Comes rules first before after gain added (looks_at here) old new = LooksAtPath rules first here before after gain added old new
+Comes rules first before after gain added (misses_path path) old new = MissesPath path before after gain added old new
+Comes rules first before after gain added (finds_none path) old new = FindsNoFile path before after gain added old new
+
+pub record PathTaken (rules : Rules) (first : Bool) (path : List ℕ) (before after : List tracked.Row) (gain : Gain) (added : List Mark) (old new : World) : Type 0 where
+  pub turn : Turn
+  pub path_is : path_of turn ≡ path
+  pub comes : Comes rules first before after gain added turn old.history new.history
+  pub handles : new.handles ≡ old.handles
+  pub no_unlisted : left_unlisted new.history ≡ left_unlisted old.history

@@ -1,0 +1,24 @@
+//! One pass over log files: each is looked at, known again by its first bytes, and read on, and the lines of what was read
+//! are put behind the output.
+//!
+//! The contract for the layer above: `take_all` takes paths in byte order, and what it makes of the rows and of the output
+//! is what `standing` says of its looks (`TakesAll`), whatever others do to the files meanwhile. All writes lie at or past
+//! the output's length at the pass's begin (`KeepsDisk`), so until a checkpoint is written nothing of it counts.
+#![tactic(auto)]
+
+mod counts;
+mod ending;
+mod fault;
+mod feeding;
+mod found;
+mod front;
+mod output;
+mod reading;
+mod settling;
+mod setup;
+mod taking;
+
+pub use counts::Counts;
+pub use fault::PassFault;
+pub use setup::Setup;
+pub use taking::{Taking, take_all};

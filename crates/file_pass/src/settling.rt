@@ -1,0 +1,135 @@
+// Which row is a file's.
+ghost use Rattle.std.specs.Prelude.{◌≡◌, ◌+◌, ◌<◌, ◌≤◌, ◌^◌, ◌&&◌, if◌then◌else◌, length, None, Some, IfOk, OnOk};
+ghost use Rattle.file_pass.specs.Fed.{rules_in};
+ghost use Rattle.file_pass.specs.Sane.{IsSaneTaking};
+ghost use Rattle.file_pass.specs.Settled.{IsKnown, Settles, admitted};
+ghost use Rattle.file_pass.specs.Unchanged.{FlagsChanges};
+ghost use Rattle.file_tracker.specs.Places.{place_of};
+ghost use Rattle.pipeline.specs.Parts.{settings_of};
+ghost use Rattle.settings_text.specs.Limits.{KeepsLimits};
+ghost use Rattle.state_codec.specs.Rules.{IsShortText};
+
+use crate::setup::Setup;
+use crate::taking::Taking;
+use entry_model::Text;
+use file_tracker::{Bytes, ROW_LIMIT, Row};
+use settings_text::StartAt;
+use std::alloc::{AllocError, Global};
+
+/// Finds the row of a file of which these first bytes were seen, and makes one where none is known and there is room. It
+/// has this front then. `size` is the file's length.
+pub(crate) fn settle(
+    alloc: Global,
+    setup: &Setup<'_>,
+    size: u64,
+    path: &Text,
+    front: &[u8],
+    taking: &mut Taking,
+) -> Result<Option<usize>, AllocError>
+    requires sane { IsSaneTaking setup.now taking.old }
+    requires size { size ≤ 2 ^ 62 }
+    requires path { IsShortText path.now }
+    requires front { (1 ≤ length front.now) × (length front.now ≤ 4096) }
+    ensures settles { IfOk result (λ place. Settles setup.now size path.now front.now taking.old.tracker place taking.new.tracker) }
+    ensures sane { OnOk result (IsSaneTaking setup.now taking.new) }
+    ensures flags { OnOk result (FlagsChanges taking.old taking.new) }
+    ensures end { taking.new.end ≡ taking.old.end }
+    ensures counts { taking.new.counts ≡ taking.old.counts }
+{
+    match taking.tracker.find(front) {
+        Some(place) => {
+            grow(alloc, place, front, taking)?;
+            Ok(Some(place))
+        }
+        None => {
+            let place = admit(alloc, setup, size, path, front, taking)?;
+            Ok(place)
+        }
+    }
+}
+
+// Gives the row of a file the front that was seen.
+fn grow(alloc: Global, place: usize, front: &[u8], taking: &mut Taking) -> Result<(), AllocError>
+    requires known { place_of front.now taking.old.tracker ≡ Some place }
+    requires flags { length taking.old.changed.items ≡ length taking.old.tracker }
+    ensures known { OnOk result (IsKnown front.now taking.old.tracker place taking.new.tracker) }
+    ensures flags { OnOk result (FlagsChanges taking.old taking.new) }
+    ensures long { length taking.new.changed.items ≡ length taking.old.changed.items }
+    ensures end { taking.new.end ≡ taking.old.end }
+    ensures counts { taking.new.counts ≡ taking.old.counts }
+{
+    if taking.tracker.row(place).front.as_slice().len() < front.len() {
+        taking.tracker.grow_front(alloc, place, front)?;
+        taking.changed[place] = true;
+    }
+    Ok(())
+}
+
+// Makes a row, where there is room for one.
+fn admit(
+    alloc: Global,
+    setup: &Setup<'_>,
+    size: u64,
+    path: &Text,
+    front: &[u8],
+    taking: &mut Taking,
+) -> Result<Option<usize>, AllocError>
+    requires unknown { place_of front.now taking.old.tracker ≡ None }
+    requires flags { length taking.old.changed.items ≡ length taking.old.tracker }
+    ensures settles { IfOk result (λ place. Settles setup.now size path.now front.now taking.old.tracker place taking.new.tracker) }
+    ensures flags { OnOk result (FlagsChanges taking.old taking.new) }
+    ensures long { OnOk result (length taking.new.changed.items ≡ length taking.new.tracker) }
+    ensures end { taking.new.end ≡ taking.old.end }
+    ensures counts { taking.new.counts ≡ taking.old.counts }
+{
+    let rows = taking.tracker.len();
+    if rows >= ROW_LIMIT {
+        return Ok(None);
+    }
+    let row = new_row(alloc, setup, size, path, front, rows)?;
+    match taking.tracker.admit(alloc, row) {
+        Ok(place) => {
+            if taking.changed.push(true).is_err() {
+                return Err(AllocError);
+            }
+            Ok(Some(place))
+        }
+        Err(_) => Err(AllocError),
+    }
+}
+
+// The row behind so many rows.
+fn new_row(
+    alloc: Global,
+    setup: &Setup<'_>,
+    size: u64,
+    path: &Text,
+    front: &[u8],
+    rows: usize,
+) -> Result<Row, AllocError>
+    requires { rows < ROW_LIMIT }
+    ensures { IfOk result (λ row. row ≡ admitted setup.now size path.now front.now (rows + 1)) }
+{
+    let start = first_offset(setup, size);
+    Ok(Row {
+        id: rows as u32 + 1,
+        path: path.share()?,
+        front: Bytes::from_slice(alloc, front)?,
+        start,
+        offset: start,
+        records: 0,
+        lines: 0,
+        state: Bytes::new(Vec::new(alloc)),
+    })
+}
+
+// Where reading begins of a file that isn't known.
+fn first_offset(setup: &Setup<'_>, size: u64) -> u64
+    ensures { result ≡ (if setup.now.first && (rules_in setup.now).from_end then size else 0) }
+{
+    if setup.first && setup.pipeline.settings().start_at == StartAt::End {
+        size
+    } else {
+        0
+    }
+}

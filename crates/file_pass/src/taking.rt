@@ -1,0 +1,359 @@
+// The pass over the paths.
+ghost use Rattle.std.specs.Prelude.{◌≡◌, ℕ, ◌<◌, ◌≤◌, ◌^◌, [], List, false, length, nat_lt, slice_get, slice_set, Contains, Err, IsTrue, Some, IfOk, OnOk};
+ghost use Rattle.file_pass.specs.AllTaken.{TakesAll, TakesOne};
+ghost use Rattle.file_pass.specs.DiskTerms.{KeepsDisk};
+ghost use Rattle.file_pass.specs.Fed.{feeding_row, rules_in};
+ghost use Rattle.file_pass.specs.Gain.{gain_of};
+ghost use Rattle.file_pass.specs.LookTaken.{OpenTaken, SeenTaken};
+ghost use Rattle.file_pass.specs.Overflow.{AllFill, OpenFills, PathFills, RowFills, SeenFills};
+ghost use Rattle.file_pass.specs.PassCause.{HasPassCause};
+ghost use Rattle.file_pass.specs.PathTaken.{PathTaken};
+ghost use Rattle.file_pass.specs.RowTaken.{RowTaken};
+ghost use Rattle.file_pass.specs.Sane.{IsSaneTaking};
+ghost use Rattle.file_pass.specs.Seen.{row_of};
+ghost use Rattle.file_pass.specs.Taken.{KeepsTreeAt, Takes};
+ghost use Rattle.file_pass.specs.Unchanged.{FlagsChanges};
+ghost use Rattle.file_tracker.specs.Places.{HasGone, with_progress};
+ghost use Rattle.file_tracker.specs.declared.row.Row.{Row};
+ghost use Rattle.outside.specs.World.{Told};
+ghost use Rattle.outside.specs.declared.disk.DiskFile.{DiskFile};
+ghost use Rattle.pipeline.specs.Parts.{HaveKinds, settings_of};
+ghost use Rattle.settings_text.specs.Limits.{KeepsLimits};
+ghost use Rattle.standing.specs.Rules.{Includes};
+ghost use Rattle.state_codec.specs.Rules.{IsShortText};
+
+use crate::counts::Counts;
+use crate::ending::{Ending, OpenFile};
+use crate::fault::PassFault;
+use crate::feeding::{Feeding, MOST_TAKEN, read_on};
+use crate::found::Found;
+use crate::front::read_front;
+use crate::settling::settle;
+use crate::setup::Setup;
+use entry_model::Text;
+use file_tracker::{Row, Tracker};
+use outside::{CallFault, Disk, Opened, Tree};
+use pipeline::laws::a_pipeline_is_rules;
+use std::alloc::{AllocError, Global};
+
+// How many bytes are read at once.
+const BUFFER_SIZE: usize = 65_536;
+
+/// What a pass has made so far.
+#[derive(Drop)]
+pub struct Taking {
+    pub tracker: Tracker,
+    /// Which rows are new or differ from those at the pass's begin, by place.
+    pub changed: Vec<bool>,
+    /// Where the output ends, in bytes.
+    pub end: u64,
+    pub counts: Counts,
+}
+
+/// Takes the paths in turn: opens each, finds its file's row by the file's first bytes, reads the file on from the row's
+/// offset, and puts the lines of what was read behind the output.
+///
+/// Of a file at most 16 MiB are taken. `Disk` comes only where a call on the disk failed; `OutputFull` where the output with
+/// the next line would be longer than the limit. After a fault the rows are of no use.
+pub fn take_all<T: Tree, D: Disk>(
+    alloc: Global,
+    tree: &mut T,
+    disk: &mut D,
+    setup: &Setup<'_>,
+    paths: &[Text],
+    taking: &mut Taking,
+) -> Result<(), PassFault>
+    requires setup { KeepsLimits (settings_of setup.now.pipeline.now) × (setup.now.limit ≤ 2 ^ 40) }
+    requires sane { IsSaneTaking setup.now taking.old }
+    requires included { (path : List ℕ) → Contains paths.now path → Includes (rules_in setup.now) path }
+    requires short { (path : List ℕ) → Contains paths.now path → IsShortText path }
+    requires ends { IsTrue (D.meaning.images.tells disk.old) → length (D.meaning.images.seen disk.old DiskFile.Output) ≡ taking.old.end }
+    ensures ok { OnOk result (TakesAll T.meaning D.meaning setup.now paths.now taking.old taking.new tree.old tree.new disk.old disk.new) }
+    ensures sane { OnOk result (IsSaneTaking setup.now taking.new) }
+    ensures flags { OnOk result (FlagsChanges taking.old taking.new) }
+    ensures full { (size : ℕ) → result ≡ Err (PassFault.OutputFull size)
+        → Told (AllFill (rules_in setup.now) setup.now.first setup.now.limit paths.now taking.old.tracker taking.old.end size) (T.meaning.world tree.old) (T.meaning.world tree.new) }
+    ensures tree { KeepsTreeAt T.meaning BUFFER_SIZE tree.old tree.new }
+    ensures disk { KeepsDisk D.meaning taking.old.end disk.old disk.new }
+    ensures cause { HasPassCause result (D.meaning.faults disk.old) (D.meaning.faults disk.new) }
+{
+    taking.counts.stand();
+    let mut buffer = vec![in alloc; 0; BUFFER_SIZE]?;
+    for path in paths {
+        take_path(alloc, tree, disk, setup, path, taking, &mut buffer)?;
+    }
+    Ok(())
+}
+
+// Takes one path, and counts what was found there.
+fn take_path<T: Tree, D: Disk>(
+    alloc: Global,
+    tree: &mut T,
+    disk: &mut D,
+    setup: &Setup<'_>,
+    path: &Text,
+    taking: &mut Taking,
+    buffer: &mut [u8],
+) -> Result<(), PassFault>
+    requires setup { KeepsLimits (settings_of setup.now.pipeline.now) × (setup.now.limit ≤ 2 ^ 40) }
+    requires sane { IsSaneTaking setup.now taking.old }
+    requires included { Includes (rules_in setup.now) path.now }
+    requires short { IsShortText path.now }
+    requires room { (0 < length buffer.old) × (length buffer.old ≤ BUFFER_SIZE) }
+    requires ends { IsTrue (D.meaning.images.tells disk.old) → length (D.meaning.images.seen disk.old DiskFile.Output) ≡ taking.old.end }
+    ensures ok { OnOk result (TakesOne T.meaning D.meaning setup.now path.now taking.old taking.new tree.old tree.new disk.old disk.new) }
+    ensures sane { OnOk result (IsSaneTaking setup.now taking.new) }
+    ensures flags { OnOk result (FlagsChanges taking.old taking.new) }
+    ensures full { (size : ℕ) → result ≡ Err (PassFault.OutputFull size)
+        → Told (PathFills (rules_in setup.now) setup.now.first setup.now.limit path.now taking.old.tracker taking.old.end size) (T.meaning.world tree.old) (T.meaning.world tree.new) }
+    ensures tree { KeepsTreeAt T.meaning BUFFER_SIZE tree.old tree.new }
+    ensures disk { KeepsDisk D.meaning taking.old.end disk.old disk.new }
+    ensures cause { HasPassCause result (D.meaning.faults disk.old) (D.meaning.faults disk.new) }
+    ensures long { length buffer.new ≡ length buffer.old }
+{
+    a_pipeline_is_rules(setup.pipeline);
+    let found = open_path(alloc, tree, disk, setup, path, taking, buffer)?;
+    taking.counts = taking.counts.with(found);
+    Ok(())
+}
+
+// Opens one path, takes the file that has it, and closes it.
+fn open_path<T: Tree, D: Disk>(
+    alloc: Global,
+    tree: &mut T,
+    disk: &mut D,
+    setup: &Setup<'_>,
+    path: &Text,
+    taking: &mut Taking,
+    buffer: &mut [u8],
+) -> Result<Found, PassFault>
+    requires setup { KeepsLimits (settings_of setup.now.pipeline.now) × (setup.now.limit ≤ 2 ^ 40) }
+    requires sane { IsSaneTaking setup.now taking.old }
+    requires included { Includes (rules_in setup.now) path.now }
+    requires short { IsShortText path.now }
+    requires room { (0 < length buffer.old) × (length buffer.old ≤ BUFFER_SIZE) }
+    requires ends { IsTrue (D.meaning.images.tells disk.old) → length (D.meaning.images.seen disk.old DiskFile.Output) ≡ taking.old.end }
+    ensures ok { IfOk result (λ found. Takes T.meaning D.meaning (PathTaken (rules_in setup.now) setup.now.first path.now taking.old.tracker taking.new.tracker (gain_of found))
+        (gain_of found) taking.old.end taking.new.end tree.old tree.new disk.old disk.new) }
+    ensures counts { taking.new.counts ≡ taking.old.counts }
+    ensures sane { OnOk result (IsSaneTaking setup.now taking.new) }
+    ensures flags { OnOk result (FlagsChanges taking.old taking.new) }
+    ensures full { (size : ℕ) → result ≡ Err (PassFault.OutputFull size)
+        → Told (PathFills (rules_in setup.now) setup.now.first setup.now.limit path.now taking.old.tracker taking.old.end size) (T.meaning.world tree.old) (T.meaning.world tree.new) }
+    ensures tree { KeepsTreeAt T.meaning BUFFER_SIZE tree.old tree.new }
+    ensures disk { KeepsDisk D.meaning taking.old.end disk.old disk.new }
+    ensures cause { HasPassCause result (D.meaning.faults disk.old) (D.meaning.faults disk.new) }
+    ensures long { length buffer.new ≡ length buffer.old }
+{
+    match tree.open_file(alloc, path.as_str()) {
+        Ok(Opened::File { handle, size }) => {
+            let file = OpenFile { handle, size };
+            let found = take_opened(alloc, tree, disk, setup, path, file, taking, buffer);
+            tree.close(handle);
+            found
+        }
+        Ok(Opened::Gone) => Ok(Found::Gone),
+        Ok(Opened::NotAFile) => Ok(Found::Gone),
+        Err(CallFault::Failed) => Ok(Found::Missed),
+        Err(CallFault::Memory) => Err(PassFault::Memory),
+    }
+}
+
+// Takes an open file that was found under this path.
+fn take_opened<T: Tree, D: Disk>(
+    alloc: Global,
+    tree: &mut T,
+    disk: &mut D,
+    setup: &Setup<'_>,
+    path: &Text,
+    file: OpenFile,
+    taking: &mut Taking,
+    buffer: &mut [u8],
+) -> Result<Found, PassFault>
+    requires setup { KeepsLimits (settings_of setup.now.pipeline.now) × (setup.now.limit ≤ 2 ^ 40) }
+    requires sane { IsSaneTaking setup.now taking.old }
+    requires size { file.size ≤ 2 ^ 62 }
+    requires short { IsShortText path.now }
+    requires room { (0 < length buffer.old) × (length buffer.old ≤ BUFFER_SIZE) }
+    requires ends { IsTrue (D.meaning.images.tells disk.old) → length (D.meaning.images.seen disk.old DiskFile.Output) ≡ taking.old.end }
+    ensures ok { IfOk result (λ found. Takes T.meaning D.meaning (OpenTaken (rules_in setup.now) setup.now.first path.now file taking.old.tracker taking.new.tracker (gain_of found))
+        (gain_of found) taking.old.end taking.new.end tree.old tree.new disk.old disk.new) }
+    ensures counts { taking.new.counts ≡ taking.old.counts }
+    ensures sane { OnOk result (IsSaneTaking setup.now taking.new) }
+    ensures flags { OnOk result (FlagsChanges taking.old taking.new) }
+    ensures full { (size : ℕ) → result ≡ Err (PassFault.OutputFull size)
+        → Told (OpenFills (rules_in setup.now) setup.now.first setup.now.limit path.now file taking.old.tracker taking.old.end size) (T.meaning.world tree.old) (T.meaning.world tree.new) }
+    ensures tree { KeepsTreeAt T.meaning BUFFER_SIZE tree.old tree.new }
+    ensures disk { KeepsDisk D.meaning taking.old.end disk.old disk.new }
+    ensures cause { HasPassCause result (D.meaning.faults disk.old) (D.meaning.faults disk.new) }
+    ensures long { length buffer.new ≡ length buffer.old }
+{
+    if file.size == 0 {
+        return Ok(Found::Nothing);
+    }
+    let mut first = [0; 4_096];
+    let wanted = u64::from(setup.pipeline.settings().fingerprint_size).min(file.size) as usize;
+    let front = &mut first[..wanted];
+    let (_, ending) = read_front(tree, file, front);
+    if !ending.is_whole() {
+        return Ok(Found::Unread(ending));
+    }
+    let found = take_seen(alloc, tree, disk, setup, path, file, front, taking, buffer)?;
+    Ok(found)
+}
+
+// Takes an open file of which the front was read.
+fn take_seen<T: Tree, D: Disk>(
+    alloc: Global,
+    tree: &mut T,
+    disk: &mut D,
+    setup: &Setup<'_>,
+    path: &Text,
+    file: OpenFile,
+    front: &[u8],
+    taking: &mut Taking,
+    buffer: &mut [u8],
+) -> Result<Found, PassFault>
+    requires setup { KeepsLimits (settings_of setup.now.pipeline.now) × (setup.now.limit ≤ 2 ^ 40) }
+    requires sane { IsSaneTaking setup.now taking.old }
+    requires size { file.size ≤ 2 ^ 62 }
+    requires short { IsShortText path.now }
+    requires begins { length front.now ≤ file.size }
+    requires front { (1 ≤ length front.now) × (length front.now ≤ 4096) }
+    requires room { (0 < length buffer.old) × (length buffer.old ≤ BUFFER_SIZE) }
+    requires ends { IsTrue (D.meaning.images.tells disk.old) → length (D.meaning.images.seen disk.old DiskFile.Output) ≡ taking.old.end }
+    ensures ok { IfOk result (λ found. Takes T.meaning D.meaning (SeenTaken (rules_in setup.now) setup.now.first path.now file front.now taking.old.tracker taking.new.tracker (gain_of found))
+        (gain_of found) taking.old.end taking.new.end tree.old tree.new disk.old disk.new) }
+    ensures counts { taking.new.counts ≡ taking.old.counts }
+    ensures sane { OnOk result (IsSaneTaking setup.now taking.new) }
+    ensures flags { OnOk result (FlagsChanges taking.old taking.new) }
+    ensures full { (size : ℕ) → result ≡ Err (PassFault.OutputFull size)
+        → Told (SeenFills (rules_in setup.now) setup.now.first setup.now.limit path.now file front.now taking.old.tracker taking.old.end size) (T.meaning.world tree.old) (T.meaning.world tree.new) }
+    ensures tree { KeepsTreeAt T.meaning BUFFER_SIZE tree.old tree.new }
+    ensures disk { KeepsDisk D.meaning taking.old.end disk.old disk.new }
+    ensures cause { HasPassCause result (D.meaning.faults disk.old) (D.meaning.faults disk.new) }
+    ensures long { length buffer.new ≡ length buffer.old }
+{
+    a_pipeline_is_rules(setup.pipeline);
+    // A gzip file begins so (RFC 1952, section 2.3.1).
+    if front.starts_with(&[0x1f, 0x8b]) {
+        return Ok(Found::Compressed);
+    }
+    match settle(alloc, setup, file.size, path, front, taking)? {
+        Some(place) => {
+            let found = take_row(alloc, tree, disk, setup, file, place, taking, buffer)?;
+            Ok(found)
+        }
+        None => Ok(Found::NoRoom),
+    }
+}
+
+// Reads on the open file whose row is at this place.
+fn take_row<T: Tree, D: Disk>(
+    alloc: Global,
+    tree: &mut T,
+    disk: &mut D,
+    setup: &Setup<'_>,
+    file: OpenFile,
+    place: usize,
+    taking: &mut Taking,
+    buffer: &mut [u8],
+) -> Result<Found, PassFault>
+    requires setup { KeepsLimits (settings_of setup.now.pipeline.now) × (setup.now.limit ≤ 2 ^ 40) }
+    requires sane { IsSaneTaking setup.now taking.old }
+    requires size { file.size ≤ 2 ^ 62 }
+    requires in_range { place < length taking.old.tracker }
+    requires room { (0 < length buffer.old) × (length buffer.old ≤ BUFFER_SIZE) }
+    requires ends { IsTrue (D.meaning.images.tells disk.old) → length (D.meaning.images.seen disk.old DiskFile.Output) ≡ taking.old.end }
+    ensures ok { IfOk result (λ found. Takes T.meaning D.meaning (RowTaken (rules_in setup.now) file place taking.old.tracker taking.new.tracker found)
+        (gain_of found) taking.old.end taking.new.end tree.old tree.new disk.old disk.new) }
+    ensures counts { taking.new.counts ≡ taking.old.counts }
+    ensures sane { OnOk result (IsSaneTaking setup.now taking.new) }
+    ensures flags { OnOk result (FlagsChanges taking.old taking.new) }
+    ensures full { (size : ℕ) → result ≡ Err (PassFault.OutputFull size)
+        → Told (RowFills (rules_in setup.now) setup.now.limit file place taking.old.tracker taking.old.end size) (T.meaning.world tree.old) (T.meaning.world tree.new) }
+    ensures tree { KeepsTreeAt T.meaning BUFFER_SIZE tree.old tree.new }
+    ensures disk { KeepsDisk D.meaning taking.old.end disk.old disk.new }
+    ensures cause { HasPassCause result (D.meaning.faults disk.old) (D.meaning.faults disk.new) }
+    ensures long { length buffer.new ≡ length buffer.old }
+{
+    a_pipeline_is_rules(setup.pipeline);
+    let row = taking.tracker.row(place);
+    if file.size < row.offset {
+        return Ok(Found::Shorter);
+    }
+    let (offset, lines) = (row.offset, row.lines);
+    let mut feeding = feeding_of(alloc, setup, row)?;
+    let ending = read_on(
+        alloc,
+        tree,
+        disk,
+        setup,
+        file,
+        &mut feeding,
+        &mut taking.end,
+        buffer,
+    )?;
+    note_progress(alloc, place, &feeding, taking);
+    Ok(Found::Read {
+        ending,
+        more: has_more(ending, file.size - offset),
+        lines: feeding.state.lines - lines,
+    })
+}
+
+// Whether a file that has so many bytes past its row's offset was read as far as one pass goes, and has more.
+fn has_more(ending: Ending, past: u64) -> bool
+    ensures whole { ending ≡ Ending.Whole → result ≡ nat_lt MOST_TAKEN past }
+    ensures not_whole { (ending ≡ Ending.Whole → ⊥) → result ≡ false }
+{
+    ending.is_whole() && past > MOST_TAKEN
+}
+
+// Where reading of the row's file goes on.
+fn feeding_of(alloc: Global, setup: &Setup<'_>, row: &Row) -> Result<Feeding, AllocError>
+    ensures row { IfOk result (λ feeding. feeding_row feeding ≡ record (row_of row.now) { front = []; start = 0 }) }
+    ensures kinds { IfOk result (λ feeding. HaveKinds setup.now.pipeline.now feeding.state.states.items) }
+{
+    let path = row.path.share()?;
+    let state = row.state.as_slice();
+    match setup.pipeline.restore(alloc, row.records, row.lines, state) {
+        Ok(state) => Ok(Feeding {
+            id: row.id,
+            path,
+            offset: row.offset,
+            state,
+        }),
+        // The row's state is one of these operators, so this is want of memory.
+        Err(_) => Err(AllocError),
+    }
+}
+
+// Notes in the row how far it was read, where that is further than before.
+fn note_progress(alloc: Global, place: usize, feeding: &Feeding, taking: &mut Taking)
+    requires in_range { place < length taking.old.tracker }
+    requires flags { length taking.old.changed.items ≡ length taking.old.tracker }
+    requires same { (row : Row) → slice_get taking.old.tracker place ≡ Some row → feeding.now.offset ≤ row.offset
+        → with_progress feeding.now.offset feeding.now.state.records feeding.now.state.lines row.state row ≡ row }
+    requires rises { (row : Row) → slice_get taking.old.tracker place ≡ Some row
+        → HasGone row feeding.now.offset feeding.now.state.records feeding.now.state.lines }
+    requires stateless { (row : Row) → slice_get taking.old.tracker place ≡ Some row → row.state ≡ [] }
+    ensures row { (row : Row) → slice_get taking.old.tracker place ≡ Some row → taking.new.tracker
+        ≡ slice_set taking.old.tracker place (with_progress feeding.now.offset feeding.now.state.records feeding.now.state.lines row.state row) }
+    ensures flags { FlagsChanges taking.old taking.new }
+    ensures long { length taking.new.changed.items ≡ length taking.old.changed.items }
+    ensures end { taking.new.end ≡ taking.old.end }
+    ensures counts { taking.new.counts ≡ taking.old.counts }
+{
+    if feeding.offset > taking.tracker.row(place).offset {
+        let state = &feeding.state;
+        taking.tracker.advance(
+            place,
+            feeding.offset,
+            state.records,
+            state.lines,
+            Vec::new(alloc),
+        );
+        taking.changed[place] = true;
+    }
+}
