@@ -15,3 +15,4 @@ pub mod Saning
 pub mod RowLemmas
 pub mod Joining
 pub mod Finding
+pub mod Turned

@@ -12,6 +12,7 @@ mod fault;
 mod feeding;
 mod found;
 mod front;
+pub mod laws;
 mod output;
 mod reading;
 mod settling;

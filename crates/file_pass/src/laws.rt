@@ -1,0 +1,31 @@
+//! What the definitions imply. The functions do nothing; their clauses are the laws.
+ghost use Rattle.std.specs.Prelude.{ℕ, ◌⊎◌, Bool, Contains, List};
+ghost use Rattle.std.specs.Cmp.Lexicographic.{slice_cmp};
+ghost use Rattle.std.specs.List.Sorted.{IsStrictlySortedBy};
+ghost use Rattle.std.specs.Ordering.{nat_cmp};
+ghost use Rattle.file_pass.specs.AllTaken.{AllTaken};
+ghost use Rattle.file_pass.specs.Gain.{Gain};
+ghost use Rattle.file_pass.specs.Turns.{looks_of, misses_of};
+ghost use Rattle.file_tracker.specs.declared.row.Row.{Row};
+ghost use Rattle.outside.specs.World.{World};
+ghost use Rattle.standing.specs.Look.{Look};
+ghost use Rattle.standing.specs.Looks.{Ascend};
+ghost use Rattle.standing.specs.Marks.{Mark};
+ghost use Rattle.standing.specs.Moments.{NamesThroughout};
+ghost use Rattle.standing.specs.Pass.{WasLookedAt};
+ghost use Rattle.standing.specs.Rules.{Rules};
+
+/// Each path of a pass has its turn, in their order: the paths of the looks are among them, and ascend where they do. A path
+/// that named one file all the time was looked at, unless it couldn't be opened.
+pub fn each_path_has_its_turn()
+    ensures ascend { (rules : Rules) (first : Bool) (paths : List (List ℕ)) (before after : List Row) (gain : Gain)
+        (added : List Mark) (old new : World) (taken : AllTaken rules first paths before after gain added old new)
+        → IsStrictlySortedBy (slice_cmp nat_cmp) paths → Ascend (looks_of taken.turns) }
+    ensures among { (rules : Rules) (first : Bool) (paths : List (List ℕ)) (before after : List Row) (gain : Gain)
+        (added : List Mark) (old new : World) (taken : AllTaken rules first paths before after gain added old new)
+        → (here : Look) → Contains (looks_of taken.turns) here → Contains paths here.path }
+    ensures none_left_out { (rules : Rules) (first : Bool) (paths : List (List ℕ)) (before after : List Row) (gain : Gain)
+        (added : List Mark) (old new : World) (taken : AllTaken rules first paths before after gain added old new)
+        (path : List ℕ) (file : ℕ) → Contains paths path → NamesThroughout old.history new.history path file
+        → WasLookedAt (looks_of taken.turns) path ⊎ Contains (misses_of taken.turns) path }
+{}
