@@ -247,7 +247,7 @@ fn filters_drop_lines(rt: HostRuntime) -> Result<(), Fail> {
 fn a_restored_state_goes_on(rt: HostRuntime) -> Result<(), Fail> {
     let alloc = rt.alloc();
     let Ok(pipeline) = build(alloc, CHAIN)? else {
-        return Err(Fail);
+        return Err(Fail::from("not built"));
     };
     let mut out = Vec::new(alloc);
     let mut state = pipeline.fresh(alloc)?;
@@ -256,7 +256,7 @@ fn a_restored_state_goes_on(rt: HostRuntime) -> Result<(), Fail> {
     pipeline.save(alloc, &state, &mut bytes)?;
     let mut restored = pipeline.restore(alloc, state.records, state.lines, &bytes)?;
     if restored.lines > 2_000 || restored.records > 1_000 {
-        return Err(Fail);
+        return Err(Fail::from("more than was taken"));
     }
     pipeline.feed(alloc, &mut restored, 7, "logs/app.log", b" hi \n", &mut out)?;
     assert!(rt; out.as_slice() == CHAINED);
