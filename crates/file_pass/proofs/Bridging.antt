@@ -4,18 +4,20 @@ use Rattle.std.proofs.lemmas.Bool.{ne_eqb, le-ltb}
 use Rattle.std.specs.Prelude.{None, Some, slice_get, slice_set, nat_lt}
 use Rattle.file_tracker.specs.Places.{place_of, with_front}
 use Rattle.file_tracker.specs.declared.row.Row as tracked
+use Rattle.file_tracker.specs.declared.tracker.TheConstants.{ROW_LIMIT}
 use Rattle.outside.proofs.Moving.{moves_none}
 use Rattle.outside.specs.Moment.{Moves}
 use Rattle.outside.specs.World.{World, History, bytes}
 use Rattle.standing.proofs.MomentLemmas.{bytes_grow}
 use Rattle.standing.specs.Limits.{most_taken, is_compressed}
-use Rattle.standing.specs.Look.{Look, Outcome, finds_new, finds_row, content, front, size, piece, new_row, offset_found, fed, lines_of}
+use Rattle.standing.specs.Look.{Look, Outcome, finds_new, finds_row, content, front, size, piece, new_row, offset_found, outcome, fed, lines_of}
 use Rattle.standing.specs.Marks.{Mark}
 use Rattle.standing.specs.Rows.{Row}
 use Rattle.standing.specs.Rules.{Rules}
 use Rattle.standing.specs.Sums.{is_passed_as_compressed, is_left_out}
 use Rattle.file_pass.specs.Fed.{rules_in}
-use Rattle.file_pass.specs.Gain.{Gain, gain_of, one_if}
+use Rattle.file_pass.specs.Cost.{cost_on}
+use Rattle.file_pass.specs.Gain.{Gain, gain_of, one_if, with_taken}
 use Rattle.file_pass.specs.LookTaken.{IsGainOf, TakesLook, IsOpenAt, SeenTaken, look_at}
 use Rattle.file_pass.specs.Reads.{HasBytes, Reads}
 use Rattle.file_pass.specs.RowTaken.{IsShorter, IsReadOn, RowTaken}
@@ -28,7 +30,7 @@ use Rattle.file_pass.specs.declared.found.Found.{Found}
 use Rattle.file_pass.specs.declared.found.Found.TheVariants.{Read}
 use Rattle.file_pass.specs.declared.setup.Setup.{Setup}
 use Rattle.file_pass.proofs.Listing.{get_set, push_there}
-use Rattle.file_pass.proofs.Looking.{filled_some, short_not, short_end, takes_short, takes_on, takes_new}
+use Rattle.file_pass.proofs.Looking.{filled_some, short_not, short_end, is_known, is_fresh, look_with, takes_short, takes_on, takes_new}
 use Rattle.file_pass.proofs.ReadingLemmas.{same_piece}
 
 -- the place up to which the file could be read
@@ -131,12 +133,25 @@ module _ (rules : Rules) (first : Bool) (path : List ℕ) (file : OpenFile) (pla
       }
   reaches_for Shrunk is = absurd (on.reads.grows seen (still_open file seen moment old at) is)
 
+-- what was read of a file whose row is known, or is made
+module _ (rules : Rules) (here : Look) (before : List tracked.Row) (read : here.skipped ≡ false) (some : 0 < size here) (plain : is_compressed (front rules here) ≡ false) (count : ℕ) where
+  cost_known : (place : ℕ) (row : tracked.Row) → slice_get before place ≡ Some row → place_of (front rules here) before ≡ Some place → count ≤ min most_taken (size here - row.offset) → count ≤ cost_on here (outcome rules (rows_of before) here)
+  cost_known place row at known few = subst (λ (o : Outcome). count ≤ cost_on here o) (sym (is_known rules true here before read some plain place row at known)) few
+
+  cost_new : place_of (front rules here) before ≡ None → length before < ROW_LIMIT → (offset : ℕ) → count ≤ min most_taken (size here - offset) → count ≤ cost_on here (outcome rules (rows_of before) here)
+  cost_new none room offset few = subst (λ (o : Outcome). count ≤ cost_on here o) (sym (is_fresh rules true here before read some plain none room)) (omega (arith, few))
+
+-- a row that is made
+pub new_is : (setup : Setup) (unspelled : (rules_in setup).fresh ≡ []) (path seen_front : List ℕ) (all id : ℕ) (here : Look) → here.path ≡ path → all ≡ size here → seen_front ≡ front (rules_in setup) here
+    → row_of (admitted setup all path seen_front id) ≡ new_row (rules_in setup) setup.first here id
+new_is setup unspelled path seen_front all id here same_path full is_front = rw (sym same_path, is_front, full, unspelled) refl
+
 -- a row that is found, or made, and then read on
 module _ (setup : Setup) (unspelled : (rules_in setup).fresh ≡ []) (path : List ℕ) (file : OpenFile) (seen_front : List ℕ) (plain : is_compressed seen_front ≡ false) (some : 0 < file.size)
-    (before mid after : List tracked.Row) (place : ℕ) (added : List Mark) (found : Found) (old new : World) where
-  known_short : (row : tracked.Row) → slice_get mid place ≡ Some row → IsShorter file row mid after added found old new → IsKnown seen_front before place mid
-      → SeenTaken (rules_in setup) setup.first path file seen_front before after (gain_of found) added old new
-  known_short row at shorter known =
+    (before mid after : List tracked.Row) (place : ℕ) (added : List Mark) (found : Found) (count : ℕ) (old new : World) where
+  known_short : (row : tracked.Row) → slice_get mid place ≡ Some row → IsShorter file row mid after added found old new → count ≤ min most_taken (file.size - row.offset) → IsKnown seen_front before place mid
+      → SeenTaken (rules_in setup) setup.first path file seen_front before after (with_taken count (gain_of found)) added old new
+  known_short row at shorter few known =
       let same_row : row ≡ with_front seen_front known.row =
       row_there row (with_front seen_front known.row) (sym at ∙ ap (λ (l : List tracked.Row). slice_get l place) known.grown ∙ get_set before place known.row (with_front seen_front known.row) known.at) in
       let short : file.size < known.row.offset = omega (arith, shorter.short, ap (λ (r : tracked.Row). r.offset) same_row) in
@@ -150,12 +165,19 @@ module _ (setup : Setup) (unspelled : (rules_in setup).fresh ≡ []) (path : Lis
             let full : file.size ≡ size here = seen_at.open_at.size_then in
             let taken = takes_short (rules_in setup) setup.first here before refl (omega (arith, some, full)) (subst (λ (f : List ℕ). is_compressed f ≡ false) is_front plain) place known.row known.at
             (subst (λ (f : List ℕ). place_of f before ≡ Some place) is_front known.first_one) (omega (arith, short, full)) full in
-            look_same (rules_in setup) setup.first here before (shorter.same ∙ known.grown ∙ ap (λ (f : List ℕ). slice_set before place (with_front f known.row)) is_front) shorter.none (ap gain_of shorter.is) taken;
+            look_with (rules_in setup) setup.first here before after added (gain_of found) count
+            (look_same (rules_in setup) setup.first here before (shorter.same ∙ known.grown ∙ ap (λ (f : List ℕ). slice_set before place (with_front f known.row)) is_front) shorter.none (ap gain_of shorter.is) taken);
+        cost = λ seen moment seen_at.
+            let here = look_at path seen moment file.size false in
+            let is_front : seen_front ≡ front (rules_in setup) here = seen_at.front_is in
+            let full : file.size ≡ size here = seen_at.open_at.size_then in
+            cost_known (rules_in setup) here before refl (omega (arith, some, full)) (subst (λ (f : List ℕ). is_compressed f ≡ false) is_front plain) count place known.row known.at
+            (subst (λ (f : List ℕ). place_of f before ≡ Some place) is_front known.first_one) (omega (arith, few, full, ap (λ (r : tracked.Row). r.offset) same_row));
       }
 
-  known_on : (row : tracked.Row) → slice_get mid place ≡ Some row → IsReadOn (rules_in setup) file place row mid after added found old new → IsKnown seen_front before place mid
-      → SeenTaken (rules_in setup) setup.first path file seen_front before after (gain_of found) added old new
-  known_on row at on known = record {
+  known_on : (row : tracked.Row) → slice_get mid place ≡ Some row → IsReadOn (rules_in setup) file place row mid after added found old new → count ≤ min most_taken (file.size - row.offset) → IsKnown seen_front before place mid
+      → SeenTaken (rules_in setup) setup.first path file seen_front before after (with_taken count (gain_of found)) added old new
+  known_on row at on few known = record {
     handles = on.reads.handles;
     moves = on.reads.moves;
     end = end_for on.ending file.size (row.offset + length on.given);
@@ -168,16 +190,22 @@ module _ (setup : Setup) (unspelled : (rules_in setup).fresh ≡ []) (path : Lis
         row_there row (with_front (front (rules_in setup) here) seen_known.row) (sym at ∙ ap (λ (l : List tracked.Row). slice_get l place) seen_known.grown ∙ get_set before place seen_known.row (with_front (front (rules_in setup) here) seen_known.row) seen_known.at) in
         let same_offset : row.offset ≡ seen_known.row.offset = ap (λ (r : tracked.Row). r.offset) same_row in
         let far = reaches_for (rules_in setup) setup.first path file place row mid after added found old new on seen moment seen_at.open_at some on.ending refl in
-        takes_on (rules_in setup) setup.first here before refl (omega (arith, some, full)) (subst (λ (f : List ℕ). is_compressed f ≡ false) is_front plain) place seen_known.row seen_known.at seen_known.first_one
+        look_with (rules_in setup) setup.first here before after added (gain_of found) count
+        (takes_on (rules_in setup) setup.first here before refl (omega (arith, some, full)) (subst (λ (f : List ℕ). is_compressed f ≡ false) is_front plain) place seen_known.row seen_known.at seen_known.first_one
         on.given after added (gain_of found) (omega (arith, same_offset, on.begins, full)) far.within (omega (arith, same_offset, far.reaches)) (far.are ∙ ap (piece here) same_offset)
         (on.fed_row ∙ ap (λ (l : List tracked.Row). slice_set (rows_of l) place (fed (rules_in setup) on.given (row_of row))) seen_known.grown
         ∙ ap (λ (r : tracked.Row). slice_set (rows_of (slice_set before place (with_front (front (rules_in setup) here) seen_known.row))) place (fed (rules_in setup) on.given (row_of r))) same_row)
         (on.lines ∙ ap (λ (r : tracked.Row). lines_of (rules_in setup) on.given (row_of r)) same_row)
-        (far.sums (finds_row place (row_of seen_known.row)) (ap Some (sym same_offset)) refl refl);
+        (far.sums (finds_row place (row_of seen_known.row)) (ap Some (sym same_offset)) refl refl));
+    cost = λ seen moment seen_at.
+        let here = look_at path seen moment (end_for on.ending file.size (row.offset + length on.given)) false in
+        let is_front : seen_front ≡ front (rules_in setup) here = seen_at.front_is in
+        let full : file.size ≡ size here = seen_at.open_at.size_then in
+        let same_row : row ≡ with_front seen_front known.row =
+        row_there row (with_front seen_front known.row) (sym at ∙ ap (λ (l : List tracked.Row). slice_get l place) known.grown ∙ get_set before place known.row (with_front seen_front known.row) known.at) in
+        cost_known (rules_in setup) here before refl (omega (arith, some, full)) (subst (λ (f : List ℕ). is_compressed f ≡ false) is_front plain) count place known.row known.at
+        (subst (λ (f : List ℕ). place_of f before ≡ Some place) is_front known.first_one) (omega (arith, few, full, ap (λ (r : tracked.Row). r.offset) same_row));
   }
-
-  pub new_is : (here : Look) → here.path ≡ path → file.size ≡ size here → seen_front ≡ front (rules_in setup) here → row_of (admitted setup file.size path seen_front (length before + 1)) ≡ new_row (rules_in setup) setup.first here (length before + 1)
-  new_is here same_path full is_front = rw (sym same_path, is_front, full, unspelled) refl
 
   new_short : (row : tracked.Row) → slice_get mid place ≡ Some row → IsShorter file row mid after added found old new → IsAdmitted setup file.size path seen_front before place mid → ⊥
   new_short row at shorter fresh =
@@ -185,9 +213,9 @@ module _ (setup : Setup) (unspelled : (rules_in setup).fresh ≡ []) (path : Lis
       let same_row : row ≡ added_row = row_there row added_row (sym at ∙ ap (λ (l : List tracked.Row). slice_get l place) fresh.added ∙ ap (slice_get (before ++ added_row ∷ [])) fresh.last ∙ push_there before added_row) in
       omega (arith, shorter.short, ap (λ (r : tracked.Row). r.offset) same_row, start_within (setup.first && (rules_in setup).from_end) file.size)
 
-  new_on : (row : tracked.Row) → slice_get mid place ≡ Some row → IsReadOn (rules_in setup) file place row mid after added found old new → IsAdmitted setup file.size path seen_front before place mid
-      → SeenTaken (rules_in setup) setup.first path file seen_front before after (gain_of found) added old new
-  new_on row at on fresh = record {
+  new_on : (row : tracked.Row) → slice_get mid place ≡ Some row → IsReadOn (rules_in setup) file place row mid after added found old new → count ≤ min most_taken (file.size - row.offset) → IsAdmitted setup file.size path seen_front before place mid
+      → SeenTaken (rules_in setup) setup.first path file seen_front before after (with_taken count (gain_of found)) added old new
+  new_on row at on few fresh = record {
     handles = on.reads.handles;
     moves = on.reads.moves;
     end = end_for on.ending file.size (row.offset + length on.given);
@@ -198,24 +226,31 @@ module _ (setup : Setup) (unspelled : (rules_in setup).fresh ≡ []) (path : Lis
         let added_row : tracked.Row = admitted setup file.size path seen_front (length before + 1) in
         let same_row : row ≡ added_row = row_there row added_row (sym at ∙ ap (λ (l : List tracked.Row). slice_get l place) fresh.added ∙ ap (slice_get (before ++ added_row ∷ [])) fresh.last ∙ push_there before added_row) in
         let far = reaches_for (rules_in setup) setup.first path file place row mid after added found old new on seen moment seen_at.open_at some on.ending refl in
-        let is : row_of row ≡ new_row (rules_in setup) setup.first here (length before + 1) = ap row_of same_row ∙ new_is here refl full is_front in
-        takes_new (rules_in setup) setup.first here before refl (omega (arith, some, full)) (subst (λ (f : List ℕ). is_compressed f ≡ false) is_front plain)
+        let is : row_of row ≡ new_row (rules_in setup) setup.first here (length before + 1) = ap row_of same_row ∙ new_is setup unspelled path seen_front file.size (length before + 1) here refl full is_front in
+        look_with (rules_in setup) setup.first here before after added (gain_of found) count
+        (takes_new (rules_in setup) setup.first here before refl (omega (arith, some, full)) (subst (λ (f : List ℕ). is_compressed f ≡ false) is_front plain)
         row on.given after added (gain_of found) is (subst (λ (f : List ℕ). place_of f before ≡ None) is_front fresh.none) fresh.room (omega (arith, on.begins, full)) far.within far.reaches far.are
         (on.fed_row ∙ ap (λ n. slice_set (rows_of mid) n (fed (rules_in setup) on.given (row_of row))) fresh.last
         ∙ ap (λ (l : List tracked.Row). slice_set (rows_of l) (length before) (fed (rules_in setup) on.given (row_of row))) (fresh.added ∙ ap (λ (r : tracked.Row). before ++ r ∷ []) (sym same_row)))
         on.lines
-        (far.sums finds_new (ap (λ (r : Row). Some r.offset) (sym is)) refl refl);
+        (far.sums finds_new (ap (λ (r : Row). Some r.offset) (sym is)) refl refl));
+    cost = λ seen moment seen_at.
+        let here = look_at path seen moment (end_for on.ending file.size (row.offset + length on.given)) false in
+        let is_front : seen_front ≡ front (rules_in setup) here = seen_at.front_is in
+        let full : file.size ≡ size here = seen_at.open_at.size_then in
+        cost_new (rules_in setup) here before refl (omega (arith, some, full)) (subst (λ (f : List ℕ). is_compressed f ≡ false) is_front plain) count
+        (subst (λ (f : List ℕ). place_of f before ≡ None) is_front fresh.none) fresh.room row.offset (omega (arith, few, full));
   }
 
-  pub seen_taken : Settles setup file.size path seen_front before (Some place) mid → RowTaken (rules_in setup) file place mid after found added old new
-      → SeenTaken (rules_in setup) setup.first path file seen_front before after (gain_of found) added old new
+  pub seen_taken : Settles setup file.size path seen_front before (Some place) mid → RowTaken (rules_in setup) file place mid after found (with_taken count (gain_of found)) added old new
+      → SeenTaken (rules_in setup) setup.first path file seen_front before after (with_taken count (gain_of found)) added old new
   seen_taken settles taken = elim taken.how [
     | inl shorter ↦ elim settles [
-      | inl known ↦ known_short taken.row taken.at shorter known
+      | inl known ↦ known_short taken.row taken.at shorter taken.cost known
       | inr fresh ↦ absurd (new_short taken.row taken.at shorter fresh)
     ]
     | inr on ↦ elim settles [
-      | inl known ↦ known_on taken.row taken.at on known
-      | inr fresh ↦ new_on taken.row taken.at on fresh
+      | inl known ↦ known_on taken.row taken.at on taken.cost known
+      | inr fresh ↦ new_on taken.row taken.at on taken.cost fresh
     ]
   ]

@@ -94,7 +94,7 @@ module _ (setup : Setup) (laws : AreRules (rules_in setup)) (unspelled : (rules_
           | inr fresh ↦
               (let added_row : tracked.Row = admitted setup file.size path seen_front (length before + 1) in
               let same_row : fills.row ≡ added_row = row_there fills.row added_row (sym fills.at ∙ ap (λ (l : List tracked.Row). slice_get l place) fresh.added ∙ ap (slice_get (before ++ added_row ∷ [])) fresh.last ∙ push_there before added_row) in
-              added_new (rules_in setup) setup.first here before refl (omega (arith, some, all)) here_plain fills.row (ap row_of same_row ∙ new_is setup unspelled path file seen_front plain some before mid mid place [] Rattle.file_pass.specs.declared.found.Found.TheVariants.Nothing old new here refl all is_front)
+              added_new (rules_in setup) setup.first here before refl (omega (arith, some, all)) here_plain fills.row (ap row_of same_row ∙ new_is setup unspelled path seen_front file.size (length before + 1) here refl all is_front)
               (subst (λ (f : List ℕ). place_of f before ≡ None) is_front fresh.none) fresh.room (omega (arith, fills.begins, all)))
         ] in
         subst (λ (l : List Mark). Crosses setup.limit end l full) (sym same) crosses;

@@ -26,11 +26,11 @@ use Rattle.standing.specs.Rules.{Rules, Includes}
 use Rattle.file_pass.specs.AllTaken.{TakesAll, TakesOne}
 use Rattle.file_pass.specs.Fed.{rules_in}
 use Rattle.file_pass.specs.Full.{line_of, lines_text}
-use Rattle.file_pass.specs.Gain.{Gain, Counted, no_gain, both, gain_of}
+use Rattle.file_pass.specs.Gain.{Gain, Counted, no_gain, both, gain_of, with_taken}
 use Rattle.file_pass.specs.LookTaken.{OpenTaken, SeenTaken}
 use Rattle.file_pass.specs.PathTaken.{PathTaken}
 use Rattle.file_pass.specs.Sane.{AreSaneRows, IsSaneTaking}
-use Rattle.file_pass.specs.Taken.{Takes, KeepsTreeAt}
+use Rattle.file_pass.specs.Taken.{Finds, Takes, KeepsTreeAt}
 use Rattle.standing.specs.AreRules.{AreRules}
 use Rattle.file_pass.specs.TreeTerms.{KeepsTree, IsNoWider, GoesLater, HasEnding, ReadsOnly}
 use Rattle.file_pass.specs.Overflow.{AllFill, OpenFills, PathFills, SeenFills}
@@ -39,6 +39,7 @@ use Rattle.file_pass.specs.declared.counts.Counts.{Counts}
 use Rattle.file_pass.specs.declared.ending.Ending.{Ending}
 use Rattle.file_pass.specs.declared.ending.Ending.TheVariants.{Whole, Failed as ReadFailed, Shrunk}
 use Rattle.file_pass.specs.declared.ending.OpenFile.{OpenFile}
+use Rattle.file_pass.specs.declared.found.Found.{Found}
 use Rattle.file_pass.specs.declared.found.Found.TheVariants.{Missed, Unread, Gone as NoFile}
 use Rattle.file_pass.specs.declared.setup.Setup.{Setup}
 use Rattle.file_pass.specs.declared.taking.Taking.{Taking}
@@ -125,6 +126,19 @@ module _ {T : Type 0} (meaning : TreeMeaning T) (most : ℕ) where
     },
   )
 
+-- whatever was read
+pub counted_with : (before after : Counts) (gain : Gain) (bytes : ℕ) → Counted before gain after → Counted before (with_taken bytes gain) after
+counted_with before after gain bytes counted = record {
+  files = counted.files;
+  lines = counted.lines;
+  left = counted.left;
+  gone = counted.gone;
+  failed = counted.failed;
+  compressed = counted.compressed;
+  shrunk = counted.shrunk;
+  full = counted.full;
+}
+
 counted_more : (before mid after : Counts) (gain more : Gain) → Counted before gain mid → Counted mid more after → Counted before (both gain more) after
 counted_more before mid after gain more a b = record {
   files = omega (arith, a.files, b.files);
@@ -145,34 +159,41 @@ module _ {T D : Type 0} (trees : TreeMeaning T) (disks : DiskMeaning D) where
     lines = no_lines;
     appends = appends_none disks end disk;
     rose = omega (arith, no_failure);
+    read = omega arith;
     world = told_same (change []) (trees.world tree) idle;
   }
 
+  pub finds_idle : (change : Gain → List Mark → World → World → Type 0) (found : Found) (end : ℕ) (tree : T) (disk : D) → (gain_of found).lines ≡ 0 → (gain_of found).failed ≡ 0 → ((world : World) → change (with_taken 0 (gain_of found)) [] world world)
+      → Finds trees disks change found end end tree tree disk disk
+  finds_idle change found end tree disk no_lines no_failure idle = record { bytes = 0; takes = takes_idle (change (with_taken 0 (gain_of found))) (with_taken 0 (gain_of found)) end tree disk no_lines no_failure idle }
+
   -- with a call on the tree alone
-  pub takes_call : (change : List Mark → World → World → Type 0) (gain : Gain) (end : ℕ) (old new : T) (disk : D) → gain.lines ≡ 0 → raised (trees.faults old) gain.failed ≤ trees.faults new → Told (change []) (trees.world old) (trees.world new)
+  pub takes_call : (change : List Mark → World → World → Type 0) (gain : Gain) (end : ℕ) (old new : T) (disk : D) → gain.lines ≡ 0 → raised (trees.faults old) gain.failed ≤ trees.faults new → trees.taken new ≤ trees.taken old + gain.taken → Told (change []) (trees.world old) (trees.world new)
       → Takes trees disks change gain end end old new disk disk
-  takes_call change gain end old new disk no_lines rose told = record { added = []; lines = no_lines; appends = appends_none disks end disk; rose = rose; world = told }
+  takes_call change gain end old new disk no_lines rose read told = record { added = []; lines = no_lines; appends = appends_none disks end disk; rose = rose; read = read; world = told }
 
   -- behind calls on the tree that didn't fail, and before others
-  pub takes_after : (first : World → World → Type 0) (change whole : List Mark → World → World → Type 0) (gain : Gain) (end end_after : ℕ) (old mid new : T) (disk disk_after : D)
-      → ((added : List Mark) (x y z : World) → first x y → change added y z → whole added x z) → trees.faults mid ≡ trees.faults old → Told first (trees.world old) (trees.world mid)
-      → Takes trees disks change gain end end_after mid new disk disk_after → Takes trees disks whole gain end end_after old new disk disk_after
-  takes_after first change whole gain end end_after old mid new disk disk_after join same told takes = record {
+  pub takes_after : (first : World → World → Type 0) (change whole : List Mark → World → World → Type 0) (gain : Gain) (bytes end end_after : ℕ) (old mid new : T) (disk disk_after : D)
+      → ((added : List Mark) (x y z : World) → first x y → change added y z → whole added x z) → trees.faults mid ≡ trees.faults old → trees.taken mid + gain.taken ≤ trees.taken old + bytes → Told first (trees.world old) (trees.world mid)
+      → Takes trees disks change gain end end_after mid new disk disk_after → Takes trees disks whole (with_taken bytes gain) end end_after old new disk disk_after
+  takes_after first change whole gain bytes end end_after old mid new disk disk_after join same few told takes = record {
     added = takes.added;
     lines = takes.lines;
     appends = takes.appends;
     rose = omega (arith, same, takes.rose);
+    read = omega (arith, few, takes.read);
     world = told_then first (change takes.added) (whole takes.added) (trees.world old) (trees.world mid) (trees.world new) (join takes.added) told takes.world;
   }
 
   pub takes_before : (change last whole : List Mark → World → World → Type 0) (gain : Gain) (end end_after : ℕ) (old mid new : T) (disk disk_after : D)
-      → ((added : List Mark) (x y z : World) → change added x y → last added y z → whole added x z) → trees.faults new ≡ trees.faults mid → ((added : List Mark) → Told (last added) (trees.world mid) (trees.world new))
+      → ((added : List Mark) (x y z : World) → change added x y → last added y z → whole added x z) → trees.faults new ≡ trees.faults mid → trees.taken new ≡ trees.taken mid → ((added : List Mark) → Told (last added) (trees.world mid) (trees.world new))
       → Takes trees disks change gain end end_after old mid disk disk_after → Takes trees disks whole gain end end_after old new disk disk_after
-  takes_before change last whole gain end end_after old mid new disk disk_after join same told takes = record {
+  takes_before change last whole gain end end_after old mid new disk disk_after join same none told takes = record {
     added = takes.added;
     lines = takes.lines;
     appends = takes.appends;
     rose = omega (arith, same, takes.rose);
+    read = omega (arith, none, takes.read);
     world = told_then (change takes.added) (last takes.added) (whole takes.added) (trees.world old) (trees.world mid) (trees.world new) (join takes.added) takes.world (told takes.added);
   }
 
@@ -183,7 +204,16 @@ module _ {T D : Type 0} (trees : TreeMeaning T) (disks : DiskMeaning D) where
     lines = takes.lines;
     appends = takes.appends;
     rose = takes.rose;
+    read = takes.read;
     world = told_weaker (change takes.added) (whole takes.added) (trees.world old) (trees.world new) (weaken takes.added) takes.world;
+  }
+
+  pub finds_same : (change whole : Gain → List Mark → World → World → Type 0) (found : Found) (end end_after : ℕ) (old new : T) (disk disk_after : D)
+      → ((count : ℕ) (added : List Mark) (x y : World) → change (with_taken count (gain_of found)) added x y → whole (with_taken count (gain_of found)) added x y)
+      → Finds trees disks change found end end_after old new disk disk_after → Finds trees disks whole found end end_after old new disk disk_after
+  finds_same change whole found end end_after old new disk disk_after weaken finds = record {
+    bytes = finds.bytes;
+    takes = takes_same (change (with_taken finds.bytes (gain_of found))) (whole (with_taken finds.bytes (gain_of found))) (with_taken finds.bytes (gain_of found)) end end_after old new disk disk_after (weaken finds.bytes) finds.takes;
   }
 
   -- no path yet, and one more
@@ -206,6 +236,7 @@ module _ {T D : Type 0} (trees : TreeMeaning T) (disks : DiskMeaning D) where
       appends = appends_same disks (lines_text a.takes.added ++ lines_text b.takes.added) (lines_text (a.takes.added ++ b.takes.added)) before.end after.end disk disk_after (sym (flat_map-append line_of a.takes.added b.takes.added))
           (appends_then disks (lines_text a.takes.added) (lines_text b.takes.added) before.end mid.end after.end disk disk_between disk_after tells a.takes.appends b.takes.appends);
       rose = omega (arith, a.takes.rose, b.takes.rose);
+      read = omega (arith, a.takes.read, b.takes.read);
       world = told_then _ _ _ (trees.world old) (trees.world between) (trees.world new)
           (λ x y z first second. all_more (rules_in setup) setup.first paths path before.tracker mid.tracker after.tracker a.gain b.gain a.takes.added b.takes.added x y z first second) a.takes.world b.takes.world;
     };
@@ -213,20 +244,22 @@ module _ {T D : Type 0} (trees : TreeMeaning T) (disks : DiskMeaning D) where
 
 -- the front of an open file was read, or not
 module _ {T D : Type 0} (trees : TreeMeaning T) (disks : DiskMeaning D) (rules : Rules) (first : Bool) (path : List ℕ) (file : OpenFile) (some : 0 < file.size) (before : List tracked.Row) where
-  pub takes_unread : (ending : Ending) (last : ℕ) (given : List ℕ) (end : ℕ) (old new : T) (disk : D) → (ending ≡ Whole → ⊥) → last ≤ file.size → Told (Reads file.handle.0 0 last given ending) (trees.world old) (trees.world new) → HasEnding ending (trees.faults old) (trees.faults new)
-      → Takes trees disks (OpenTaken rules first path file before before (gain_of (Unread ending))) (gain_of (Unread ending)) end end old new disk disk
-  takes_unread Whole last given end old new disk differs le told cause = absurd (differs refl)
-  takes_unread ReadFailed last given end old new disk differs le told cause =
-      takes_call trees disks _ _ end old new disk refl cause.1 (told_weaker _ _ (trees.world old) (trees.world new) (λ x y reads. open_unread rules first path file before x y last given le some reads) told)
-  takes_unread Shrunk last given end old new disk differs le told cause =
-      takes_call trees disks _ _ end old new disk refl (omega (arith, cause)) (told_weaker _ _ (trees.world old) (trees.world new) (λ x y reads. open_shrunk rules first path file before x y last given le reads) told)
+  takes_unread : (ending : Ending) (last : ℕ) (given : List ℕ) (count : ℕ) (end : ℕ) (old new : T) (disk : D) → (ending ≡ Whole → ⊥) → last ≤ file.size → count ≤ rules.front_size → Told (Reads file.handle.0 0 last given ending) (trees.world old) (trees.world new)
+      → HasEnding ending (trees.faults old) (trees.faults new) → trees.taken new ≤ trees.taken old + count
+      → Takes trees disks (OpenTaken rules first path file before before (with_taken count (gain_of (Unread ending)))) (with_taken count (gain_of (Unread ending))) end end old new disk disk
+  takes_unread Whole last given count end old new disk differs le few told cause read = absurd (differs refl)
+  takes_unread ReadFailed last given count end old new disk differs le few told cause read =
+      takes_call trees disks _ _ end old new disk refl cause.1 read (told_weaker _ _ (trees.world old) (trees.world new) (λ x y reads. open_unread rules first path file before x y last given count few le some reads) told)
+  takes_unread Shrunk last given count end old new disk differs le few told cause read =
+      takes_call trees disks _ _ end old new disk refl (omega (arith, cause)) read (told_weaker _ _ (trees.world old) (trees.world new) (λ x y reads. open_shrunk rules first path file before x y last given count few le reads) told)
 
   module _ (old mid new : T) (seen_front : List ℕ) (last : ℕ) (is : last ≡ min rules.front_size file.size) (many : length seen_front ≡ last) (told : Told (Reads file.handle.0 0 last seen_front Whole) (trees.world old) (trees.world mid)) (same : trees.faults mid ≡ trees.faults old) where
-    pub takes_open : (after : List tracked.Row) (gain : Gain) (end end_after : ℕ) (disk disk_after : D) → Takes trees disks (SeenTaken rules first path file seen_front before after gain) gain end end_after mid new disk disk_after
-        → Takes trees disks (OpenTaken rules first path file before after gain) gain end end_after old new disk disk_after
-    takes_open after gain end end_after disk disk_after takes =
-        takes_after trees disks (Reads file.handle.0 0 last seen_front Whole) (SeenTaken rules first path file seen_front before after gain) (OpenTaken rules first path file before after gain) gain end end_after old mid new disk disk_after
-        (λ added x y z reads taken. open_seen rules first path file before x y z seen_front last is many reads after gain added taken) same told takes
+    takes_open : (after : List tracked.Row) (gain : Gain) (count end end_after : ℕ) (disk disk_after : D) → count ≤ rules.front_size → trees.taken mid ≤ trees.taken old + count
+        → Takes trees disks (SeenTaken rules first path file seen_front before after gain) gain end end_after mid new disk disk_after
+        → Takes trees disks (OpenTaken rules first path file before after (with_taken (count + gain.taken) gain)) (with_taken (count + gain.taken) gain) end end_after old new disk disk_after
+    takes_open after gain count end end_after disk disk_after few read takes =
+        takes_after trees disks (Reads file.handle.0 0 last seen_front Whole) (SeenTaken rules first path file seen_front before after gain) (OpenTaken rules first path file before after (with_taken (count + gain.taken) gain)) gain (count + gain.taken) end end_after old mid new disk disk_after
+        (λ added x y z reads taken. open_seen rules first path file before x y z seen_front last is many reads after gain added count few taken) same (omega (arith, read)) told takes
 
     pub fills_open : (limit end full : ℕ) → Told (SeenFills rules first limit path file seen_front before end full) (trees.world mid) (trees.world new) → Told (OpenFills rules first limit path file before end full) (trees.world old) (trees.world new)
     fills_open limit end full fills =
@@ -235,8 +268,11 @@ module _ {T D : Type 0} (trees : TreeMeaning T) (disks : DiskMeaning D) (rules :
   -- by what was read into a buffer
   module _ (front old_front : List ℕ) (count : ℕ) (ending : Ending) (old mid : T) (reads : ReadsOnly trees (Reads file.handle.0 0 (length old_front) (take count front) ending) ending count (length old_front) old mid)
       (long : length front ≡ length old_front) (many : length front ≡ min rules.front_size file.size) where
-    pub front_unread : (end : ℕ) (disk : D) → (ending ≡ Whole → ⊥) → Takes trees disks (OpenTaken rules first path file before before (gain_of (Unread ending))) (gain_of (Unread ending)) end end old mid disk disk
-    front_unread end disk differs = takes_unread ending (length old_front) (take count front) end old mid disk differs (omega (arith, long, many)) reads.world reads.cause
+    pub front_unread : (end : ℕ) (disk : D) → (ending ≡ Whole → ⊥) → count ≤ rules.front_size → Finds trees disks (OpenTaken rules first path file before before) (Unread ending) end end old mid disk disk
+    front_unread end disk differs few = record {
+      bytes = count;
+      takes = takes_unread ending (length old_front) (take count front) count end old mid disk differs (omega (arith, long, many)) few reads.world reads.cause reads.keeps.taken_then;
+    }
 
     all_read : ending ≡ Whole → count ≡ length front → Told (Reads file.handle.0 0 (length front) front Whole) (trees.world old) (trees.world mid)
     all_read is all =
@@ -248,9 +284,12 @@ module _ {T D : Type 0} (trees : TreeMeaning T) (disks : DiskMeaning D) (rules :
     stood : ending ≡ Whole → trees.faults mid ≡ trees.faults old
     stood is = subst (λ (e : Ending). HasEnding e (trees.faults old) (trees.faults mid)) is reads.cause
 
-    pub front_takes : ending ≡ Whole → count ≡ length front → (new : T) (after : List tracked.Row) (gain : Gain) (end end_after : ℕ) (disk disk_after : D) → Takes trees disks (SeenTaken rules first path file front before after gain) gain end end_after mid new disk disk_after
-        → Takes trees disks (OpenTaken rules first path file before after gain) gain end end_after old new disk disk_after
-    front_takes is all new after gain end end_after disk disk_after takes = takes_open old mid new front (length front) many refl (all_read is all) (stood is) after gain end end_after disk disk_after takes
+    pub front_takes : ending ≡ Whole → count ≡ length front → (new : T) (after : List tracked.Row) (found : Found) (end end_after : ℕ) (disk disk_after : D) → Finds trees disks (SeenTaken rules first path file front before after) found end end_after mid new disk disk_after
+        → Finds trees disks (OpenTaken rules first path file before after) found end end_after old new disk disk_after
+    front_takes is all new after found end end_after disk disk_after finds = record {
+      bytes = count + finds.bytes;
+      takes = takes_open old mid new front (length front) many refl (all_read is all) (stood is) after (with_taken finds.bytes (gain_of found)) count end end_after disk disk_after (omega (arith, all, many)) reads.keeps.taken_then finds.takes;
+    }
 
     pub front_fills : ending ≡ Whole → count ≡ length front → (new : T) (limit end full : ℕ) → Told (SeenFills rules first limit path file front before end full) (trees.world mid) (trees.world new) → Told (OpenFills rules first limit path file before end full) (trees.world old) (trees.world new)
     front_fills is all new limit end full fills = fills_open old mid new front (length front) many refl (all_read is all) (stood is) limit end full fills
@@ -262,14 +301,19 @@ module _ {T D : Type 0} (trees : TreeMeaning T) (disks : DiskMeaning D) (rules :
 module _ {T D : Type 0} (trees : TreeMeaning T) (disks : DiskMeaning D) (rules : Rules) (first : Bool) (path : List ℕ) (included : Includes rules path) (file : OpenFile) (before : List tracked.Row) (old opened taken closed : T)
     (opens : Told (OpensFile path file.handle.0 file.size) (trees.world old) (trees.world opened)) (closes : Told (Closes file.handle.0) (trees.world taken) (trees.world closed))
     (still : trees.faults opened ≡ trees.faults old) (stays : trees.faults closed ≡ trees.faults taken) where
-  pub takes_file : (after : List tracked.Row) (gain : Gain) (end end_after : ℕ) (disk disk_after : D) → Takes trees disks (OpenTaken rules first path file before after gain) gain end end_after opened taken disk disk_after
-      → Takes trees disks (PathTaken rules first path before after gain) gain end end_after old closed disk disk_after
-  takes_file after gain end end_after disk disk_after takes =
+  pub takes_file : (after : List tracked.Row) (found : Found) (end end_after : ℕ) (disk disk_after : D) → trees.taken opened ≡ trees.taken old → trees.taken closed ≡ trees.taken taken
+      → Finds trees disks (OpenTaken rules first path file before after) found end end_after opened taken disk disk_after → Finds trees disks (PathTaken rules first path before after) found end end_after old closed disk disk_after
+  takes_file after found end end_after disk disk_after opening_reads closing_reads finds =
+      let gain : Gain = with_taken finds.bytes (gain_of found) in
       let change = λ (added : List Mark). WithFile (OpenTaken rules first path file before after gain added) path file in
-      takes_before trees disks change (λ _. Closes file.handle.0) (PathTaken rules first path before after gain) gain end end_after old taken closed disk disk_after
-      (λ added x y z with_file closing. path_looked rules first path included file before x with_file.opened y z with_file.opens closing after gain added with_file.changes) stays (λ _. closes)
-      (takes_after trees disks (OpensFile path file.handle.0 file.size) (OpenTaken rules first path file before after gain) change gain end end_after old opened taken disk disk_after
-      (λ added x y z opening changes. record { opened = y; opens = opening; changes = changes }) still opens takes)
+      record {
+        bytes = finds.bytes;
+        takes =
+            takes_before trees disks change (λ _. Closes file.handle.0) (PathTaken rules first path before after gain) gain end end_after old taken closed disk disk_after
+            (λ added x y z with_file closing. path_looked rules first path included file before x with_file.opened y z with_file.opens closing after gain added with_file.changes) stays closing_reads (λ _. closes)
+            (takes_after trees disks (OpensFile path file.handle.0 file.size) (OpenTaken rules first path file before after gain) change gain finds.bytes end end_after old opened taken disk disk_after
+            (λ added x y z opening changes. record { opened = y; opens = opening; changes = changes }) still (omega (arith, opening_reads)) opens finds.takes);
+      }
 
   pub fills_file : (limit end full : ℕ) → Told (OpenFills rules first limit path file before end full) (trees.world opened) (trees.world taken) → Told (PathFills rules first limit path before end full) (trees.world old) (trees.world closed)
   fills_file limit end full fills =
@@ -279,13 +323,19 @@ module _ {T D : Type 0} (trees : TreeMeaning T) (disks : DiskMeaning D) (rules :
 
 -- a path that could not be opened, or was no file's
 module _ {T D : Type 0} (trees : TreeMeaning T) (disks : DiskMeaning D) (rules : Rules) (first : Bool) (path : List ℕ) (before : List tracked.Row) (end : ℕ) (old new : T) (disk : D) where
-  pub takes_missed : Told (OpensNothing (miss path ∷ []) (λ _. Unit {0})) (trees.world old) (trees.world new) → Rose (trees.faults old) (trees.faults new)
-      → Takes trees disks (PathTaken rules first path before before (gain_of Missed)) (gain_of Missed) end end old new disk disk
-  takes_missed told rose = takes_call trees disks _ _ end old new disk refl rose.1 (told_weaker _ _ (trees.world old) (trees.world new) (λ x y opens. path_missed rules first path before x y opens) told)
+  pub takes_missed : Told (OpensNothing (miss path ∷ []) (λ _. Unit {0})) (trees.world old) (trees.world new) → Rose (trees.faults old) (trees.faults new) → trees.taken new ≡ trees.taken old
+      → Finds trees disks (PathTaken rules first path before before) Missed end end old new disk disk
+  takes_missed told rose none = record {
+    bytes = 0;
+    takes = takes_call trees disks _ _ end old new disk refl rose.1 (omega (arith, none)) (told_weaker _ _ (trees.world old) (trees.world new) (λ x y opens. path_missed rules first path before x y opens) told);
+  }
 
   pub takes_lost : (fact : History → Type 0) → ((history : History) → fact history → kind_at (names history) path ≡ Some PlainFile → ⊥) → Told (OpensNothing [] fact) (trees.world old) (trees.world new) → trees.faults new ≡ trees.faults old
-      → Takes trees disks (PathTaken rules first path before before (gain_of NoFile)) (gain_of NoFile) end end old new disk disk
-  takes_lost fact other told same = takes_call trees disks _ _ end old new disk refl (omega (arith, same)) (told_weaker _ _ (trees.world old) (trees.world new) (λ x y opens. path_lost rules first path before x y fact opens other) told)
+      → trees.taken new ≡ trees.taken old → Finds trees disks (PathTaken rules first path before before) NoFile end end old new disk disk
+  takes_lost fact other told same none = record {
+    bytes = 0;
+    takes = takes_call trees disks _ _ end old new disk refl (omega (arith, same)) (omega (arith, none)) (told_weaker _ _ (trees.world old) (trees.world new) (λ x y opens. path_lost rules first path before x y fact opens other) told);
+  }
 
 -- what was found at a path is counted
 module _ {T D : Type 0} (trees : TreeMeaning T) (disks : DiskMeaning D) (setup : Setup) (laws : AreRules (rules_in setup)) (before taken : Taking) (sane : IsSaneTaking setup before) (sane_taken : IsSaneTaking setup taken) (counts_same : taken.counts ≡ before.counts)

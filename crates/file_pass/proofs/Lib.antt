@@ -12,6 +12,7 @@ pub mod Filling
 pub mod Opening
 pub mod Turning
 pub mod Saning
+pub mod Flagging
 pub mod RowLemmas
 pub mod Joining
 pub mod Finding

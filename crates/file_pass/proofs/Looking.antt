@@ -19,7 +19,7 @@ use Rattle.standing.specs.Prefixes.{begins}
 use Rattle.standing.specs.Rows.{Row}
 use Rattle.standing.specs.Rules.{Rules}
 use Rattle.standing.specs.Sums.{is_filled}
-use Rattle.file_pass.specs.Gain.{Gain, no_gain, one_file, one_if}
+use Rattle.file_pass.specs.Gain.{Gain, no_gain, one_file, one_if, with_taken}
 use Rattle.file_pass.specs.LookTaken.{IsGainOf, TakesLook}
 use Rattle.file_pass.specs.Seen.{row_of, rows_of, progress_of}
 use Rattle.file_pass.proofs.Listing.{set_twice}
@@ -79,6 +79,24 @@ and_false_left a b is = rw is refl
 
 more_not : (here : Look) (offset : ℕ) → size here ≤ offset + most_taken → (here.end == size here && nat_lt (offset + most_taken) (size here)) ≡ false
 more_not here offset within = and_false_right (here.end == size here) (nat_lt (offset + most_taken) (size here)) (le-ltb (offset + most_taken) (size here) within)
+
+-- whatever was read
+pub look_with : (rules : Rules) (first : Bool) (here : Look) (before after : List tracked.Row) (added : List Mark) (gain : Gain) (count : ℕ) → TakesLook rules first here before after added gain → TakesLook rules first here before after added (with_taken count gain)
+look_with rules first here before after added gain count taken = record {
+  end_within = taken.end_within;
+  reads_on = taken.reads_on;
+  leads_to = taken.leads_to;
+  sums = record {
+    files = taken.sums.files;
+    lines = taken.sums.lines;
+    left = taken.sums.left;
+    gone = taken.sums.gone;
+    failed = taken.sums.failed;
+    compressed = taken.sums.compressed;
+    shrunk = taken.sums.shrunk;
+    full = taken.sums.full;
+  };
+}
 
 module _ (rules : Rules) (first : Bool) (here : Look) (before : List tracked.Row) where
   -- an outcome that leaves the rows
@@ -155,7 +173,7 @@ module _ (rules : Rules) (first : Bool) (here : Look) (before : List tracked.Row
         at_row : slice_get (rows_of before) place ≡ Some (row_of row)
         at_row = slice_get-map row_of before place ∙ ap (option_map row_of) at
 
-        is_known : outcome rules (rows_of before) here ≡ finds_row place (row_of row)
+        pub is_known : outcome rules (rows_of before) here ≡ finds_row place (row_of row)
         is_known = is_row rules (rows_of before) here place (row_of row) read some plain (same_position (front rules here) before ∙ known) at_row
 
         pub added_known : row.offset ≤ size here → (after_look rules first here (progress_of before [])).added ≡ lines_of rules (piece here row.offset) (row_of row)
@@ -202,10 +220,13 @@ module _ (rules : Rules) (first : Bool) (here : Look) (before : List tracked.Row
           sums = subst (λ (o : Outcome). IsGainOf rules first here o added gain) (sym is_known) sums;
         }
 
+      pub is_fresh : place_of (front rules here) before ≡ None → length before < ROW_LIMIT → outcome rules (rows_of before) here ≡ finds_new
+      is_fresh none room = is_new rules (rows_of before) here read some plain (same_position (front rules here) before ∙ none) (omega (arith, room, length-map before row_of))
+
       pub added_new : (row : tracked.Row) → row_of row ≡ new_row rules first here (length before + 1) → place_of (front rules here) before ≡ None → length before < ROW_LIMIT → row.offset ≤ size here
           → (after_look rules first here (progress_of before [])).added ≡ lines_of rules (piece here row.offset) (row_of row)
       added_new row is none room from =
-          let new_is : outcome rules (rows_of before) here ≡ finds_new = is_new rules (rows_of before) here read some plain (same_position (front rules here) before ∙ none) (omega (arith, room, length-map before row_of)) in
+          let new_is : outcome rules (rows_of before) here ≡ finds_new = is_fresh none room in
           ap (λ (o : Outcome). (progress_after rules first here (progress_of before []) o).added) new_is
           ∙ lines_added-read rules here (new_row rules first here (length before + 1)) (omega (arith, from, ap (λ (r : Row). r.offset) is))
           ∙ ap (λ (r : Row). lines_of rules (piece here r.offset) r) (sym is)
@@ -218,7 +239,7 @@ module _ (rules : Rules) (first : Bool) (here : Look) (before : List tracked.Row
       takes_new row given after added gain is none room from within reaches are rows lines sums =
           let fresh : Row = new_row rules first here (length before + 1) in
           let at : row.offset ≡ fresh.offset = ap (λ (r : Row). r.offset) is in
-          let new_is : outcome rules (rows_of before) here ≡ finds_new = is_new rules (rows_of before) here read some plain (same_position (front rules here) before ∙ none) (omega (arith, room, length-map before row_of)) in
+          let new_is : outcome rules (rows_of before) here ≡ finds_new = is_fresh none room in
           let fresh_begins : fresh.offset ≤ size here = omega (arith, at, from) in
           let read_then : row_after rules here fresh ≡ fed rules given (row_of row) =
           row_after-read rules here fresh fresh_begins ∙ ap (λ (g : List ℕ). fed rules g fresh) (sym (are ∙ ap (piece here) at)) ∙ ap (fed rules given) (sym is) in

@@ -1,5 +1,5 @@
 -- An open file, and a path that is opened.
-use Rattle.std.proofs.Common.{◌≡◌, ℕ, ◌<◌, ◌≤◌, List, [], ◌∷◌, length, take, drop, min, Bool, true, false, refl, sym, ap, subst, ◌∙◌, inl, inr, arith, eq-eqb, ◌==◌, not}
+use Rattle.std.proofs.Common.{◌≡◌, ℕ, ◌+◌, ◌<◌, ◌≤◌, List, [], ◌∷◌, length, take, drop, min, Bool, true, false, refl, sym, ap, subst, ◌∙◌, inl, inr, arith, eq-eqb, ◌==◌, not}
 use Rattle.std.proofs.lemmas.Bool.{cases_lt}
 use Rattle.std.proofs.lemmas.List.{take_all}
 use Rattle.std.specs.Prelude.{Option, None, Some, filter}
@@ -21,7 +21,7 @@ use Rattle.standing.specs.Look.{ComesAt}
 use Rattle.standing.specs.Marks.{Mark}
 use Rattle.standing.specs.Moments.{IsLater}
 use Rattle.standing.specs.Rules.{Rules, Includes}
-use Rattle.file_pass.specs.Gain.{Gain, no_gain, one_file}
+use Rattle.file_pass.specs.Gain.{Gain, no_gain, one_file, with_taken}
 use Rattle.file_pass.specs.LookTaken.{IsOpenAt, IsSeenAt, OpenTaken, SeenTaken, look_at}
 use Rattle.file_pass.specs.Overflow.{OpenFills, SeenFills, PathFills}
 use Rattle.file_pass.specs.PathTaken.{PathTaken}
@@ -31,7 +31,7 @@ use Rattle.file_pass.specs.Turns.{looks_at, misses_path, finds_none}
 use Rattle.file_pass.specs.declared.ending.Ending.TheVariants.{Whole, Failed, Shrunk}
 use Rattle.file_pass.specs.declared.ending.OpenFile.{OpenFile}
 use Rattle.file_pass.proofs.Bridging.{still_open, look_same}
-use Rattle.file_pass.proofs.Looking.{takes_nothing, takes_unread, takes_compressed, takes_full}
+use Rattle.file_pass.proofs.Looking.{look_with, takes_nothing, takes_unread, takes_compressed, takes_full}
 use Rattle.file_pass.proofs.ReadingLemmas.{same_piece}
 
 pub later_moves : {old new : History} → Moves old new → IsLater old new
@@ -46,21 +46,25 @@ module _ (rules : Rules) (first : Bool) (path : List ℕ) (file : OpenFile) (bef
     end = 0;
     skipped = false;
     looks = λ seen moment at. takes_nothing rules first (look_at path seen moment 0 false) before refl (sym at.size_then ∙ none) refl;
+    cost = λ seen moment at. omega arith;
   }
 
-  -- its front could not be read
-  pub open_unread : (old new : World) (last : ℕ) (given : List ℕ) → last ≤ file.size → 0 < file.size → Reads file.handle.0 0 last given Failed old new → OpenTaken rules first path file before before (record one_file { failed = 1 }) [] old new
-  open_unread old new last given le some reads = record {
+  -- its front could not be read, or not to its end
+  pub open_unread : (old new : World) (last : ℕ) (given : List ℕ) (count : ℕ) → count ≤ rules.front_size → last ≤ file.size → 0 < file.size → Reads file.handle.0 0 last given Failed old new
+      → OpenTaken rules first path file before before (record one_file { failed = 1; taken = count }) [] old new
+  open_unread old new last given count few le some reads = record {
     handles = reads.handles;
     moves = reads.moves;
     end = 0;
     skipped = true;
-    looks = λ seen moment at. takes_unread rules first (look_at path seen moment 0 true) before refl (omega (arith, some, at.size_then)) (omega arith);
+    looks = λ seen moment at. look_with rules first (look_at path seen moment 0 true) before before [] (record one_file { failed = 1 }) count (takes_unread rules first (look_at path seen moment 0 true) before refl (omega (arith, some, at.size_then)) (omega arith));
+    cost = λ seen moment at. omega (arith, few);
   }
 
   -- no file is found to be shorter than it was
-  pub open_shrunk : (old new : World) (last : ℕ) (given : List ℕ) → last ≤ file.size → Reads file.handle.0 0 last given Shrunk old new → OpenTaken rules first path file before before (record one_file { shrunk = 1 }) [] old new
-  open_shrunk old new last given le reads = record {
+  pub open_shrunk : (old new : World) (last : ℕ) (given : List ℕ) (count : ℕ) → count ≤ rules.front_size → last ≤ file.size → Reads file.handle.0 0 last given Shrunk old new
+      → OpenTaken rules first path file before before (record one_file { shrunk = 1; taken = count }) [] old new
+  open_shrunk old new last given count few le reads = record {
     handles = reads.handles;
     moves = reads.moves;
     end = 0;
@@ -68,6 +72,7 @@ module _ (rules : Rules) (first : Bool) (path : List ℕ) (file : OpenFile) (bef
     looks = λ seen moment at.
         let has = still_open file seen moment old at in
         absurd (reads.grows seen (record { is = has.is; long = omega (arith, le, has.long) }) refl);
+    cost = λ seen moment at. omega (arith, few);
   }
 
   -- the front that was read is what a look sees
@@ -96,13 +101,15 @@ module _ (rules : Rules) (first : Bool) (path : List ℕ) (file : OpenFile) (bef
       ]
 
   module _ (old mid new : World) (seen_front : List ℕ) (last : ℕ) (is : last ≡ min rules.front_size file.size) (many : length seen_front ≡ last) (reads : Reads file.handle.0 0 last seen_front Whole old mid) where
-    pub open_seen : (after : List tracked.Row) (gain : Gain) (added : List Mark) → SeenTaken rules first path file seen_front before after gain added mid new → OpenTaken rules first path file before after gain added old new
-    open_seen after gain added taken = record {
+    pub open_seen : (after : List tracked.Row) (gain : Gain) (added : List Mark) (count : ℕ) → count ≤ rules.front_size → SeenTaken rules first path file seen_front before after gain added mid new
+        → OpenTaken rules first path file before after (with_taken (count + gain.taken) gain) added old new
+    open_seen after gain added count few taken = record {
       handles = taken.handles ∙ reads.handles;
       moves = moves_then reads.moves taken.moves;
       end = taken.end;
       skipped = false;
-      looks = λ seen moment at. taken.looks seen moment (seen_then old mid seen_front last is many reads seen moment at);
+      looks = λ seen moment at. look_with rules first (look_at path seen moment taken.end false) before after added gain (count + gain.taken) (taken.looks seen moment (seen_then old mid seen_front last is many reads seen moment at));
+      cost = λ seen moment at. omega (arith, few, taken.cost seen moment (seen_then old mid seen_front last is many reads seen moment at));
     }
 
     pub open_fills : (limit end full : ℕ) → SeenFills rules first limit path file seen_front before end full mid new → OpenFills rules first limit path file before end full old new
@@ -120,6 +127,7 @@ module _ (rules : Rules) (first : Bool) (path : List ℕ) (file : OpenFile) (bef
     end = file.size;
     looks = λ seen moment at.
         takes_compressed rules first (look_at path seen moment file.size false) before refl (omega (arith, some, at.open_at.size_then)) (ap is_compressed (sym at.front_is) ∙ is) at.open_at.size_then;
+    cost = λ seen moment at. omega arith;
   }
 
   pub seen_full : (world : World) (seen_front : List ℕ) (after : List tracked.Row) → is_compressed seen_front ≡ false → 0 < file.size → IsLeftOut seen_front before after
@@ -133,6 +141,7 @@ module _ (rules : Rules) (first : Bool) (path : List ℕ) (file : OpenFile) (bef
         look_same rules first here before left_out.same refl refl
         (takes_full rules first here before refl (omega (arith, some, at.open_at.size_then)) (ap is_compressed (sym at.front_is) ∙ plain)
         (subst (λ (f : List ℕ). place_of f before ≡ None) at.front_is left_out.none) (omega (arith, left_out.all)) at.open_at.size_then);
+    cost = λ seen moment at. omega arith;
   }
 
 -- a path that was opened, whose file was taken and closed
@@ -186,6 +195,7 @@ module _ (rules : Rules) (first : Bool) (path : List ℕ) (included : Includes r
           all_looks = seen_looks open_taken.moves;
           all_misses = seen_misses open_taken.moves;
           takes = took;
+          cost = open_taken.cost opens.file opens.history.moment open_at;
         };
         handles = handles_back open_taken.handles;
         no_unlisted = seen_unlisted open_taken.moves;

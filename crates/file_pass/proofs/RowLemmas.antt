@@ -1,5 +1,5 @@
 -- A row that is read on.
-use Rattle.std.proofs.Common.{◌≡◌, ℕ, ◌+◌, ◌-◌, ◌<◌, ◌≤◌, ◌^◌, List, [], ◌∷◌, length, Bool, true, false, nat_lt, refl, sym, ap, subst, ◌∙◌, inl, inr, arith}
+use Rattle.std.proofs.Common.{◌≡◌, ℕ, ◌+◌, ◌-◌, ◌<◌, ◌≤◌, ◌^◌, List, [], ◌∷◌, length, min, Bool, true, false, nat_lt, refl, sym, ap, subst, ◌∙◌, inl, inr, arith}
 use Rattle.std.proofs.lemmas.List.{map-set, length-set}
 use Rattle.std.proofs.lemmas.Bool.Decides.{nat_tests}
 use Rattle.pipeline.specs.AsRules.{is_nothing}
@@ -19,15 +19,15 @@ use Rattle.standing.specs.Look.{fed, lines_of}
 use Rattle.standing.specs.Marks.{Mark}
 use Rattle.standing.specs.Rows.{Row}
 use Rattle.standing.specs.Tokens.{tokens_of, used}
-use Rattle.file_pass.specs.Fed.{IsSane, ReadsOn, FillsUp, feeding_row, rules_in}
+use Rattle.file_pass.specs.Fed.{IsSane, ReadsOn, FillsUp, feeding_row, last_of, rules_in}
 use Rattle.file_pass.specs.Full.{Crosses, lines_text}
-use Rattle.file_pass.specs.Gain.{gain_of, failures}
+use Rattle.file_pass.specs.Gain.{failures}
 use Rattle.file_pass.specs.Overflow.{RowFills}
 use Rattle.file_pass.specs.Reads.{Reads}
 use Rattle.file_pass.specs.RowTaken.{RowTaken}
 use Rattle.file_pass.specs.Sane.{IsSaneTaking}
 use Rattle.file_pass.specs.Seen.{row_of, rows_of}
-use Rattle.file_pass.specs.Taken.{Takes}
+use Rattle.file_pass.specs.Taken.{Finds}
 use Rattle.file_pass.specs.TreeTerms.{HasEnding}
 use Rattle.file_pass.specs.declared.counts.Counts.{Counts}
 use Rattle.file_pass.specs.declared.taking.Taking.{Taking}
@@ -132,13 +132,17 @@ stateless setup row good = no_bytes row.state good
 
 module _ {T D : Type 0} (trees : TreeMeaning T) (disks : DiskMeaning D) (setup : Setup) (file : OpenFile) (place : ℕ) (row : tracked.Row) (rows : List tracked.Row) (at : slice_get rows place ≡ Some row) where
   -- the file is shorter than the row's offset
-  pub takes_shorter : (end : ℕ) (tree : T) (disk : D) → file.size < row.offset → Takes trees disks (RowTaken (rules_in setup) file place rows rows Shorter) (gain_of Shorter) end end tree tree disk disk
+  pub takes_shorter : (end : ℕ) (tree : T) (disk : D) → file.size < row.offset → Finds trees disks (RowTaken (rules_in setup) file place rows rows Shorter) Shorter end end tree tree disk disk
   takes_shorter end tree disk short = record {
-    added = [];
-    lines = refl;
-    appends = appends_none disks end disk;
-    rose = omega arith;
-    world = told_same _ (trees.world tree) (λ world. record { row = row; at = at; how = inl (record { short = short; same = refl; none = refl; is = refl; still = refl }) });
+    bytes = 0;
+    takes = record {
+      added = [];
+      lines = refl;
+      appends = appends_none disks end disk;
+      rose = omega arith;
+      read = omega arith;
+      world = told_same _ (trees.world tree) (λ world. record { row = row; at = at; cost = omega arith; how = inl (record { short = short; same = refl; none = refl; is = refl; still = refl }) });
+    };
   }
 
   module _ (laws : AreRules (rules_in setup)) (good : IsTrue ((rules_in setup).is_state row.state)) (before : Feeding) (begins : feeding_row before ≡ begins_of row) (inside : row.offset ≤ file.size) (end : ℕ) (tree tree_after : T) where
@@ -162,34 +166,40 @@ module _ {T D : Type 0} (trees : TreeMeaning T) (disks : DiskMeaning D) (setup :
     pub takes_on_row : (after : Feeding) (end_after : ℕ) (ending : Ending) (more : Bool) (lines : ℕ) (rows_after : List tracked.Row) (disk disk_after : D) (on : ReadsOn trees disks setup file before after end end_after ending tree tree_after disk disk_after)
         → (ending ≡ Whole → more ≡ nat_lt most_taken (file.size - row.offset)) → ((ending ≡ Whole → ⊥) → more ≡ false) → row.lines + lines ≡ after.state.lines
         → rows_after ≡ slice_set rows place (with_progress after.offset after.state.records after.state.lines row.state row)
-        → Takes trees disks (RowTaken (rules_in setup) file place rows rows_after (Read ending more lines)) (gain_of (Read ending more lines)) end end_after tree tree_after disk disk_after
-    takes_on_row after end_after ending more lines rows_after disk disk_after on left not_left many noted =
+        → trees.taken tree_after ≤ trees.taken tree + (last_of file.size before.offset - before.offset)
+        → Finds trees disks (RowTaken (rules_in setup) file place rows rows_after (Read ending more lines)) (Read ending more lines) end end_after tree tree_after disk disk_after
+    takes_on_row after end_after ending more lines rows_after disk disk_after on left not_left many noted read =
         let added : List Mark = lines_of (rules_in setup) on.given (row_of row) in
         let count : lines ≡ length added = omega (arith, many, lines_more setup laws row before after on.given good begins on.row) in
         record {
-          added = added;
-          lines = count;
-          appends = appends_same disks (lines_text (lines_of (rules_in setup) on.given (feeding_row before))) (lines_text added) end end_after disk disk_after (ap lines_text (lines_are setup laws row before after on.given good begins on.row)) on.appends;
-          rose = raised_by ending (trees.faults tree) (trees.faults tree_after) on.cause;
-          world = told_weaker _ _ (trees.world tree) (trees.world tree_after) (λ x y reads. record {
-            row = row;
-            at = at;
-            how = inr (record {
-              begins = inside;
-              given = on.given;
-              ending = ending;
-              more = more;
-              within = omega (arith, on.within, same_begin);
-              whole = λ is. omega (arith, on.whole is, same_begin);
-              partly = λ not. omega (arith, on.partly not, same_begin);
-              fed_row = ap rows_of noted ∙ map-set row_of rows place (with_progress after.offset after.state.records after.state.lines row.state row) ∙ ap (slice_set (rows_of rows) place) (noted_is setup laws row before after on.given good begins on.row);
-              lines = refl;
-              is = ap (Read ending more) count;
-              left = λ is. left is ∙ past row.offset file.size inside;
-              not_left = not_left;
-              reads = subst (λ from. Reads file.handle.0 from file.size on.given ending x y) same_begin reads;
-            });
-          }) on.world;
+          bytes = min most_taken (file.size - row.offset);
+          takes = record {
+            added = added;
+            lines = count;
+            appends = appends_same disks (lines_text (lines_of (rules_in setup) on.given (feeding_row before))) (lines_text added) end end_after disk disk_after (ap lines_text (lines_are setup laws row before after on.given good begins on.row)) on.appends;
+            rose = raised_by ending (trees.faults tree) (trees.faults tree_after) on.cause;
+            read = omega (arith, read, same_begin, inside);
+            world = told_weaker _ _ (trees.world tree) (trees.world tree_after) (λ x y reads. record {
+              row = row;
+              at = at;
+              cost = omega arith;
+              how = inr (record {
+                begins = inside;
+                given = on.given;
+                ending = ending;
+                more = more;
+                within = omega (arith, on.within, same_begin);
+                whole = λ is. omega (arith, on.whole is, same_begin);
+                partly = λ not. omega (arith, on.partly not, same_begin);
+                fed_row = ap rows_of noted ∙ map-set row_of rows place (with_progress after.offset after.state.records after.state.lines row.state row) ∙ ap (slice_set (rows_of rows) place) (noted_is setup laws row before after on.given good begins on.row);
+                lines = refl;
+                is = ap (Read ending more) count;
+                left = λ is. left is ∙ past row.offset file.size inside;
+                not_left = not_left;
+                reads = subst (λ from. Reads file.handle.0 from file.size on.given ending x y) same_begin reads;
+              });
+            }) on.world;
+          };
         }
       where
         past : (offset all : ℕ) → offset ≤ all → nat_lt most_taken (all - offset) ≡ nat_lt (offset + most_taken) all

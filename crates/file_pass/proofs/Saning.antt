@@ -1,8 +1,7 @@
 -- The numbers of a pass, whatever is read.
-use Rattle.std.proofs.Common.{◌≡◌, ℕ, ◌+◌, ◌<◌, ◌≤◌, ◌^◌, suc, List, [], ◌∷◌, ◌++◌, length, Bool, true, false, refl, sym, ap, subst, ◌∙◌, inl, inr, arith, length-append}
+use Rattle.std.proofs.Common.{◌≡◌, ℕ, ◌+◌, ◌<◌, ◌≤◌, ◌^◌, suc, List, [], ◌∷◌, length, refl, sym, ap, subst, ◌∙◌, inl, inr, arith, length-append}
 use Rattle.std.proofs.lemmas.List.{length-set, length_push}
 use Rattle.std.proofs.lemmas.List.Sums.{sum_by-cons}
-use Rattle.std.proofs.lemmas.Option.{slice_get_within}
 use Rattle.file_tracker.specs.declared.tracker.TheConstants.{ROW_LIMIT}
 use Rattle.file_pass.specs.declared.counts.Counts.{Counts}
 use Rattle.file_pass.specs.declared.taking.Taking.{Taking}
@@ -20,10 +19,9 @@ use Rattle.file_pass.specs.Fed.{rules_in}
 use Rattle.file_pass.specs.Full.{line_of, lines_text}
 use Rattle.file_pass.specs.Sane.{IsSaneRow, AreSaneRows, IsSaneTaking}
 use Rattle.file_pass.specs.Settled.{IsKnown, IsAdmitted, Settles, admitted}
-use Rattle.file_pass.specs.Unchanged.{KeepsUnchanged}
 use Rattle.file_pass.specs.declared.setup.Setup.{Setup}
 use Rattle.file_pass.proofs.Bridging.{start_within}
-use Rattle.file_pass.proofs.Listing.{set_cases, set_others, push_cases, push_before}
+use Rattle.file_pass.proofs.Listing.{set_cases, push_cases}
 
 -- rows that are found or made
 module _ (setup : Setup) (end size : ℕ) (path front : List ℕ) (before after : List Row) (place : ℕ) (sane : AreSaneRows (rules_in setup) end before)
@@ -133,38 +131,3 @@ text_long filled (first ∷ rest) = omega (arith, filled first, text_long filled
 pub length-numbered : (id number : ℕ) (entries : List LogRecord) → length (numbered id number entries) ≡ length entries
 length-numbered id number [] = refl
 length-numbered id number (entry ∷ entries) = omega (arith, length-numbered id (number + 1) entries)
-
--- flags
-pub unchanged_none : (rows : List Row) (flags : List Bool) → KeepsUnchanged rows flags rows flags
-unchanged_none rows flags = record { more = omega arith; kept = λ place is. (is, refl) }
-
-pub unchanged_then : (rows mid after : List Row) (flags between last : List Bool) → KeepsUnchanged rows flags mid between → KeepsUnchanged mid between after last → KeepsUnchanged rows flags after last
-unchanged_then rows mid after flags between last a b = record {
-  more = omega (arith, a.more, b.more);
-  kept = λ place is.
-      let second = b.kept place is in
-      let first = a.kept place second.0 in
-      (first.0, second.1 ∙ first.1);
-}
-
--- the flag of the row that was changed is set
-pub unchanged_set : (rows : List Row) (flags : List Bool) (place : ℕ) (row : Row) → KeepsUnchanged rows flags (slice_set rows place row) (slice_set flags place true)
-unchanged_set rows flags place row = record {
-  more = omega (arith, length-set rows place row);
-  kept = λ k is.
-      elim (set_cases flags place k true false is) [
-        | inl here ↦ absurd (let never : false ≡ true = here.1 in cc)
-        | inr other ↦ (other.1, set_others rows place k row other.0)
-      ];
-}
-
--- a row was added, and its flag
-pub unchanged_push : (rows : List Row) (flags : List Bool) (row : Row) → length flags ≡ length rows → KeepsUnchanged rows flags (rows ++ row ∷ []) (flags ++ true ∷ [])
-unchanged_push rows flags row many = record {
-  more = omega (arith, length_push rows row);
-  kept = λ k is.
-      elim (push_cases flags k true false is) [
-        | inl here ↦ absurd (let never : false ≡ true = here.1 in cc)
-        | inr was ↦ (was, push_before rows k row (omega (arith, many, slice_get_within flags k false was)))
-      ];
-}

@@ -18,13 +18,13 @@ use Rattle.file_pass.proofs.Listing.{contains_none, contains_cons}
 abbrev Texts : Type 0
 Texts = List (List ℕ)
 
-first_there : {A : Type 0} (x : A) (xs : List A) → Contains (x ∷ xs) x
+pub first_there : {A : Type 0} (x : A) (xs : List A) → Contains (x ∷ xs) x
 first_there x xs = Contains-append_left (x ∷ []) xs x (Contains-push [] x)
 
-behind_there : {A : Type 0} (y : A) (xs : List A) (x : A) → Contains xs x → Contains (y ∷ xs) x
+pub behind_there : {A : Type 0} (y : A) (xs : List A) (x : A) → Contains xs x → Contains (y ∷ xs) x
 behind_there y xs x c = Contains-append_right (y ∷ []) xs x c
 
-in_reverse : {A : Type 0} (xs : List A) (x : A) → Contains xs x → Contains (reverse xs) x
+pub in_reverse : {A : Type 0} (xs : List A) (x : A) → Contains xs x → Contains (reverse xs) x
 in_reverse [] x c = absurd (contains_none x c)
 in_reverse (y ∷ ys) x c = subst (λ l. Contains l x) (sym (reverse-append (y ∷ []) ys)) (elim (contains_cons y ys x c) [
   | inl same ↦ subst (λ z. Contains (reverse ys ++ y ∷ []) z) same (Contains-push (reverse ys) y)

@@ -15,6 +15,7 @@ use Rattle.standing.specs.Pass.{is_short}
 use Rattle.standing.specs.Rules.{Rules}
 use Rattle.standing.specs.Sums.{is_filled, is_passed_as_compressed, is_left_out, has_more, is_shrunk}
 use Rattle.file_pass.specs.AllTaken.{AllTaken}
+use Rattle.file_pass.specs.Cost.{cost_of, look_cost}
 use Rattle.file_pass.specs.Full.{Crosses, lines_text}
 use Rattle.file_pass.specs.Gain.{Gain, no_gain, both, one_if}
 use Rattle.file_pass.specs.Overflow.{PathFills, AllFill}
@@ -79,7 +80,7 @@ module _ (rules : Rules) (first : Bool) where
     };
     read_on = tt;
     leads_to = refl;
-    gains = record { files = refl; lines = refl; left = refl; gone = refl; failed = refl; compressed = refl; shrunk = refl; full = refl };
+    gains = record { files = refl; lines = refl; left = refl; gone = refl; failed = refl; compressed = refl; shrunk = refl; full = refl; taken = omega arith };
   }
 
   module _ (paths : List (List ℕ)) (path : List ℕ) (before mid after : List tracked.Row) (gain more : Gain) (added next : List Mark) (old between new : World) (a : AllTaken rules first paths before mid gain added old between) where
@@ -91,6 +92,9 @@ module _ (rules : Rules) (first : Bool) where
 
     count_is : (test : Look → Outcome → Bool) (here : Look) → count_of rules first test (here ∷ looks_of a.turns) start ≡ count_of rules first test (looks_of a.turns) start + one_if (test here (outcome rules (rows_of mid) here))
     count_is test here = ap (λ (o : Outcome). count_of rules first test (looks_of a.turns) start + one_if (test here o)) (outcome_is here)
+
+    cost_is : (here : Look) → cost_of rules first (here ∷ looks_of a.turns) start ≡ cost_of rules first (looks_of a.turns) start + look_cost rules here (outcome rules (rows_of mid) here)
+    cost_is here = ap (λ (o : Outcome). cost_of rules first (looks_of a.turns) start + look_cost rules here o) (outcome_is here)
 
     each_more : (turn : Turn) → path_of turn ≡ path → map path_of (turn ∷ a.turns) ≡ reverse (paths ++ path ∷ [])
     each_more turn is = ap (λ (p : List ℕ). p ∷ map path_of a.turns) is ∙ ap (λ (l : List (List ℕ)). path ∷ l) a.each ∙ sym (reverse-append paths (path ∷ []))
@@ -123,6 +127,7 @@ module _ (rules : Rules) (first : Bool) where
             compressed = omega (arith, a.gains.compressed, sums.compressed, count_is is_passed_as_compressed here);
             shrunk = omega (arith, a.gains.shrunk, sums.shrunk, count_is (is_shrunk rules first) here);
             full = omega (arith, a.gains.full, sums.full, count_is is_left_out here);
+            taken = omega (arith, a.gains.taken, b.cost, cost_is here);
           };
         }
       where
@@ -157,6 +162,7 @@ module _ (rules : Rules) (first : Bool) where
         compressed = omega (arith, a.gains.compressed, ap (λ (g : Gain). g.compressed) b.gain_is);
         shrunk = omega (arith, a.gains.shrunk, ap (λ (g : Gain). g.shrunk) b.gain_is);
         full = omega (arith, a.gains.full, ap (λ (g : Gain). g.full) b.gain_is);
+        taken = omega (arith, a.gains.taken, ap (λ (g : Gain). g.taken) b.gain_is);
       };
     }
 
@@ -190,6 +196,7 @@ module _ (rules : Rules) (first : Bool) where
             compressed = omega (arith, a.gains.compressed, ap (λ (g : Gain). g.compressed) b.gain_is);
             shrunk = omega (arith, a.gains.shrunk, ap (λ (g : Gain). g.shrunk) b.gain_is);
             full = omega (arith, a.gains.full, ap (λ (g : Gain). g.full) b.gain_is);
+            taken = omega (arith, a.gains.taken, ap (λ (g : Gain). g.taken) b.gain_is);
           };
         }
 

@@ -1,5 +1,5 @@
 -- What a pass makes of its paths.
-use Rattle.std.specs.Prelude.{◌≡◌, ℕ, ◌+◌, List, [], ◌++◌, length, map, reverse, Bool, Contains, count_by}
+use Rattle.std.specs.Prelude.{◌≡◌, ℕ, ◌+◌, ◌≤◌, List, [], ◌++◌, length, map, reverse, Bool, Contains, count_by}
 use Rattle.file_tracker.specs.declared.row.Row as tracked
 use Rattle.outside.specs.DiskMeaning.{DiskMeaning}
 use Rattle.outside.specs.Seen.{looked, missed, left_unlisted}
@@ -12,6 +12,7 @@ use Rattle.standing.specs.Moments.{IsLater}
 use Rattle.standing.specs.Pass.{is_short}
 use Rattle.standing.specs.Rules.{Rules}
 use Rattle.standing.specs.Sums.{is_filled, is_passed_as_compressed, is_left_out, has_more, is_shrunk}
+use Rattle.file_pass.specs.Cost.{cost_of}
 use Rattle.file_pass.specs.Fed.{rules_in}
 use Rattle.file_pass.specs.Gain.{Gain, Counted}
 use Rattle.file_pass.specs.PathTaken.{PathTaken}
@@ -30,7 +31,7 @@ pub record OwnTurns (rules : Rules) (turns : List Turn) (old new : History) : Ty
   pub no_unlisted : left_unlisted new ≡ left_unlisted old
   pub had_none : (path : List ℕ) → Contains (gone_of turns) path → HadNone old new path
 
--- what these turns add to the counts
+-- what these turns add to the counts, and how many bytes were read for them at most
 pub record AreGains (rules : Rules) (first : Bool) (turns : List Turn) (start : Progress) (added : List Mark) (gain : Gain) : Type 0 where
   pub files : gain.files ≡ count_by is_filled (looks_of turns)
   pub lines : gain.lines ≡ length added
@@ -40,6 +41,7 @@ pub record AreGains (rules : Rules) (first : Bool) (turns : List Turn) (start : 
   pub compressed : gain.compressed ≡ count_of rules first is_passed_as_compressed (looks_of turns) start
   pub shrunk : gain.shrunk ≡ count_of rules first (is_shrunk rules first) (looks_of turns) start
   pub full : gain.full ≡ count_of rules first is_left_out (looks_of turns) start
+  pub taken : gain.taken ≤ cost_of rules first (looks_of turns) start
 
 -- Each path has its turn, and the looks lead from the rows before to those after, with these lines.
 pub record AllTaken (rules : Rules) (first : Bool) (paths : List (List ℕ)) (before after : List tracked.Row) (gain : Gain) (added : List Mark) (old new : World) : Type 0 where

@@ -1,4 +1,4 @@
--- What paths add to the counts.
+-- What paths add to the counts, and how many bytes are read for them.
 use Rattle.std.specs.Prelude.{◌≡◌, ℕ, ◌+◌, Bool, if◌then◌else◌}
 use Rattle.standing.specs.Sums.{capped}
 use Rattle.file_pass.specs.declared.counts.Counts.{Counts}
@@ -17,9 +17,11 @@ pub record Gain : Type 0 where
   pub compressed : ℕ
   pub shrunk : ℕ
   pub full : ℕ
+  -- the bytes that reads gave at most
+  pub taken : ℕ
 
 abbrev pub no_gain : Gain
-no_gain = record { files = 0; lines = 0; left = 0; gone = 0; failed = 0; compressed = 0; shrunk = 0; full = 0 }
+no_gain = record { files = 0; lines = 0; left = 0; gone = 0; failed = 0; compressed = 0; shrunk = 0; full = 0; taken = 0 }
 
 abbrev pub both : Gain → Gain → Gain
 both one other = record {
@@ -31,6 +33,7 @@ both one other = record {
   compressed = one.compressed + other.compressed;
   shrunk = one.shrunk + other.shrunk;
   full = one.full + other.full;
+  taken = one.taken + other.taken;
 }
 
 abbrev pub one_if : Bool → ℕ
@@ -59,6 +62,10 @@ gain_of Compressed = record one_file { compressed = 1 }
 gain_of NoRoom = record one_file { full = 1 }
 gain_of Shorter = record one_file { shrunk = 1 }
 gain_of (Read ending more lines) = record one_file { lines = lines; left = one_if more; failed = failures ending; shrunk = shrinkings ending }
+
+-- the same, after reads that gave so many bytes at most
+abbrev pub with_taken : ℕ → Gain → Gain
+with_taken bytes gain = record gain { taken = bytes }
 
 -- Each count of 32 bits stands still at its greatest value.
 pub record Counted (before : Counts) (gain : Gain) (after : Counts) : Type 0 where

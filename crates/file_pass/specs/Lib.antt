@@ -6,6 +6,7 @@ pub mod Full
 pub mod Fed
 pub mod Seen
 pub mod Gain
+pub mod Cost
 pub mod Sane
 pub mod Unchanged
 pub mod Settled

@@ -10,6 +10,7 @@ use Rattle.standing.specs.Moments.{IsLater}
 use Rattle.standing.specs.Pass.{is_short}
 use Rattle.standing.specs.Rules.{Rules}
 use Rattle.standing.specs.Sums.{is_filled, is_passed_as_compressed, is_left_out, has_more, is_shrunk}
+use Rattle.file_pass.specs.Cost.{cost_on, look_cost}
 use Rattle.file_pass.specs.Gain.{Gain, one_if}
 use Rattle.file_pass.specs.Seen.{rows_of, progress_of}
 use Rattle.file_pass.specs.declared.ending.OpenFile.{OpenFile}
@@ -51,6 +52,8 @@ pub record SeenTaken (rules : Rules) (first : Bool) (path : List ℕ) (file : Op
   pub moves : Moves old.history new.history
   pub end : ℕ
   pub looks : (seen : ℕ) (moment : History) → IsSeenAt rules file front seen moment old → TakesLook rules first (look_at path seen moment end false) before after added gain
+  -- beside what was read for the front
+  pub cost : (seen : ℕ) (moment : History) → IsSeenAt rules file front seen moment old → gain.taken ≤ cost_on (look_at path seen moment end false) (outcome rules (rows_of before) (look_at path seen moment end false))
 
 -- The same of any open file.
 pub record OpenTaken (rules : Rules) (first : Bool) (path : List ℕ) (file : OpenFile) (before after : List tracked.Row) (gain : Gain) (added : List Mark) (old new : World) : Type 0 where
@@ -59,3 +62,4 @@ pub record OpenTaken (rules : Rules) (first : Bool) (path : List ℕ) (file : Op
   pub end : ℕ
   pub skipped : Bool
   pub looks : (seen : ℕ) (moment : History) → IsOpenAt file seen moment old → TakesLook rules first (look_at path seen moment end skipped) before after added gain
+  pub cost : (seen : ℕ) (moment : History) → IsOpenAt file seen moment old → gain.taken ≤ look_cost rules (look_at path seen moment end skipped) (outcome rules (rows_of before) (look_at path seen moment end skipped))

@@ -1,14 +1,16 @@
 -- What a pass makes of one path.
-use Rattle.std.specs.Prelude.{◌≡◌, ℕ, List, [], ◌∷◌, Bool}
+use Rattle.std.specs.Prelude.{◌≡◌, ℕ, ◌≤◌, List, [], ◌∷◌, Bool}
 use Rattle.file_tracker.specs.declared.row.Row as tracked
 use Rattle.outside.specs.Seen.{looked, missed, left_unlisted}
 use Rattle.outside.specs.World.{World, History}
-use Rattle.standing.specs.Look.{Look, ComesAt}
+use Rattle.standing.specs.Look.{Look, ComesAt, outcome}
 use Rattle.standing.specs.Marks.{Mark}
 use Rattle.standing.specs.Moments.{IsLater}
 use Rattle.standing.specs.Rules.{Rules}
+use Rattle.file_pass.specs.Cost.{look_cost}
 use Rattle.file_pass.specs.Gain.{Gain, no_gain}
 use Rattle.file_pass.specs.LookTaken.{TakesLook}
+use Rattle.file_pass.specs.Seen.{rows_of}
 use Rattle.file_pass.specs.Turns.{Turn, looks_at, misses_path, finds_none, path_of, HadNone}
 
 -- a file was looked at under the path
@@ -18,6 +20,7 @@ pub record LooksAtPath (rules : Rules) (first : Bool) (here : Look) (before afte
   pub all_looks : looked new ≡ here.file ∷ looked old
   pub all_misses : missed new ≡ missed old
   pub takes : TakesLook rules first here before after added gain
+  pub cost : gain.taken ≤ look_cost rules here (outcome rules (rows_of before) here)
 
 -- the path could not be opened
 pub record MissesPath (path : List ℕ) (before after : List tracked.Row) (gain : Gain) (added : List Mark) (old new : History) : Type 0 where

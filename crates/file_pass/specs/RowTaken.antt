@@ -1,5 +1,5 @@
 -- What reading on makes of the row at a place.
-use Rattle.std.specs.Prelude.{◌≡◌, ◌⊎◌, ℕ, ◌+◌, ◌<◌, ◌≤◌, nat_lt, List, [], length, Bool, false, Some, slice_get, slice_set}
+use Rattle.std.specs.Prelude.{◌≡◌, ◌⊎◌, ℕ, ◌+◌, ◌<◌, ◌≤◌, ◌-◌, min, nat_lt, List, [], length, Bool, false, Some, slice_get, slice_set}
 use Rattle.file_tracker.specs.declared.row.Row as tracked
 use Rattle.outside.specs.World.{World}
 use Rattle.standing.specs.Limits.{most_taken}
@@ -7,6 +7,7 @@ use Rattle.standing.specs.Look.{fed, lines_of}
 use Rattle.standing.specs.Marks.{Mark}
 use Rattle.standing.specs.Rules.{Rules}
 use Rattle.file_pass.specs.Fed.{last_of}
+use Rattle.file_pass.specs.Gain.{Gain}
 use Rattle.file_pass.specs.Reads.{Reads}
 use Rattle.file_pass.specs.Seen.{row_of, rows_of}
 use Rattle.file_pass.specs.declared.ending.Ending.{Ending}
@@ -40,7 +41,8 @@ pub record IsReadOn (rules : Rules) (file : OpenFile) (place : ℕ) (row : track
   pub not_left : (ending ≡ Whole → ⊥) → more ≡ false
   pub reads : Reads file.handle.0 row.offset file.size given ending old new
 
-pub record RowTaken (rules : Rules) (file : OpenFile) (place : ℕ) (before after : List tracked.Row) (found : Found) (added : List Mark) (old new : World) : Type 0 where
+pub record RowTaken (rules : Rules) (file : OpenFile) (place : ℕ) (before after : List tracked.Row) (found : Found) (gain : Gain) (added : List Mark) (old new : World) : Type 0 where
   pub row : tracked.Row
   pub at : slice_get before place ≡ Some row
+  pub cost : gain.taken ≤ min most_taken (file.size - row.offset)
   pub how : IsShorter file row before after added found old new ⊎ IsReadOn rules file place row before after added found old new

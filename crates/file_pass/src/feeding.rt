@@ -54,7 +54,7 @@ pub(crate) fn read_on<T: Tree, D: Disk>(
     ensures ok { IfOk result (λ ending. ReadsOn T.meaning D.meaning setup.now file feeding.old feeding.new end.old end.new ending tree.old tree.new disk.old disk.new) }
     ensures sane { OnOk result (IsSane setup.now feeding.new end.new) }
     ensures full { (size : ℕ) → result ≡ Err (PassFault.OutputFull size) → FillsUp T.meaning setup.now file feeding.old end.old size tree.old tree.new }
-    ensures tree { KeepsTree T.meaning (length buffer.old) (file.size - feeding.old.offset) tree.old tree.new }
+    ensures tree { KeepsTree T.meaning (length buffer.old) (last_of file.size feeding.old.offset - feeding.old.offset) tree.old tree.new }
     ensures disk { KeepsDisk D.meaning end.old disk.old disk.new }
     ensures cause { HasPassCause result (D.meaning.faults disk.old) (D.meaning.faults disk.new) }
     ensures long { length buffer.new ≡ length buffer.old }

@@ -1,11 +1,13 @@
 //! What the definitions imply. The functions do nothing; their clauses are the laws.
-ghost use Rattle.std.specs.Prelude.{ℕ, ◌⊎◌, Bool, Contains, List};
+ghost use Rattle.std.specs.Prelude.{◌≡◌, ◌≢◌, ◌⊎◌, ◌↔◌, ℕ, Bool, false, true, Contains, List, Some, replicate, slice_get};
 ghost use Rattle.std.specs.Cmp.Lexicographic.{slice_cmp};
 ghost use Rattle.std.specs.List.Sorted.{IsStrictlySortedBy};
 ghost use Rattle.std.specs.Ordering.{nat_cmp};
 ghost use Rattle.file_pass.specs.AllTaken.{AllTaken};
 ghost use Rattle.file_pass.specs.Gain.{Gain};
 ghost use Rattle.file_pass.specs.Turns.{looks_of, misses_of};
+ghost use Rattle.file_pass.specs.Unchanged.{FlagsChanges, HasFlagForEach, HasNoFlag, IsNewOrGrown};
+ghost use Rattle.file_pass.specs.declared.taking.Taking.{Taking};
 ghost use Rattle.file_tracker.specs.declared.row.Row.{Row};
 ghost use Rattle.outside.specs.World.{World};
 ghost use Rattle.standing.specs.Look.{Look};
@@ -28,4 +30,14 @@ pub fn each_path_has_its_turn()
         (added : List Mark) (old new : World) (taken : AllTaken rules first paths before after gain added old new)
         (path : List ℕ) (file : ℕ) → Contains paths path → NamesThroughout old.history new.history path file
         → WasLookedAt (looks_of taken.turns) path ⊎ Contains (misses_of taken.turns) path }
+{}
+
+/// After a pass that began without flags a row is flagged if and only if it differs from the row that stood there before,
+/// and so if and only if it is new, or its front is longer, or its offset is greater.
+pub fn flags_tell_what_changed()
+    ensures begin { (taking : Taking) (count : ℕ) → taking.changed.items ≡ replicate count false → HasNoFlag taking }
+    ensures difference { (before after : Taking) → FlagsChanges before after → HasNoFlag before → HasFlagForEach after → (place : ℕ)
+        → (slice_get after.changed.items place ≡ Some true) ↔ (slice_get after.tracker place ≢ slice_get before.tracker place) }
+    ensures growth { (before after : Taking) → FlagsChanges before after → HasNoFlag before → HasFlagForEach after → (place : ℕ)
+        → (slice_get after.changed.items place ≡ Some true) ↔ IsNewOrGrown (slice_get before.tracker place) (slice_get after.tracker place) }
 {}

@@ -2,8 +2,10 @@
 //! are put behind the output.
 //!
 //! The contract for the layer above: `take_all` takes paths in byte order, and what it makes of the rows and of the output
-//! is what `standing` says of its looks (`TakesAll`), whatever others do to the files meanwhile. All writes lie at or past
-//! the output's length at the pass's begin (`KeepsDisk`), so until a checkpoint is written nothing of it counts.
+//! is what `standing` says of its looks (`TakesAll`), whatever others do to the files meanwhile. A row is flagged where it
+//! is new or has grown, and nowhere else (`FlagsChanges`). Reads give at most the front of each file looked at and what is
+//! read on of it (`cost_of`). All writes lie at or past the output's length at the pass's begin (`KeepsDisk`), so until a
+//! checkpoint is written nothing of it counts.
 #![tactic(auto)]
 
 mod counts;

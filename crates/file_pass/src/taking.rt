@@ -3,7 +3,6 @@ ghost use Rattle.std.specs.Prelude.{◌≡◌, ℕ, ◌<◌, ◌≤◌, ◌^◌,
 ghost use Rattle.file_pass.specs.AllTaken.{TakesAll, TakesOne};
 ghost use Rattle.file_pass.specs.DiskTerms.{KeepsDisk};
 ghost use Rattle.file_pass.specs.Fed.{feeding_row, rules_in};
-ghost use Rattle.file_pass.specs.Gain.{gain_of};
 ghost use Rattle.file_pass.specs.LookTaken.{OpenTaken, SeenTaken};
 ghost use Rattle.file_pass.specs.Overflow.{AllFill, OpenFills, PathFills, RowFills, SeenFills};
 ghost use Rattle.file_pass.specs.PassCause.{HasPassCause};
@@ -11,7 +10,7 @@ ghost use Rattle.file_pass.specs.PathTaken.{PathTaken};
 ghost use Rattle.file_pass.specs.RowTaken.{RowTaken};
 ghost use Rattle.file_pass.specs.Sane.{IsSaneTaking};
 ghost use Rattle.file_pass.specs.Seen.{row_of};
-ghost use Rattle.file_pass.specs.Taken.{KeepsTreeAt, Takes};
+ghost use Rattle.file_pass.specs.Taken.{Finds, KeepsTreeAt};
 ghost use Rattle.file_pass.specs.Unchanged.{FlagsChanges};
 ghost use Rattle.file_tracker.specs.Places.{HasGone, with_progress};
 ghost use Rattle.file_tracker.specs.declared.row.Row.{Row};
@@ -133,8 +132,8 @@ fn open_path<T: Tree, D: Disk>(
     requires short { IsShortText path.now }
     requires room { (0 < length buffer.old) × (length buffer.old ≤ BUFFER_SIZE) }
     requires ends { IsTrue (D.meaning.images.tells disk.old) → length (D.meaning.images.seen disk.old DiskFile.Output) ≡ taking.old.end }
-    ensures ok { IfOk result (λ found. Takes T.meaning D.meaning (PathTaken (rules_in setup.now) setup.now.first path.now taking.old.tracker taking.new.tracker (gain_of found))
-        (gain_of found) taking.old.end taking.new.end tree.old tree.new disk.old disk.new) }
+    ensures ok { IfOk result (λ found. Finds T.meaning D.meaning (PathTaken (rules_in setup.now) setup.now.first path.now taking.old.tracker taking.new.tracker)
+        found taking.old.end taking.new.end tree.old tree.new disk.old disk.new) }
     ensures counts { taking.new.counts ≡ taking.old.counts }
     ensures sane { OnOk result (IsSaneTaking setup.now taking.new) }
     ensures flags { OnOk result (FlagsChanges taking.old taking.new) }
@@ -176,8 +175,8 @@ fn take_opened<T: Tree, D: Disk>(
     requires short { IsShortText path.now }
     requires room { (0 < length buffer.old) × (length buffer.old ≤ BUFFER_SIZE) }
     requires ends { IsTrue (D.meaning.images.tells disk.old) → length (D.meaning.images.seen disk.old DiskFile.Output) ≡ taking.old.end }
-    ensures ok { IfOk result (λ found. Takes T.meaning D.meaning (OpenTaken (rules_in setup.now) setup.now.first path.now file taking.old.tracker taking.new.tracker (gain_of found))
-        (gain_of found) taking.old.end taking.new.end tree.old tree.new disk.old disk.new) }
+    ensures ok { IfOk result (λ found. Finds T.meaning D.meaning (OpenTaken (rules_in setup.now) setup.now.first path.now file taking.old.tracker taking.new.tracker)
+        found taking.old.end taking.new.end tree.old tree.new disk.old disk.new) }
     ensures counts { taking.new.counts ≡ taking.old.counts }
     ensures sane { OnOk result (IsSaneTaking setup.now taking.new) }
     ensures flags { OnOk result (FlagsChanges taking.old taking.new) }
@@ -222,8 +221,8 @@ fn take_seen<T: Tree, D: Disk>(
     requires front { (1 ≤ length front.now) × (length front.now ≤ 4096) }
     requires room { (0 < length buffer.old) × (length buffer.old ≤ BUFFER_SIZE) }
     requires ends { IsTrue (D.meaning.images.tells disk.old) → length (D.meaning.images.seen disk.old DiskFile.Output) ≡ taking.old.end }
-    ensures ok { IfOk result (λ found. Takes T.meaning D.meaning (SeenTaken (rules_in setup.now) setup.now.first path.now file front.now taking.old.tracker taking.new.tracker (gain_of found))
-        (gain_of found) taking.old.end taking.new.end tree.old tree.new disk.old disk.new) }
+    ensures ok { IfOk result (λ found. Finds T.meaning D.meaning (SeenTaken (rules_in setup.now) setup.now.first path.now file front.now taking.old.tracker taking.new.tracker)
+        found taking.old.end taking.new.end tree.old tree.new disk.old disk.new) }
     ensures counts { taking.new.counts ≡ taking.old.counts }
     ensures sane { OnOk result (IsSaneTaking setup.now taking.new) }
     ensures flags { OnOk result (FlagsChanges taking.old taking.new) }
@@ -265,8 +264,8 @@ fn take_row<T: Tree, D: Disk>(
     requires in_range { place < length taking.old.tracker }
     requires room { (0 < length buffer.old) × (length buffer.old ≤ BUFFER_SIZE) }
     requires ends { IsTrue (D.meaning.images.tells disk.old) → length (D.meaning.images.seen disk.old DiskFile.Output) ≡ taking.old.end }
-    ensures ok { IfOk result (λ found. Takes T.meaning D.meaning (RowTaken (rules_in setup.now) file place taking.old.tracker taking.new.tracker found)
-        (gain_of found) taking.old.end taking.new.end tree.old tree.new disk.old disk.new) }
+    ensures ok { IfOk result (λ found. Finds T.meaning D.meaning (RowTaken (rules_in setup.now) file place taking.old.tracker taking.new.tracker found)
+        found taking.old.end taking.new.end tree.old tree.new disk.old disk.new) }
     ensures counts { taking.new.counts ≡ taking.old.counts }
     ensures sane { OnOk result (IsSaneTaking setup.now taking.new) }
     ensures flags { OnOk result (FlagsChanges taking.old taking.new) }

@@ -6,7 +6,7 @@ use Rattle.op_kinds.specs.States.{states_spelling}
 use Rattle.standing.specs.AreRules.{AreRules}
 use Rattle.standing.specs.Rows.{Row}
 use Rattle.standing.specs.Tokens.{used}
-use Rattle.file_pass.specs.Fed.{IsReading, feeding_row, rules_in}
+use Rattle.file_pass.specs.Fed.{IsReading, feeding_row, last_of, rules_in}
 use Rattle.file_pass.specs.declared.ending.Ending.TheVariants.{Whole}
 use Rattle.file_pass.specs.declared.fault.PassFault.TheVariants.{OutputFull}
 use Rattle.file_pass.proofs.DiskLemmas.{ends_then, keeps_disk_none, keeps_disk_then}
@@ -58,7 +58,7 @@ returns-then-not-is_whole-clause-tree g c =
     let most : ℕ = length c.args.buffer.now in
     let offset : ℕ = c.args.feeding.now.offset in
     let count : ℕ = c.read_piece-count.result.0 in
-    keeps_tree_within trees most ((c.loop-from.from - offset) + count) (c.args.file.size - offset) c.args.tree.now c.read_piece-count.new.tree (omega (arith, c.read_piece-count.ensures.within.1, c.last_of-last.ensures, inv.reading.from_is))
+    keeps_tree_within trees most ((c.loop-from.from - offset) + count) (last_of c.args.file.size offset - offset) c.args.tree.now c.read_piece-count.new.tree (omega (arith, c.read_piece-count.ensures.within.1, c.last_of-last.ensures, inv.reading.from_is))
     (keeps_tree_then trees most (c.loop-from.from - offset) count c.args.tree.now c.loop-from.tree c.read_piece-count.new.tree inv.keeps_tree (keeps_tree_wider trees most (length c.loop-from.buffer) count c.loop-from.tree c.read_piece-count.new.tree (omega (arith, inv.long)) c.read_piece-count.ensures.tree.keeps))
 
 pub returns-in_err-extend_from_slice-clause-tree : goal.returns-in_err-extend_from_slice-clause-tree
@@ -68,7 +68,7 @@ returns-in_err-extend_from_slice-clause-tree g c =
     let most : ℕ = length c.args.buffer.now in
     let offset : ℕ = c.args.feeding.now.offset in
     let count : ℕ = c.read_piece-count.result.0 in
-    keeps_tree_within trees most ((c.loop-from.from - offset) + count) (c.args.file.size - offset) c.args.tree.now c.read_piece-count.new.tree (omega (arith, c.read_piece-count.ensures.within.1, c.last_of-last.ensures, inv.reading.from_is))
+    keeps_tree_within trees most ((c.loop-from.from - offset) + count) (last_of c.args.file.size offset - offset) c.args.tree.now c.read_piece-count.new.tree (omega (arith, c.read_piece-count.ensures.within.1, c.last_of-last.ensures, inv.reading.from_is))
     (keeps_tree_then trees most (c.loop-from.from - offset) count c.args.tree.now c.loop-from.tree c.read_piece-count.new.tree inv.keeps_tree (keeps_tree_wider trees most (length c.loop-from.buffer) count c.loop-from.tree c.read_piece-count.new.tree (omega (arith, inv.long)) c.read_piece-count.ensures.tree.keeps))
 
 pub returns-in_err-feed_carried-clause-tree : goal.returns-in_err-feed_carried-clause-tree
@@ -78,7 +78,7 @@ returns-in_err-feed_carried-clause-tree g c =
     let most : ℕ = length c.args.buffer.now in
     let offset : ℕ = c.args.feeding.now.offset in
     let count : ℕ = c.read_piece-count.result.0 in
-    keeps_tree_within trees most ((c.loop-from.from - offset) + count) (c.args.file.size - offset) c.args.tree.now c.read_piece-count.new.tree (omega (arith, c.read_piece-count.ensures.within.1, c.last_of-last.ensures, inv.reading.from_is))
+    keeps_tree_within trees most ((c.loop-from.from - offset) + count) (last_of c.args.file.size offset - offset) c.args.tree.now c.read_piece-count.new.tree (omega (arith, c.read_piece-count.ensures.within.1, c.last_of-last.ensures, inv.reading.from_is))
     (keeps_tree_then trees most (c.loop-from.from - offset) count c.args.tree.now c.loop-from.tree c.read_piece-count.new.tree inv.keeps_tree (keeps_tree_wider trees most (length c.loop-from.buffer) count c.loop-from.tree c.read_piece-count.new.tree (omega (arith, inv.long)) c.read_piece-count.ensures.tree.keeps))
 
 pub returns-in_err-feed_carried-clause-disk : goal.returns-in_err-feed_carried-clause-disk

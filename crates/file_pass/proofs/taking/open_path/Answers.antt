@@ -10,6 +10,7 @@ use Rattle.outside.specs.declared.fault.CallFault.TheVariants.{Failed}
 use Rattle.file_pass.specs.Fed.{rules_in}
 use Rattle.file_pass.specs.declared.ending.OpenFile.{OpenFile}
 use Rattle.file_pass.specs.declared.taking.TheConstants.{BUFFER_SIZE}
+use Rattle.file_pass.proofs.Flagging.{unchanged_none}
 use Rattle.file_pass.proofs.Joining.{tree_then, tree_opens, tree_closes, takes_file, fills_file, takes_missed, takes_lost}
 use Rattle.file_pass.proofs.taking.open_path.Goals as goal
 
@@ -21,7 +22,7 @@ returns-in-Ok-File-clause-ok g c =
     takes_file g.T.Tree.meaning g.D.Disk.meaning (rules_in c.args.setup.now) c.args.setup.now.first c.args.path.now c.requires.included file c.args.taking.now.tracker c.args.tree.now c.open_file.new.self c.take_opened-found.new.tree c.close.new.self
     (told_weaker (Opens c.args.path.now (Ok (File c.in-Ok-File.handle c.in-Ok-File.size))) (OpensFile c.args.path.now file.handle.0 file.size) (g.T.Tree.meaning.world c.args.tree.now) (g.T.Tree.meaning.world c.open_file.new.self) (λ x y o. o) (rw c.as_str.ensures at opened.history))
     c.close.ensures.history opened.cause c.close.ensures.cause
-    c.take_opened-found.new.taking.tracker _ c.args.taking.now.end c.take_opened-found.new.taking.end c.args.disk.now c.take_opened-found.new.disk takes)
+    c.take_opened-found.new.taking.tracker found c.args.taking.now.end c.take_opened-found.new.taking.end c.args.disk.now c.take_opened-found.new.disk c.open_file.ensures.taken c.close.ensures.taken takes)
     c.take_opened-found.ensures.ok
 
 pub returns-in-Ok-File-clause-full : goal.returns-in-Ok-File-clause-full
@@ -46,20 +47,20 @@ returns-in-Ok-Gone-clause-ok g c =
     let opened = rw c.in-Ok-Gone.field-0-is at c.in-Ok-Gone.ensures in
     takes_lost g.T.Tree.meaning g.D.Disk.meaning (rules_in c.args.setup.now) c.args.setup.now.first c.args.path.now c.args.taking.now.tracker c.args.taking.now.end c.args.tree.now c.open_file.new.self c.args.disk.now
     (λ (history : History). kind_at (names history) c.args.path.now ≡ None) (λ history none some. (let never : None ≡ Some PlainFile = sym none ∙ some in cc))
-    (told_weaker (Opens c.args.path.now (Ok Gone)) _ (g.T.Tree.meaning.world c.args.tree.now) (g.T.Tree.meaning.world c.open_file.new.self) (λ x y o. o) (rw c.as_str.ensures at opened.history)) opened.cause
+    (told_weaker (Opens c.args.path.now (Ok Gone)) _ (g.T.Tree.meaning.world c.args.tree.now) (g.T.Tree.meaning.world c.open_file.new.self) (λ x y o. o) (rw c.as_str.ensures at opened.history)) opened.cause c.open_file.ensures.taken
 
 pub returns-in-Ok-NotAFile-clause-ok : goal.returns-in-Ok-NotAFile-clause-ok
 returns-in-Ok-NotAFile-clause-ok g c =
     let opened = rw c.in-Ok-NotAFile.field-0-is at c.in-Ok-NotAFile.ensures in
     takes_lost g.T.Tree.meaning g.D.Disk.meaning (rules_in c.args.setup.now) c.args.setup.now.first c.args.path.now c.args.taking.now.tracker c.args.taking.now.end c.args.tree.now c.open_file.new.self c.args.disk.now
     (λ (history : History). kind_at (names history) c.args.path.now ≡ Some Folder) (λ history folder some. (let never : Some Folder ≡ Some PlainFile = sym folder ∙ some in cc))
-    (told_weaker (Opens c.args.path.now (Ok NotAFile)) _ (g.T.Tree.meaning.world c.args.tree.now) (g.T.Tree.meaning.world c.open_file.new.self) (λ x y o. o) (rw c.as_str.ensures at opened.history)) opened.cause
+    (told_weaker (Opens c.args.path.now (Ok NotAFile)) _ (g.T.Tree.meaning.world c.args.tree.now) (g.T.Tree.meaning.world c.open_file.new.self) (λ x y o. o) (rw c.as_str.ensures at opened.history)) opened.cause c.open_file.ensures.taken
 
 pub returns-in-Err-Failed-clause-ok : goal.returns-in-Err-Failed-clause-ok
 returns-in-Err-Failed-clause-ok g c =
     let opened = rw c.in-Err-Failed.field-0-is at c.in-Err-Failed.ensures in
     takes_missed g.T.Tree.meaning g.D.Disk.meaning (rules_in c.args.setup.now) c.args.setup.now.first c.args.path.now c.args.taking.now.tracker c.args.taking.now.end c.args.tree.now c.open_file.new.self c.args.disk.now
-    (told_weaker (Opens c.args.path.now (Err Failed)) _ (g.T.Tree.meaning.world c.args.tree.now) (g.T.Tree.meaning.world c.open_file.new.self) (λ x y o. o) (rw c.as_str.ensures at opened.history)) opened.cause
+    (told_weaker (Opens c.args.path.now (Err Failed)) _ (g.T.Tree.meaning.world c.args.tree.now) (g.T.Tree.meaning.world c.open_file.new.self) (λ x y o. o) (rw c.as_str.ensures at opened.history)) opened.cause c.open_file.ensures.taken
 
 pub returns-in-Ok-Gone-clause-tree : goal.returns-in-Ok-Gone-clause-tree
 returns-in-Ok-Gone-clause-tree g c =
@@ -76,3 +77,12 @@ returns-in-Err-Failed-clause-tree g c =
 pub returns-in-Err-Memory-clause-tree : goal.returns-in-Err-Memory-clause-tree
 returns-in-Err-Memory-clause-tree g c =
     tree_opens g.T.Tree.meaning BUFFER_SIZE c.as_str.result.now c.open_file.result c.args.tree.now c.open_file.new.self c.open_file.ensures.history c.open_file.ensures.cause c.open_file.ensures.nameless c.open_file.ensures.taken c.open_file.ensures.widest c.open_file.ensures.plan c.open_file.ensures.bound
+
+pub returns-in-Ok-Gone-clause-flags : goal.returns-in-Ok-Gone-clause-flags
+returns-in-Ok-Gone-clause-flags g c = unchanged_none c.args.taking.now.tracker c.args.taking.now.changed.items
+
+pub returns-in-Ok-NotAFile-clause-flags : goal.returns-in-Ok-NotAFile-clause-flags
+returns-in-Ok-NotAFile-clause-flags g c = unchanged_none c.args.taking.now.tracker c.args.taking.now.changed.items
+
+pub returns-in-Err-Failed-clause-flags : goal.returns-in-Err-Failed-clause-flags
+returns-in-Err-Failed-clause-flags g c = unchanged_none c.args.taking.now.tracker c.args.taking.now.changed.items

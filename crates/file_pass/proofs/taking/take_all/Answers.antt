@@ -7,7 +7,7 @@ use Rattle.file_pass.specs.declared.fault.PassFault.TheVariants.{OutputFull}
 use Rattle.file_pass.specs.declared.taking.TheConstants.{BUFFER_SIZE}
 use Rattle.file_pass.proofs.DiskLemmas.{keeps_disk_none, keeps_disk_then, ends_then}
 use Rattle.file_pass.proofs.Joining.{tree_none, tree_then, takes_all_none, takes_all_more, takes_all_fill, one_more, firsts_more}
-use Rattle.file_pass.proofs.Saning.{unchanged_none, unchanged_then}
+use Rattle.file_pass.proofs.Flagging.{unchanged_none, unchanged_then}
 use Rattle.file_pass.proofs.taking.take_all.Goals as goal
 
 pub loop-path-init : goal.loop-path-init

@@ -1,17 +1,17 @@
 use Rattle.std.proofs.Common.{◌≡◌, ◌<◌, ◌≤◌, length, min, sym, ap, subst, arith, refl, Err}
 use Rattle.std.proofs.lemmas.Grind.{common_steps}
 use Rattle.file_pass.specs.Fed.{rules_in}
-use Rattle.file_pass.specs.Gain.{gain_of}
 use Rattle.file_pass.specs.declared.ending.Ending.TheVariants.{Whole}
 use Rattle.file_pass.specs.declared.fault.PassFault.TheVariants.{OutputFull}
 use Rattle.file_pass.specs.declared.taking.TheConstants.{BUFFER_SIZE}
-use Rattle.file_pass.proofs.Joining.{takes_idle, tree_then, front_unread, front_takes, front_fills, front_tree}
+use Rattle.file_pass.proofs.Flagging.{unchanged_none}
+use Rattle.file_pass.proofs.Joining.{finds_idle, tree_then, front_unread, front_takes, front_fills, front_tree}
 use Rattle.file_pass.proofs.Opening.{open_nothing}
 use Rattle.file_pass.proofs.taking.take_opened.Goals as goal
 
 pub returns-then-file-eq0-clause-ok : goal.returns-then-file-eq0-clause-ok
 returns-then-file-eq0-clause-ok g c =
-    takes_idle g.T.Tree.meaning g.D.Disk.meaning _ _ c.args.taking.now.end c.args.tree.now c.args.disk.now refl refl
+    finds_idle g.T.Tree.meaning g.D.Disk.meaning _ _ c.args.taking.now.end c.args.tree.now c.args.disk.now refl refl
     (λ world. open_nothing (rules_in c.args.setup.now) c.args.setup.now.first c.args.path.now c.args.file c.args.taking.now.tracker world c.if-file-eq0.true)
 
 pub returns-then-not-is_whole-clause-ok : goal.returns-then-not-is_whole-clause-ok
@@ -19,7 +19,7 @@ returns-then-not-is_whole-clause-ok g c =
     let many : length c.read_front-ending.new.front ≡ min (rules_in c.args.setup.now).front_size c.args.file.size = grind (arith, common_steps) in
     let some : 0 < c.args.file.size = omega arith in
     front_unread g.T.Tree.meaning g.D.Disk.meaning (rules_in c.args.setup.now) c.args.setup.now.first c.args.path.now c.args.file some c.args.taking.now.tracker c.read_front-ending.new.front _ c.read_front-ending.result.0 c.read_front-ending.result.1 c.args.tree.now c.read_front-ending.new.tree
-    c.read_front-ending.ensures.tree c.read_front-ending.ensures.long many c.args.taking.now.end c.args.disk.now (c.is_whole.ensures.no c.if-not-is_whole.true)
+    c.read_front-ending.ensures.tree c.read_front-ending.ensures.long many c.args.taking.now.end c.args.disk.now (c.is_whole.ensures.no c.if-not-is_whole.true) (omega (arith, many, c.read_front-ending.ensures.within))
 
 pub returns-in_err-found-clause-full : goal.returns-in_err-found-clause-full
 returns-in_err-found-clause-full g c = λ size is.
@@ -46,7 +46,7 @@ returns-clause-ok g c =
     let some : 0 < c.args.file.size = omega arith in
     let whole : c.read_front-ending.result.1 ≡ Whole = c.is_whole.ensures.yes c.if-not-is_whole.false in
     front_takes g.T.Tree.meaning g.D.Disk.meaning (rules_in c.args.setup.now) c.args.setup.now.first c.args.path.now c.args.file some c.args.taking.now.tracker c.read_front-ending.new.front _ c.read_front-ending.result.0 c.read_front-ending.result.1 c.args.tree.now c.read_front-ending.new.tree
-    c.read_front-ending.ensures.tree c.read_front-ending.ensures.long many whole (c.read_front-ending.ensures.whole whole) c.take_seen.new.tree c.take_seen.new.taking.tracker (gain_of c.in_ok-found.found) c.args.taking.now.end c.take_seen.new.taking.end c.args.disk.now c.take_seen.new.disk
+    c.read_front-ending.ensures.tree c.read_front-ending.ensures.long many whole (c.read_front-ending.ensures.whole whole) c.take_seen.new.tree c.take_seen.new.taking.tracker c.in_ok-found.found c.args.taking.now.end c.take_seen.new.taking.end c.args.disk.now c.take_seen.new.disk
     c.in_ok-found.ensures.ok
 
 pub returns-clause-tree : goal.returns-clause-tree
@@ -58,3 +58,9 @@ returns-clause-tree g c =
     (front_tree g.T.Tree.meaning g.D.Disk.meaning (rules_in c.args.setup.now) c.args.setup.now.first c.args.path.now c.args.file some c.args.taking.now.tracker c.read_front-ending.new.front _ c.read_front-ending.result.0 c.read_front-ending.result.1 c.args.tree.now c.read_front-ending.new.tree
     c.read_front-ending.ensures.tree c.read_front-ending.ensures.long many BUFFER_SIZE (subst (λ n. n ≤ BUFFER_SIZE) c.read_front-ending.ensures.long narrow))
     c.take_seen.ensures.tree
+
+pub returns-then-file-eq0-clause-flags : goal.returns-then-file-eq0-clause-flags
+returns-then-file-eq0-clause-flags g c = unchanged_none c.args.taking.now.tracker c.args.taking.now.changed.items
+
+pub returns-then-not-is_whole-clause-flags : goal.returns-then-not-is_whole-clause-flags
+returns-then-not-is_whole-clause-flags g c = unchanged_none c.args.taking.now.tracker c.args.taking.now.changed.items

@@ -3,6 +3,7 @@ use Rattle.standing.specs.AreRules.{AreRules}
 use Rattle.file_tracker.specs.declared.row.Row.{Row}
 use Rattle.file_pass.specs.Fed.{rules_in}
 use Rattle.file_pass.specs.declared.fault.PassFault.TheVariants.{OutputFull}
+use Rattle.file_pass.proofs.Flagging.{unchanged_none}
 use Rattle.file_pass.proofs.Joining.{tree_wider}
 use Rattle.file_pass.proofs.RowLemmas.{takes_shorter, row_full, takes_on_row, note_same, sane_on_row, lines_later}
 use Rattle.file_pass.proofs.taking.take_row.Goals as goal
@@ -40,7 +41,7 @@ returns-clause-ok g c =
     c.read_on.new.feeding c.read_on.new.end c.in_ok-ending.ending c.has_more.result (c.read_on.new.feeding.state.lines - row.lines) c.note_progress.new.taking.tracker c.args.disk.now c.read_on.new.disk on
     c.has_more.ensures.whole c.has_more.ensures.not_whole
     (lines_later c.args.setup.now laws row c.in_ok-feeding.feeding c.read_on.new.feeding on.given (c.requires.sane.rows c.args.place row c.row-row.ensures).state c.in_ok-feeding.ensures.row on.row)
-    (c.note_progress.ensures.row row c.row-row.ensures))
+    (c.note_progress.ensures.row row c.row-row.ensures) c.read_on.ensures.tree.taken_then)
 
 pub returns-clause-sane : goal.returns-clause-sane
 returns-clause-sane g c =
@@ -52,3 +53,6 @@ returns-clause-sane g c =
 
 pub returns-clause-tree : goal.returns-clause-tree
 returns-clause-tree g c = tree_wider g.T.Tree.meaning _ _ _ c.args.tree.now c.read_on.new.tree c.requires.room.1 c.read_on.ensures.tree
+
+pub returns-then-file-row-clause-flags : goal.returns-then-file-row-clause-flags
+returns-then-file-row-clause-flags g c = unchanged_none c.args.taking.now.tracker c.args.taking.now.changed.items

@@ -4,10 +4,11 @@ use Rattle.standing.specs.AreRules.{AreRules}
 use Rattle.standing.specs.Limits.{is_compressed}
 use Rattle.file_pass.specs.Fed.{rules_in}
 use Rattle.file_pass.specs.declared.fault.PassFault.TheVariants.{OutputFull}
+use Rattle.file_pass.proofs.Flagging.{unchanged_none, unchanged_then}
 use Rattle.file_pass.proofs.Bridging.{seen_taken}
 use Rattle.file_pass.proofs.Filling.{seen_fills}
 use Rattle.file_pass.proofs.Finding.{settled_within}
-use Rattle.file_pass.proofs.Joining.{takes_idle, takes_same}
+use Rattle.file_pass.proofs.Joining.{finds_idle, finds_same}
 use Rattle.file_pass.proofs.Opening.{seen_compressed, seen_full}
 use Rattle.file_pass.proofs.RowLemmas.{fresh_none}
 use Rattle.file_pass.proofs.taking.take_seen.Goals as goal
@@ -15,7 +16,7 @@ use Rattle.file_pass.proofs.taking.take_seen.Goals as goal
 pub returns-then-starts_with-clause-ok : goal.returns-then-starts_with-clause-ok
 returns-then-starts_with-clause-ok g c =
     let some : 0 < c.args.file.size = omega (arith, c.requires.begins, c.requires.front.0) in
-    takes_idle g.T.Tree.meaning g.D.Disk.meaning _ _ c.args.taking.now.end c.args.tree.now c.args.disk.now refl refl
+    finds_idle g.T.Tree.meaning g.D.Disk.meaning _ _ c.args.taking.now.end c.args.tree.now c.args.disk.now refl refl
     (λ world. seen_compressed (rules_in c.args.setup.now) c.args.setup.now.first c.args.path.now c.args.file c.args.taking.now.tracker world c.args.front.now (cc) some)
 
 pub take_row-requires-clause-in_range : goal.take_row-requires-clause-in_range
@@ -28,8 +29,8 @@ returns-in_ok-found-in-Some-clause-ok g c =
     let some : 0 < c.args.file.size = omega (arith, c.requires.begins, c.requires.front.0) in
     let plain : is_compressed c.args.front.now ≡ false = sym c.starts_with.ensures.value ∙ c.if-starts_with.false in
     rw (sym c.in_ok-place.ensures.end)
-    (takes_same g.T.Tree.meaning g.D.Disk.meaning _ _ _ c.settle.new.taking.end c.take_row.new.taking.end c.args.tree.now c.take_row.new.tree c.args.disk.now c.take_row.new.disk
-    (λ added x y taken. seen_taken c.args.setup.now (fresh_none c.args.setup.now laws) c.args.path.now c.args.file c.args.front.now plain some c.args.taking.now.tracker c.settle.new.taking.tracker c.take_row.new.taking.tracker c.in-Some.place added c.in_ok-found-in-Some.found x y
+    (finds_same g.T.Tree.meaning g.D.Disk.meaning _ _ c.in_ok-found-in-Some.found c.settle.new.taking.end c.take_row.new.taking.end c.args.tree.now c.take_row.new.tree c.args.disk.now c.take_row.new.disk
+    (λ count added x y taken. seen_taken c.args.setup.now (fresh_none c.args.setup.now laws) c.args.path.now c.args.file c.args.front.now plain some c.args.taking.now.tracker c.settle.new.taking.tracker c.take_row.new.taking.tracker c.in-Some.place added c.in_ok-found-in-Some.found count x y
     (rw c.in-Some.is at c.in_ok-place.ensures.settles) taken) c.in_ok-found-in-Some.ensures.ok)
 
 pub returns-in_err-found-in-Some-clause-full : goal.returns-in_err-found-in-Some-clause-full
@@ -49,5 +50,12 @@ returns-in-None-clause-ok g c =
     let some : 0 < c.args.file.size = omega (arith, c.requires.begins, c.requires.front.0) in
     let plain : is_compressed c.args.front.now ≡ false = sym c.starts_with.ensures.value ∙ c.if-starts_with.false in
     rw c.in_ok-place.ensures.end
-    (takes_idle g.T.Tree.meaning g.D.Disk.meaning _ _ c.args.taking.now.end c.args.tree.now c.args.disk.now refl refl
+    (finds_idle g.T.Tree.meaning g.D.Disk.meaning _ _ c.args.taking.now.end c.args.tree.now c.args.disk.now refl refl
     (λ world. seen_full (rules_in c.args.setup.now) c.args.setup.now.first c.args.path.now c.args.file c.args.taking.now.tracker world c.args.front.now c.settle.new.taking.tracker plain some (rw c.in-None.is at c.in_ok-place.ensures.settles)))
+
+pub returns-then-starts_with-clause-flags : goal.returns-then-starts_with-clause-flags
+returns-then-starts_with-clause-flags g c = unchanged_none c.args.taking.now.tracker c.args.taking.now.changed.items
+
+pub returns-in_ok-found-in-Some-clause-flags : goal.returns-in_ok-found-in-Some-clause-flags
+returns-in_ok-found-in-Some-clause-flags g c =
+    unchanged_then c.args.taking.now.tracker c.settle.new.taking.tracker c.take_row.new.taking.tracker c.args.taking.now.changed.items c.settle.new.taking.changed.items c.take_row.new.taking.changed.items c.in_ok-place.ensures.flags c.in_ok-found-in-Some.ensures.flags
