@@ -14,3 +14,14 @@ pub mod Reopens
 pub mod OpenCause
 pub mod OpenFaults
 pub mod Making
+pub mod Taken
+pub mod Next
+pub mod PollCause
+pub mod Summed
+pub mod Polled
+pub mod Overflows
+pub mod Begun
+pub mod Passed
+pub mod Kept
+pub mod KeepsPlan
+pub mod Since

@@ -1,28 +1,40 @@
 //! What the definitions imply, for those who open sessions. The functions do nothing; their clauses are the laws.
-ghost use Rattle.std.specs.Prelude.{◌≡◌, ◌↔◌, ◌≤◌, ℕ, List, length, Option, None};
+ghost use Rattle.std.specs.Prelude.{◌≡◌, ◌↔◌, ◌<◌, ◌≤◌, ◌++◌, ℕ, Contains, List, length, Option, None};
 ghost use Rattle.checkpoint_journal.specs.JournalOf.{HasJournal, HasCheckpoint, IsBadAt};
 ghost use Rattle.checkpoint_journal.specs.declared.journal.Journal.{Journal};
 ghost use Rattle.checkpoint_store.specs.declared.Checkpoint.{Checkpoint};
+ghost use Rattle.file_pass.specs.Full.{lines_text};
 ghost use Rattle.outside.specs.Image.{Image};
-ghost use Rattle.outside.specs.World.{History};
+ghost use Rattle.outside.specs.Lawful.{IsLawful};
+ghost use Rattle.outside.specs.World.{History, World};
 ghost use Rattle.outside.specs.declared.disk.DiskFile.{DiskFile};
 ghost use Rattle.pipeline.specs.AsRules.{rules_of};
 ghost use Rattle.pipeline.specs.declared.Pipeline.{Pipeline};
+ghost use Rattle.poll_core.specs.Checkpoints.{standing_checkpoint};
 ghost use Rattle.poll_core.specs.Differs.{DiffersAt};
 ghost use Rattle.poll_core.specs.Found.{IsFound};
 ghost use Rattle.poll_core.specs.IsSession.{IsSession};
 ghost use Rattle.poll_core.specs.MadeOf.{IsMadeOf, HasRules};
 ghost use Rattle.poll_core.specs.OpenFaults.{IsRefused};
+ghost use Rattle.poll_core.specs.Polled.{ComesAfter, Gains, IsSoundIn, IsSummed, Stays, Steps, TreeCounts};
 ghost use Rattle.poll_core.specs.Remembers.{GoesOnFrom, IsLeftBy};
 ghost use Rattle.poll_core.specs.Reopens.{Reopens};
 ghost use Rattle.poll_core.specs.Sequence.{HasSequence};
 ghost use Rattle.poll_core.specs.SessionParts.{checkpoint_of_session, rules_of_session, kept_of, journal_of_session};
+ghost use Rattle.poll_core.specs.Summed.{TellsAll};
 ghost use Rattle.poll_core.specs.declared.fault.OpenFault.{OpenFault};
 ghost use Rattle.poll_core.specs.declared.fault.OpenFault.TheVariants.{SettingsChanged};
 ghost use Rattle.poll_core.specs.declared.session.Session.{Session};
-ghost use Rattle.standing.specs.Rules.{Rules};
+ghost use Rattle.poll_core.specs.declared.summary.Summary.{Summary};
+ghost use Rattle.standing.specs.Apart.{Apart};
+ghost use Rattle.standing.specs.AreRules.{AreRules};
+ghost use Rattle.standing.specs.Look.{Look, size};
+ghost use Rattle.standing.specs.Marks.{Mark};
+ghost use Rattle.standing.specs.Moments.{IsLater, IsNamed, KeepsNames};
+ghost use Rattle.standing.specs.Rules.{Includes, Rules};
 ghost use Rattle.standing.specs.Standing.{Found, nothing, Sound, Standing, kept, checkpoint_of};
-ghost use Rattle.standing.specs.Stands.{IsSound};
+ghost use Rattle.standing.specs.Stands.{IsSound, Stands};
+ghost use Rattle.standing.specs.Sums.{IsReached};
 
 use glob_match::laws::text_spells_one_pattern;
 
@@ -95,4 +107,36 @@ pub fn a_session_begins_with_what_was_found()
         → IsFound image there → checkpoint_of (rules_of_session session) there ≡ checkpoint_of_session session }
     ensures first { (session : Session) (image : Image DiskFile) (there : Found) → GoesOnFrom session image
         → IsFound image there → (journal_of_session session ≡ None) ↔ (there ≡ nothing) }
+{}
+
+/// Whatever a poll leaves is sound, whether or not the tree tells its history, and what was kept of the output is kept: a
+/// step that only stays keeps it, and one that gains keeps it and the lines behind it.
+pub fn polling_keeps_what_is_kept()
+    ensures stays { (session : Session) (old new : Image DiskFile) → IsSession session → IsLeftBy session old
+        → Stays session old new → IsSoundIn (rules_of_session session) new }
+    ensures sound { (session : Session) (next : Checkpoint) (added : List Mark) (old new : Image DiskFile)
+        → IsSession session → ComesAfter session next added → IsLeftBy session old → Steps session next added old new
+        → IsSoundIn (rules_of_session session) new }
+    ensures kept { (session : Session) (old new : Image DiskFile) (there after : Found) → IsLeftBy session old
+        → Stays session old new → IsFound old there → IsFound new after
+        → kept after (new DiskFile.Output) ≡ kept there (old DiskFile.Output) }
+    ensures longer { (session : Session) (next : Checkpoint) (added : List Mark) (old new : Image DiskFile)
+        (there after : Found) → ComesAfter session next added → IsLeftBy session old → Gains session next added old new
+        → IsFound old there → IsFound new after
+        → kept after (new DiskFile.Output) ≡ kept there (old DiskFile.Output) ++ lines_text added }
+{}
+
+/// After a poll whose summary tells that nothing was left or passed over, and in which no name was given or taken, each file
+/// that has a path to be read was looked at, and unless it was empty then, all that its bytes had then is taken.
+pub fn a_complete_poll_reaches_all()
+    ensures { (session : Session) (next : Checkpoint) (added : List Mark) (summary : Summary) (count count_after : TreeCounts)
+        (old new : World) (summed : IsSummed session next added summary count count_after old new)
+        → TellsAll summary → (output path : List ℕ) (file : ℕ) → AreRules (rules_of_session session)
+        → IsLater old.history new.history → Apart (rules_of_session session).front_size new.history
+        → IsLawful new.history → KeepsNames old.history new.history
+        → Stands (rules_of_session session) old.history (checkpoint_of_session session).rows
+        (checkpoint_of_session session).next_id output
+        → Includes (rules_of_session session) path → IsNamed new.history path file
+        → (here : Look) × Contains summed.looks here × (here.file ≡ file)
+        × (0 < size here → IsReached (rules_of_session session) new.history (standing_checkpoint next).rows here) }
 {}

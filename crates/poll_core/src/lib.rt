@@ -1,4 +1,4 @@
-//! Sessions: what the agent remembers between two looks at its files, and the disk that it stands on.
+//! Sessions: what the agent remembers between two polls of its files, and the disk that it stands on.
 //!
 //! **The contract for the layer above.** A session stands on a disk (`StandsOn` of `specs/StandsOn`) where a crash leaves
 //! one image alone, whose checkpoint is the session's and whose output is exactly as long as what is kept of it.
@@ -6,6 +6,11 @@
 //! what stands on the disk (`IsSettingsRefusal`, `IsRefused` of `specs/OpenFaults`). Whatever it answers, at each moment a
 //! crash leaves an image from before that has lost at most what stands behind the journal and behind what is kept of the
 //! output (`Reopens` of `specs/Reopens`); so it keeps what the image stood for ([`laws`]).
+//!
+//! [`Session::poll`] goes on from there. On Ok the next session stands on the disk, and what became of the rows and of the
+//! output is a pass of `standing` over a tree that tells its history (`Polled` of `specs/Polled`). Whatever it answers, at
+//! each moment a crash leaves the session's checkpoint, or that of the pass beside its lines (`Stays`, `MayGain`); so what
+//! stood for the files before stands for them afterwards (`KeepsStandingSince` of `specs/Since`).
 #![tactic(auto)]
 
 mod cutting;
@@ -13,7 +18,13 @@ mod fault;
 pub mod laws;
 mod making;
 mod opening;
+mod poll_fault;
+mod polling;
+mod saving;
 mod session;
+mod summary;
 
 pub use fault::OpenFault;
+pub use poll_fault::PollFault;
 pub use session::Session;
+pub use summary::Summary;

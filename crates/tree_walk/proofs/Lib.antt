@@ -1,8 +1,8 @@
 mod Entering
 mod FolderLemmas
 mod Lasting
-mod Lists
+pub mod Lists
 mod Naming
 mod Reaching
 mod Still
-mod Worlds
+pub mod Worlds

@@ -1,0 +1,129 @@
+-- What a pass that came to its end is, over a tree that may tell its history.
+use Rattle.std.proofs.Common.{◌≡◌, ◌⊎◌, ℕ, ◌+◌, ◌≤◌, List, length, Bool, Option, None, Some, refl, sym, ap, subst, ◌∙◌, arith}
+use Rattle.file_pass.specs.AllTaken.{AllTaken}
+use Rattle.file_pass.specs.Fed.{rules_in}
+use Rattle.file_pass.specs.Full.{lines_text}
+use Rattle.file_pass.specs.Gain.{Counted, Gain}
+use Rattle.file_pass.specs.Turns.{looks_of}
+use Rattle.file_pass.specs.declared.counts.Counts.{Counts}
+use Rattle.file_pass.specs.declared.setup.Setup.{Setup}
+use Rattle.file_pass.specs.declared.taking.Taking.{Taking}
+use Rattle.file_tracker.specs.declared.row.Row.{Row as SavedRow}
+use Rattle.outside.specs.Count.{raised}
+use Rattle.outside.specs.DiskMeaning.{DiskMeaning}
+use Rattle.outside.specs.Lawful.{IsLawful, TellsLawful}
+use Rattle.outside.specs.TreeMeaning.{TreeMeaning}
+use Rattle.outside.specs.World.{World, Told}
+use Rattle.poll_core.proofs.PollPass.{Joined, are_deep, joined, no_deep_out, summed}
+use Rattle.poll_core.specs.Begun.{no_counts}
+use Rattle.poll_core.specs.Passed.{Passed}
+use Rattle.poll_core.specs.Polled.{IsPass, IsSummed, RoseBy, TreeCounts, counts_of, is_first}
+use Rattle.poll_core.specs.SessionParts.{rules_of_session, kept_of}
+use Rattle.poll_core.specs.Summed.{IsSummaryOf, HasDeepFolder}
+use Rattle.poll_core.specs.Taken.{taken_checkpoint}
+use Rattle.poll_core.specs.declared.session.Session.{Session}
+use Rattle.poll_core.specs.declared.summary.Summary.{Summary}
+use Rattle.standing.specs.Marks.{Mark}
+use Rattle.standing.specs.Pass.{WasHidden}
+use Rattle.standing.specs.Rules.{Rules}
+use Rattle.standing.specs.Sums.{capped}
+use Rattle.tree_walk.specs.Walked.{Ascends, FindsIn}
+use Rattle.tree_walk.specs.declared.walk.Walk.{Walk}
+
+-- ---- over a told history
+
+module _ (session : Session) (taking : Taking) (paths deep : List (List ℕ)) (fails unnamed : ℕ) (gain : Gain) (added : List Mark) (counts counts_after : TreeCounts) (mid_count : ℕ) (sorted : Ascends paths) (end_is : taking.end ≡ kept_of session + length (lines_text added)) (rose : raised counts.faults fails ≤ mid_count) (rose_then : raised mid_count gain.failed ≤ counts_after.faults) (read : counts_after.taken ≤ counts.taken + gain.taken) where
+  abbrev Found : World → World → Type 0
+  Found = FindsIn (rules_of_session session).include (rules_of_session session).exclude paths deep fails unnamed
+
+  abbrev Took : World → World → Type 0
+  Took = AllTaken (rules_of_session session) (is_first session) paths session.tracker taking.tracker gain added
+
+  join : (old mid new : World) (found : Found old mid) (took : Took mid new) → Joined (rules_of_session session) (is_first session) paths deep fails unnamed session.tracker taking.tracker gain added old mid new found took sorted session.settings (kept_of session) taking.end counts.faults counts_after.faults
+  join old mid new found took =
+      joined (rules_of_session session) (is_first session) paths deep fails unnamed session.tracker taking.tracker gain added old mid new found took sorted session.settings (kept_of session) taking.end counts.faults mid_count counts_after.faults refl end_is rose rose_then
+
+  pass_told : (old mid new : Option World) → Told Found old mid → Told Took mid new → Told (IsPass session (taken_checkpoint session.settings taking) added counts counts_after) old new
+  pass_told None None None found took = tt
+  pass_told None None (Some new) found took = absurd took
+  pass_told None (Some mid) new found took = absurd found
+  pass_told (Some old) None new found took = absurd found
+  pass_told (Some old) (Some mid) None found took = absurd took
+  pass_told (Some old) (Some mid) (Some new) found took = record { looks = looks_of took.turns; pass = (join old mid new found took).pass; read = omega (arith, read, took.gains.taken) }
+
+  module _ (walk : Walk) (summary : Summary) (counted : Counted no_counts gain taking.counts) (is : IsSummaryOf walk taking summary) (failed : walk.failed ≡ capped (fails + unnamed)) (deep_once : Ascends deep) (deep_is : walk.deep ≡ capped (length deep)) (lines : gain.lines ≡ length added) where
+    sums_of_one : (old mid new : World) → Found old mid → Took mid new → IsLawful new.history → IsSummed session (taken_checkpoint session.settings taking) added summary counts counts_after old new
+    sums_of_one old mid new found took lawful =
+        let j = join old mid new found took in
+        let rules : Rules = rules_of_session session in
+        record {
+          looks = looks_of took.turns;
+          pass = j.pass;
+          read = omega (arith, read, took.gains.taken);
+          sums = summed rules (is_first session) paths deep fails unnamed session.tracker taking.tracker gain added old mid new found took sorted walk taking summary session.settings (kept_of session) counts.faults counts_after.faults j lawful counted is failed lines;
+          deep = deep;
+          deep_once = deep_once;
+          deep_is = is.deep ∙ deep_is;
+          are_deep = are_deep rules (is_first session) paths deep fails unnamed session.tracker taking.tracker gain added old mid new found took sorted;
+          no_deep_left_out = λ path file included beyond throughout.
+              subst (λ (unlisteds : List (List ℕ)). HasDeepFolder deep path ⊎ WasHidden j.pass.misses unlisteds path) (sym j.unlisteds_are)
+              (subst (λ (misses : List (List ℕ)). HasDeepFolder deep path ⊎ WasHidden misses found.unlisteds path) (sym j.misses_are)
+              (no_deep_out rules (is_first session) paths deep fails unnamed session.tracker taking.tracker gain added old mid new found took sorted path file included beyond throughout));
+        }
+
+    sums_told : (old mid new : Option World) → Told Found old mid → Told Took mid new → TellsLawful new → Told (IsSummed session (taken_checkpoint session.settings taking) added summary counts counts_after) old new
+    sums_told None None None found took lawful = tt
+    sums_told None None (Some new) found took lawful = absurd took
+    sums_told None (Some mid) new found took lawful = absurd found
+    sums_told (Some old) None new found took lawful = absurd found
+    sums_told (Some old) (Some mid) None found took lawful = absurd took
+    sums_told (Some old) (Some mid) (Some new) found took lawful = sums_of_one old mid new found took lawful
+
+-- ---- over any tree
+
+module _ {T D : Type 0} (trees : TreeMeaning T) (disks : DiskMeaning D) (session : Session) (setup : Setup) (walk : Walk) (taking : Taking) (tree tree_after : T) (disk disk_after : D) (rules_are : rules_in setup ≡ rules_of_session session) (first_is : setup.first ≡ is_first session) (passed : Passed trees disks setup session.tracker session.kept walk taking tree tree_after disk disk_after) where
+  pub added_by : List Mark
+  added_by = passed.takes.takes.added
+
+  gain_by : Gain
+  gain_by = passed.takes.gain
+
+  pub end_by : taking.end ≡ kept_of session + length (lines_text passed.takes.takes.added)
+  end_by = passed.takes.takes.appends.end_is ∙ ap (λ (n : ℕ). n + length (lines_text passed.takes.takes.added)) passed.is_begun.end_is
+
+  found_by : Told (FindsIn (rules_of_session session).include (rules_of_session session).exclude walk.paths.items passed.finds.deep_folders passed.finds.fails passed.finds.unnamed) (trees.world tree) (trees.world passed.between)
+  found_by = subst (λ (rules : Rules). Told (FindsIn rules.include rules.exclude walk.paths.items passed.finds.deep_folders passed.finds.fails passed.finds.unnamed) (trees.world tree) (trees.world passed.between)) rules_are passed.finds.world
+
+  took_by : Told (AllTaken (rules_of_session session) (is_first session) walk.paths.items session.tracker taking.tracker passed.takes.gain passed.takes.takes.added) (trees.world passed.between) (trees.world tree_after)
+  took_by =
+      subst (λ (rows : List SavedRow). Told (AllTaken (rules_of_session session) (is_first session) walk.paths.items rows taking.tracker passed.takes.gain passed.takes.takes.added) (trees.world passed.between) (trees.world tree_after)) passed.is_begun.rows_are
+      (subst (λ (first : Bool). Told (AllTaken (rules_of_session session) first walk.paths.items passed.begun.tracker taking.tracker passed.takes.gain passed.takes.takes.added) (trees.world passed.between) (trees.world tree_after)) first_is
+      (subst (λ (rules : Rules). Told (AllTaken rules setup.first walk.paths.items passed.begun.tracker taking.tracker passed.takes.gain passed.takes.takes.added) (trees.world passed.between) (trees.world tree_after)) rules_are passed.takes.takes.world))
+
+  read_by : trees.taken tree_after ≤ trees.taken tree + passed.takes.gain.taken
+  read_by = omega (arith, passed.takes.takes.read, passed.walk_read)
+
+  pub is_pass : Told (IsPass session (taken_checkpoint session.settings taking) passed.takes.takes.added (counts_of trees tree) (counts_of trees tree_after)) (trees.world tree) (trees.world tree_after)
+  is_pass = pass_told session taking walk.paths.items passed.finds.deep_folders passed.finds.fails passed.finds.unnamed passed.takes.gain passed.takes.takes.added (counts_of trees tree) (counts_of trees tree_after) (trees.faults passed.between)
+      passed.finds.ascends end_by passed.finds.counts.rose passed.takes.takes.rose read_by (trees.world tree) (trees.world passed.between) (trees.world tree_after) found_by took_by
+
+  counted_by : Counted no_counts passed.takes.gain taking.counts
+  counted_by = subst (λ (counts : Counts). Counted counts passed.takes.gain taking.counts) passed.is_begun.counts_are passed.takes.counted
+
+  pub is_summed : (summary : Summary) → IsSummaryOf walk taking summary → TellsLawful (trees.world tree_after) → Told (IsSummed session (taken_checkpoint session.settings taking) passed.takes.takes.added summary (counts_of trees tree) (counts_of trees tree_after)) (trees.world tree) (trees.world tree_after)
+  is_summed summary is lawful = sums_told session taking walk.paths.items passed.finds.deep_folders passed.finds.fails passed.finds.unnamed passed.takes.gain passed.takes.takes.added (counts_of trees tree) (counts_of trees tree_after) (trees.faults passed.between)
+      passed.finds.ascends end_by passed.finds.counts.rose passed.takes.takes.rose read_by walk summary counted_by is passed.finds.failed passed.finds.deep_once passed.finds.deep passed.takes.takes.lines
+      (trees.world tree) (trees.world passed.between) (trees.world tree_after) found_by took_by lawful
+
+  pub lines_by : (summary : Summary) → IsSummaryOf walk taking summary → summary.lines ≡ length passed.takes.takes.added
+  lines_by summary is = omega (arith, is.lines, counted_by.lines, passed.takes.takes.lines)
+
+  -- each failure that is told raised the tree's count, and names that aren't UTF-8 that of names
+  pub rose_by : (summary : Summary) → IsSummaryOf walk taking summary → RoseBy trees summary.failed tree tree_after
+  rose_by summary is = record {
+    failures = passed.finds.fails + passed.takes.gain.failed;
+    unnamed = passed.finds.unnamed;
+    are = omega (arith, is.failed, counted_by.failed, passed.finds.failed);
+    rose = omega (arith, passed.finds.counts.rose, passed.takes.takes.rose);
+    rose_by_names = λ few. passed.nameless ∙ passed.finds.counts.nameless few;
+  }

@@ -1,0 +1,19 @@
+use Rattle.poll_core.proofs.SaveLemmas.{early_after_same, fewer_left, one_synced}
+use Rattle.poll_core.proofs.saving.save.Goals as goal
+
+pub returns-in_err-next-clause-early : goal.returns-in_err-next-clause-early
+returns-in_err-next-clause-early g c fewer =
+    let done = g.D.Disk.meaning.done in
+    early_after_same c.args.journal c.sync.ensures.crash
+    (c.put.ensures.early (fewer_left 4 (done c.args.disk.now) (done c.sync.new.self) (done c.put.new.disk) c.in_ok-sync.ensures.done fewer))
+
+pub returns-clause-one : goal.returns-clause-one
+returns-clause-one g c =
+    let images = g.D.Disk.meaning.images in
+    c.in_ok-next.ensures.one (one_synced c.requires.slots (record { crash = c.sync.ensures.crash; durable = c.in_ok-sync.ensures.durable; seen = c.sync.ensures.seen }))
+
+pub returns-clause-early : goal.returns-clause-early
+returns-clause-early g c fewer =
+    let done = g.D.Disk.meaning.done in
+    early_after_same c.args.journal c.sync.ensures.crash
+    (c.put.ensures.early (fewer_left 4 (done c.args.disk.now) (done c.sync.new.self) (done c.put.new.disk) c.in_ok-sync.ensures.done fewer))

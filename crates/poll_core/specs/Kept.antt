@@ -1,0 +1,30 @@
+-- What keeping a pass makes of a disk.
+use Rattle.std.specs.Prelude.{◌≡◌, ◌⊎◌, ℕ, List, Option, Some}
+use Rattle.checkpoint_journal.specs.Written.{IsWorn}
+use Rattle.checkpoint_journal.specs.declared.journal.Journal.{Journal}
+use Rattle.file_pass.specs.declared.taking.Taking.{Taking}
+use Rattle.outside.specs.Images.{Images}
+use Rattle.outside.specs.declared.disk.DiskFile.{DiskFile}
+use Rattle.outside.specs.declared.disk.DiskFile.TheVariants.{Output}
+use Rattle.poll_core.specs.Begun.{IsQuiet}
+use Rattle.poll_core.specs.Next.{IsNext, IsSavedIn}
+use Rattle.poll_core.specs.Taken.{taken_checkpoint}
+use Rattle.slot_store.specs.Committed.{LeavesOne}
+use Rattle.slot_store.specs.Synced.{EachLeft}
+
+-- The checkpoint of what was taken was written, and a crash leaves it beside the output that was read, and nothing else.
+pub record IsSaved {D : Type 0} (images : Images DiskFile D) (settings : List ℕ) (taking : Taking) (journal : Option Journal) (next : Journal) (old new : D) : Type 0 where
+  pub each : EachLeft images new (IsSavedIn next (taken_checkpoint settings taking) (images.seen old Output))
+  pub one : LeavesOne images new
+  pub next_is : IsNext journal next
+  pub not_worn : IsWorn journal → ⊥
+
+-- There was nothing to write, and nothing was.
+pub record IsLeft {D : Type 0} (journal after : Option Journal) (kept : ℕ) (taking : Taking) (old new : D) : Type 0 where
+  pub quiet : IsQuiet journal kept taking
+  pub same : after ≡ journal
+  pub still : new ≡ old
+
+abbrev pub Keeps : {D : Type 0} → Images DiskFile D → List ℕ → Taking → ℕ → Option Journal → Option Journal → D → D → Type 0
+Keeps images settings taking kept journal after old new = IsLeft journal after kept taking old new
+    ⊎ ((next : Journal) × (after ≡ Some next) × IsSaved images settings taking journal next old new)

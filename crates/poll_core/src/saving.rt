@@ -1,0 +1,266 @@
+// What a pass left is kept: the output is synced, and then the checkpoint follows it.
+ghost use Rattle.std.specs.Prelude.{◌≡◌, ℕ, ◌+◌, ◌^◌, ◌<◌, ◌≤◌, false, length, Err, Some, IsTrue, IfOk, IfSome, OnOk};
+ghost use Rattle.checkpoint_journal.specs.JournalOf.{EndsWith};
+ghost use Rattle.checkpoint_journal.specs.Written.{IsWorn};
+ghost use Rattle.checkpoint_store.specs.Rules.{IsCheckpoint};
+ghost use Rattle.checkpoint_store.specs.declared.TheConstants.{FRONT_LIMIT};
+ghost use Rattle.checkpoint_store.specs.Spelling.{checkpoint_spelling, row_spelling};
+ghost use Rattle.outside.specs.Crash.{Passes};
+ghost use Rattle.outside.specs.Image.{Image};
+ghost use Rattle.outside.specs.declared.disk.DiskFile.{DiskFile};
+ghost use Rattle.poll_core.specs.Begun.{IsQuiet};
+ghost use Rattle.poll_core.specs.IsSession.{IsShort};
+ghost use Rattle.poll_core.specs.Kept.{Keeps};
+ghost use Rattle.poll_core.specs.Next.{Costs, DifferInOutput, IsDue, IsNext, IsSavable, IsSavedIn, KeepsMemory, Puts, Saves, WrittenAtMost, cost_of_rows};
+ghost use Rattle.poll_core.specs.PollCause.{HasPollCause};
+ghost use Rattle.poll_core.specs.Taken.{taken_change, taken_checkpoint};
+ghost use Rattle.slot_store.specs.CommitCause.{HasCommitCause};
+ghost use Rattle.slot_store.specs.Committed.{LeavesOne};
+ghost use Rattle.slot_store.specs.Counted.{DoneFewer};
+ghost use Rattle.slot_store.specs.Frame.{last_number};
+ghost use Rattle.slot_store.specs.OnlyRead.{KeepsTerms};
+ghost use Rattle.slot_store.specs.Synced.{EachLeft};
+ghost use Rattle.state_codec.specs.Rules.{IsShortText};
+
+use crate::PollFault;
+use checkpoint_journal::laws::spellings_are_short;
+use checkpoint_journal::{Journal, NEWEST_VERSION, rewrite};
+use checkpoint_store::{Change, Checkpoint, Rows};
+use file_pass::Taking;
+use file_tracker::{Bytes, Row};
+use outside::{Disk, DiskFile};
+use slot_store::CommitFault;
+use std::alloc::{AllocError, Global};
+
+// How many bytes of changes stand behind a small checkpoint before it is written anew.
+const SPARE: u64 = 65_536;
+
+/// Keeps what was taken: where something changed, or no checkpoint stood, the output is synced and the checkpoint
+/// written. Answers the journal that stands then.
+pub(crate) fn keep<D: Disk>(
+    alloc: Global,
+    disk: &mut D,
+    journal: Option<Journal>,
+    settings: &[u8],
+    kept: u64,
+    taking: &Taking,
+) -> Result<Option<Journal>, PollFault>
+    requires lawful { IsCheckpoint (taken_checkpoint settings.now taking.now) }
+    requires flags { length taking.now.changed.items ≡ length taking.now.tracker }
+    requires short { IfSome journal IsShort }
+    requires savable { EachLeft D.meaning.images disk.old (IsSavable journal settings.now taking.now) }
+    requires slots { (one other : Image DiskFile) → D.meaning.images.may_leave disk.old one → D.meaning.images.may_leave disk.old other → DifferInOutput one other }
+    ensures kept { IfOk result (λ after. Keeps D.meaning.images settings.now taking.now kept journal after disk.old disk.new) }
+    ensures crash { Passes D.meaning.images (Saves journal (taken_checkpoint settings.now taking.now) (D.meaning.images.seen disk.old DiskFile.Output)) disk.old disk.new }
+    ensures early { DoneFewer 4 (D.meaning.done disk.old) (D.meaning.done disk.new) → Passes D.meaning.images (KeepsMemory journal) disk.old disk.new }
+    ensures worn { (sequence : ℕ) → result ≡ Err (PollFault.Worn sequence) → (sequence ≡ last_number) × IsWorn journal }
+    ensures not_full { (size : ℕ) → result ≡ Err (PollFault.OutputFull size) → ⊥ }
+    ensures costs { Costs journal (taken_checkpoint settings.now taking.now) (taken_change taking.now).rows (D.meaning.written disk.old) (D.meaning.written disk.new) }
+    ensures cause { HasPollCause result (D.meaning.faults disk.old) (D.meaning.faults disk.new) }
+    ensures terms { KeepsTerms D.meaning disk.old disk.new }
+{
+    if is_quiet(&journal, kept, taking) {
+        return Ok(journal);
+    }
+    let next = save(alloc, disk, journal, settings, taking)?;
+    Ok(Some(next))
+}
+
+// Whether a checkpoint stands and nothing of it changed.
+fn is_quiet(journal: &Option<Journal>, kept: u64, taking: &Taking) -> bool
+    ensures quiet { IsTrue result → IsQuiet journal.now kept taking.now }
+    ensures loud { IsQuiet journal.now kept taking.now → IsTrue result }
+{
+    journal.is_some() && taking.end == kept && !taking.changed.iter().any(|changed| *changed)
+}
+
+// Syncs the output, and then puts the checkpoint of what was taken.
+fn save<D: Disk>(
+    alloc: Global,
+    disk: &mut D,
+    journal: Option<Journal>,
+    settings: &[u8],
+    taking: &Taking,
+) -> Result<Journal, PollFault>
+    requires lawful { IsCheckpoint (taken_checkpoint settings.now taking.now) }
+    requires flags { length taking.now.changed.items ≡ length taking.now.tracker }
+    requires short { IfSome journal IsShort }
+    requires savable { EachLeft D.meaning.images disk.old (IsSavable journal settings.now taking.now) }
+    requires slots { (one other : Image DiskFile) → D.meaning.images.may_leave disk.old one → D.meaning.images.may_leave disk.old other → DifferInOutput one other }
+    ensures saved { IfOk result (λ next. EachLeft D.meaning.images disk.new (IsSavedIn next (taken_checkpoint settings.now taking.now) (D.meaning.images.seen disk.old DiskFile.Output))) }
+    ensures one { OnOk result (LeavesOne D.meaning.images disk.new) }
+    ensures next { IfOk result (IsNext journal) }
+    ensures not_worn { OnOk result (IsWorn journal → ⊥) }
+    ensures crash { Passes D.meaning.images (Saves journal (taken_checkpoint settings.now taking.now) (D.meaning.images.seen disk.old DiskFile.Output)) disk.old disk.new }
+    ensures early { DoneFewer 4 (D.meaning.done disk.old) (D.meaning.done disk.new) → Passes D.meaning.images (KeepsMemory journal) disk.old disk.new }
+    ensures worn { (sequence : ℕ) → result ≡ Err (PollFault.Worn sequence) → (sequence ≡ last_number) × IsWorn journal }
+    ensures not_full { (size : ℕ) → result ≡ Err (PollFault.OutputFull size) → ⊥ }
+    ensures costs { Costs journal (taken_checkpoint settings.now taking.now) (taken_change taking.now).rows (D.meaning.written disk.old) (D.meaning.written disk.new) }
+    ensures cause { HasPollCause result (D.meaning.faults disk.old) (D.meaning.faults disk.new) }
+    ensures terms { KeepsTerms D.meaning disk.old disk.new }
+{
+    disk.sync(alloc, DiskFile::Output)?;
+    let next = put(alloc, disk, journal, settings, taking)?;
+    Ok(next)
+}
+
+// Puts what changed behind the checkpoint or, where that is due, a whole one beside it.
+fn put<D: Disk>(
+    alloc: Global,
+    disk: &mut D,
+    journal: Option<Journal>,
+    settings: &[u8],
+    taking: &Taking,
+) -> Result<Journal, CommitFault>
+    requires lawful { IsCheckpoint (taken_checkpoint settings.now taking.now) }
+    requires flags { length taking.now.changed.items ≡ length taking.now.tracker }
+    requires short { IfSome journal IsShort }
+    requires savable { EachLeft D.meaning.images disk.old (IsSavable journal settings.now taking.now) }
+    ensures put { IfOk result (λ next. EachLeft D.meaning.images disk.new (EndsWith next (taken_checkpoint settings.now taking.now))) }
+    ensures one { OnOk result (LeavesOne D.meaning.images disk.old → LeavesOne D.meaning.images disk.new) }
+    ensures next { IfOk result (IsNext journal) }
+    ensures not_worn { OnOk result (IsWorn journal → ⊥) }
+    ensures crash { Passes D.meaning.images (Puts journal (taken_checkpoint settings.now taking.now)) disk.old disk.new }
+    ensures early { DoneFewer 4 (D.meaning.done disk.old) (D.meaning.done disk.new) → Passes D.meaning.images (KeepsMemory journal) disk.old disk.new }
+    ensures worn { (sequence : ℕ) → result ≡ Err (CommitFault.Worn sequence) → (sequence ≡ last_number) × IsWorn journal }
+    ensures costs { Costs journal (taken_checkpoint settings.now taking.now) (taken_change taking.now).rows (D.meaning.written disk.old) (D.meaning.written disk.new) }
+    ensures cause { HasCommitCause result (D.meaning.faults disk.old) (D.meaning.faults disk.new) }
+    ensures terms { KeepsTerms D.meaning disk.old disk.new }
+{
+    if let Some(behind) = journal {
+        if !needs_rewrite(behind, settings, taking) {
+            return put_behind(alloc, disk, behind, settings, taking);
+        }
+    }
+    put_beside(alloc, disk, journal, settings, taking)
+}
+
+// Puts what changed behind the checkpoint.
+fn put_behind<D: Disk>(
+    alloc: Global,
+    disk: &mut D,
+    journal: Journal,
+    settings: &[u8],
+    taking: &Taking,
+) -> Result<Journal, CommitFault>
+    requires lawful { IsCheckpoint (taken_checkpoint settings.now taking.now) }
+    requires flags { length taking.now.changed.items ≡ length taking.now.tracker }
+    requires short { IsShort journal }
+    requires newest { journal.version ≡ NEWEST_VERSION }
+    requires ends { journal.end ≤ 2 ^ 55 }
+    requires savable { EachLeft D.meaning.images disk.old (IsSavable (Some journal) settings.now taking.now) }
+    ensures put { IfOk result (λ next. EachLeft D.meaning.images disk.new (EndsWith next (taken_checkpoint settings.now taking.now))) }
+    ensures one { OnOk result (LeavesOne D.meaning.images disk.old → LeavesOne D.meaning.images disk.new) }
+    ensures next { IfOk result (IsNext (Some journal)) }
+    ensures not_worn { OnOk result (IsWorn (Some journal) → ⊥) }
+    ensures crash { Passes D.meaning.images (Puts (Some journal) (taken_checkpoint settings.now taking.now)) disk.old disk.new }
+    ensures early { DoneFewer 4 (D.meaning.done disk.old) (D.meaning.done disk.new) → Passes D.meaning.images (KeepsMemory (Some journal)) disk.old disk.new }
+    ensures worn { (sequence : ℕ) → result ≡ Err (CommitFault.Worn sequence) → (sequence ≡ last_number) × IsWorn (Some journal) }
+    ensures costs { WrittenAtMost (cost_of_rows (taken_change taking.now).rows) (D.meaning.written disk.old) (D.meaning.written disk.new) }
+    ensures cause { HasCommitCause result (D.meaning.faults disk.old) (D.meaning.faults disk.new) }
+    ensures terms { KeepsTerms D.meaning disk.old disk.new }
+{
+    let change = change_of(alloc, taking)?;
+    journal.append(alloc, disk, &change)
+}
+
+// Puts a whole checkpoint into the slot that doesn't count.
+fn put_beside<D: Disk>(
+    alloc: Global,
+    disk: &mut D,
+    journal: Option<Journal>,
+    settings: &[u8],
+    taking: &Taking,
+) -> Result<Journal, CommitFault>
+    requires lawful { IsCheckpoint (taken_checkpoint settings.now taking.now) }
+    requires savable { EachLeft D.meaning.images disk.old (IsSavable journal settings.now taking.now) }
+    ensures put { IfOk result (λ next. EachLeft D.meaning.images disk.new (EndsWith next (taken_checkpoint settings.now taking.now))) }
+    ensures one { OnOk result (LeavesOne D.meaning.images disk.old → LeavesOne D.meaning.images disk.new) }
+    ensures next { IfOk result (IsNext journal) }
+    ensures not_worn { OnOk result (IsWorn journal → ⊥) }
+    ensures crash { Passes D.meaning.images (Puts journal (taken_checkpoint settings.now taking.now)) disk.old disk.new }
+    ensures early { DoneFewer 4 (D.meaning.done disk.old) (D.meaning.done disk.new) → Passes D.meaning.images (KeepsMemory journal) disk.old disk.new }
+    ensures worn { (sequence : ℕ) → result ≡ Err (CommitFault.Worn sequence) → (sequence ≡ last_number) × IsWorn journal }
+    ensures costs { WrittenAtMost (length (checkpoint_spelling (taken_checkpoint settings.now taking.now)) + 18) (D.meaning.written disk.old) (D.meaning.written disk.new) }
+    ensures cause { HasCommitCause result (D.meaning.faults disk.old) (D.meaning.faults disk.new) }
+    ensures terms { KeepsTerms D.meaning disk.old disk.new }
+{
+    let checkpoint = checkpoint_of(alloc, settings, taking)?;
+    rewrite(alloc, journal.as_ref(), disk, &checkpoint)
+}
+
+// Whether the whole checkpoint is to be written: its version is an older one, or the changes behind it have become longer
+// than twice what it would be now.
+fn needs_rewrite(journal: Journal, settings: &[u8], taking: &Taking) -> bool
+    requires lawful { IsCheckpoint (taken_checkpoint settings.now taking.now) }
+    requires short { IsShort journal }
+    ensures due { IsTrue result → IsDue (Some journal) (taken_checkpoint settings.now taking.now) }
+    ensures newest { result ≡ false → journal.version ≡ NEWEST_VERSION }
+    ensures ends { result ≡ false → journal.end ≤ 2 ^ 55 }
+{
+    if journal.version != NEWEST_VERSION {
+        return true;
+    }
+    let changes = journal.end.saturating_sub(17 + journal.slot.length);
+    changes > 2 * spelled_size(settings, taking) + SPARE
+}
+
+// How many bytes the whole checkpoint takes.
+fn spelled_size(settings: &[u8], taking: &Taking) -> u64
+    requires { IsCheckpoint (taken_checkpoint settings.now taking.now) }
+    ensures is { result ≡ length (checkpoint_spelling (taken_checkpoint settings.now taking.now)) }
+    ensures short { result ≤ 2 ^ 52 }
+{
+    spellings_are_short();
+    let mut size = 21 + settings.len() as u64;
+    for place in 0..taking.tracker.len() {
+        size += row_size(taking.tracker.row(place));
+    }
+    size
+}
+
+// How many bytes a row takes.
+fn row_size(row: &Row) -> u64
+    requires path { IsShortText row.now.path }
+    requires front { length row.now.front ≤ FRONT_LIMIT }
+    requires state { length row.now.state < 2 ^ 32 }
+    ensures { result ≡ length (row_spelling row.now) }
+{
+    let texts = row.path.len() + row.front.as_slice().len() + row.state.as_slice().len();
+    48 + texts as u64
+}
+
+// The checkpoint of what was taken.
+fn checkpoint_of(alloc: Global, settings: &[u8], taking: &Taking) -> Result<Checkpoint, AllocError>
+    requires { IsCheckpoint (taken_checkpoint settings.now taking.now) }
+    ensures { IfOk result (λ checkpoint. checkpoint ≡ taken_checkpoint settings.now taking.now) }
+{
+    let mut rows = Vec::new(alloc);
+    for place in 0..taking.tracker.len() {
+        rows.push(taking.tracker.row(place).copy(alloc)?)?;
+    }
+    Ok(Checkpoint {
+        settings: Bytes::from_slice(alloc, settings)?,
+        output_length: taking.end,
+        next_id: taking.tracker.len() as u32 + 1,
+        rows: Rows::new(rows),
+    })
+}
+
+// What changed by what was taken.
+fn change_of(alloc: Global, taking: &Taking) -> Result<Change, AllocError>
+    requires { length taking.now.changed.items ≡ length taking.now.tracker }
+    ensures { IfOk result (λ change. change ≡ taken_change taking.now) }
+{
+    let mut rows = Vec::new(alloc);
+    for place in 0..taking.tracker.len() {
+        if taking.changed[place] {
+            rows.push(taking.tracker.row(place).copy(alloc)?)?;
+        }
+    }
+    Ok(Change {
+        output_length: taking.end,
+        next_id: taking.tracker.len() as u32 + 1,
+        rows: Rows::new(rows),
+    })
+}
