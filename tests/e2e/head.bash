@@ -9,6 +9,15 @@ LF=$'\n'
 # wait_for COMMAND..: it has a minute, or the seconds that LIMIT gives.
 wait_for() { timeout "${LIMIT:-60}" "$@"; }
 
+# wait_long COMMAND..: five times as long, for what runs the program many times.
+wait_long() { timeout $((5 * ${LIMIT:-60})) "$@"; }
+
+# grown FILE LINES: waits until the file has so many lines, as long as a run may take.
+grown() { wait_for bash -c 'until [ -e "$1" ] && [ "$(wc -l <"$1")" -ge "$2" ]; do sleep 0.05; done' - "$@"; }
+
+# skip REASON: this check can't be made on this machine. It ends there.
+skip() { echo "$*" >"$work/skipped"; }
+
 # run STATUS REPORT WORD..: these words end with the status, and report exactly these lines.
 run() {
     local want=$1 report=$2 status
@@ -40,8 +49,14 @@ once() { run "$1" "$2" once; }
 # quietly: `once` goes through, whatever it reports.
 quietly() { wait_for "$agent" once >"$work/report"; }
 
-# summary FILES LINES FAILED OUTPUT
-summary() { printf 'files=%s lines=%s left=0 gone=0 failed=%s compressed=0 shrunk=0 full=0 deep=0 output=%s\n' "$@"; }
+# summary FILES LINES FAILED OUTPUT [FIELD=NUMBER..]: all other fields are 0.
+summary() {
+    local line="files=$1 lines=$2 left=0 gone=0 failed=$3 compressed=0 shrunk=0 full=0 deep=0 output=$4" field
+    for field in "${@:5}"; do
+        line=${line/"${field%=*}=0"/$field}
+    done
+    printf '%s\n' "$line"
+}
 
 # one_line: the summary of the log `hello`.
 one_line() { summary 1 1 0 326; }
@@ -93,11 +108,51 @@ for line in open("output.jsonl"):
 PY
 }
 
+# told: the output, a line each: agent.file, agent.line, log.file.name and the body.
+told() {
+    python3 - <<'PY'
+import json
+for line in open("output.jsonl", newline="\n"):
+    scope = json.loads(line)["resourceLogs"][0]["scopeLogs"][0]
+    record = scope["logRecords"][0]
+    numbers = {a["key"]: a["value"]["intValue"] for a in scope["scope"]["attributes"]}
+    names = [a["value"]["stringValue"] for a in record["attributes"] if a["key"] == "log.file.name"]
+    print(numbers["agent.file"], numbers["agent.line"], *names, record["body"]["stringValue"])
+PY
+}
+
+# tells LINE..: the output is exactly these lines, as `told` prints them.
+tells() { diff <([ ! -e output.jsonl ] || told) <([ $# = 0 ] || printf '%s\n' "$@"); }
+
+# a_folder PATTERN..: settings that include these, from their beginning.
+a_folder() {
+    local texts
+    texts=$(printf '"%s",' "$@")
+    printf '{"include":[%s],"start_at":"beginning"}' "${texts%,}" >settings.json
+}
+
+# anew: what the agent has kept in this folder is gone, so that its next run is as the first.
+anew() { rm -f output.jsonl checkpoint.a checkpoint.b; }
+
+# as_it_is: a sum of the folder's names and bytes.
+as_it_is() { (ls -Al --time-style=+; cat -- *) 2>/dev/null | cksum; }
+
+# untouched COMMAND..: it holds, and leaves the folder as it was.
+untouched() {
+    local before
+    before=$(as_it_is)
+    "$@" || return 1
+    [ "$before" = "$(as_it_is)" ] || {
+        echo "the folder isn't as it was"
+        return 1
+    }
+}
+
 # makes KEYS LOG: the entries that the settings with these keys make of the log.
 makes() {
     printf '{"include":["app.log"],"start_at":"beginning"%s}' "${1:+,$1}" >settings.json
     printf "$2" >app.log
-    rm -f output.jsonl
+    anew
     quietly && entries
 }
 
@@ -111,13 +166,5 @@ gives() {
 # ends STATUS WORDS SETTINGS: these settings end `once` so, and nothing is written.
 ends() {
     printf '%s' "$3" >settings.json
-    once "$1" "fault $1 $2$LF" && [ ! -e output.jsonl ]
-}
-
-# not_built: status 14, and the folder is as it was.
-not_built() {
-    local before
-    before=$(ls -l --time-style=+; cat -- * 2>/dev/null | cksum)
-    once 14 "fault 14 not-built$LF" || return 1
-    [ "$before" = "$(ls -l --time-style=+; cat -- * 2>/dev/null | cksum)" ]
+    untouched once "$1" "fault $1 $2$LF"
 }

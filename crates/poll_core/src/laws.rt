@@ -36,7 +36,10 @@ ghost use Rattle.standing.specs.Standing.{Found, nothing, Sound, Standing, kept,
 ghost use Rattle.standing.specs.Stands.{IsSound, Stands};
 ghost use Rattle.standing.specs.Sums.{IsReached};
 
+use crate::Session;
 use glob_match::laws::text_spells_one_pattern;
+use pipeline::laws::a_pipeline_is_rules;
+use settings_text::laws::settings_keep_limits;
 
 /// What is made of one text is one: all sessions of it poll by the same rules.
 pub fn settings_give_one_set_of_rules()
@@ -45,6 +48,15 @@ pub fn settings_give_one_set_of_rules()
     ensures rules { (text : List ℕ) (one other : Rules) → HasRules text one → HasRules text other → one ≡ other }
 {
     text_spells_one_pattern();
+}
+
+/// The rules by which a session polls keep the laws of rules, with which a promise on what polls leave can be made.
+pub fn a_session_polls_by_rules(session: &Session)
+    requires { IsSession session.now }
+    ensures { AreRules (rules_of_session session.now) }
+{
+    settings_keep_limits();
+    a_pipeline_is_rules(&session.pipeline);
 }
 
 /// An image has one thing for the next run.

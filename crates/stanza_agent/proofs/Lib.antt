@@ -1,11 +1,10 @@
 pub mod Filling
-pub mod Looking
-pub mod Opening
-pub mod Polling
 pub mod Reporting
-pub mod Crossing
-pub mod Lines
 pub mod Settings
 pub mod Controlling
-pub mod Following
 pub mod OneLine
+pub mod GrowLemmas
+pub mod StandLemmas
+pub mod StatusLemmas
+pub mod FollowLemmas
+pub mod FaultLemmas

@@ -1,56 +1,70 @@
--- How the command `follow` ends.
-use Rattle.std.specs.Prelude.{◌≡◌, ◌≢◌, ◌⊎◌, ℕ, List, Option, Result, Ok, Err}
-use Rattle.outside.specs.TreeMeaning.{TreeMeaning}
-use Rattle.outside.specs.DiskMeaning.{DiskMeaning}
-use Rattle.outside.specs.StreamMeaning.{SourceMeaning, SinkMeaning}
+-- The command `follow`: control lines, one after another.
+use Rattle.std.specs.Prelude.{◌≡◌, ℕ, ◌+◌, List, Option, Result, Ok, Err}
+use Rattle.outside.specs.Crash.{Passes}
 use Rattle.outside.specs.World.{Told}
 use Rattle.outside.specs.declared.fault.Failed.{Failed}
+use Rattle.poll_core.specs.declared.session.Session.{Session}
 use Rattle.stanza_agent.specs.Control.{max_control, Asks, Spends}
-use Rattle.stanza_agent.specs.Once.{OnceEnds}
+use Rattle.stanza_agent.specs.Grows.{GrowsBy}
+use Rattle.stanza_agent.specs.Moment.{Moment, Meanings, moment}
+use Rattle.stanza_agent.specs.Once.{IsNotOpened}
+use Rattle.stanza_agent.specs.Opens.{Opens}
 use Rattle.stanza_agent.specs.Report.{GrowsByPart}
 use Rattle.stanza_agent.specs.Status.{fault_line}
+use Rattle.stanza_agent.specs.Turn.{Turns, Stops}
 use Rattle.stanza_agent.specs.declared.control.Request.{Request}
 use Rattle.stanza_agent.specs.declared.control.Request.TheVariants.{Poll, Quit, End, Faulty, Exhausted}
-use Rattle.stanza_agent.specs.declared.fault.Fault.TheVariants.{Control, ControlLine, NotBuilt, ControlLong}
+use Rattle.stanza_agent.specs.declared.fault.Fault.TheVariants.{Control, ControlLine, ControlLong}
 
--- What the request with this number did, from 1: it ended the command, or the command can't do it.
+-- How the request of the line with this number, from 1, ends the command, where it asks for no poll.
 abbrev pub StopsAt : Result Request Failed → ℕ → ℕ → Option (List ℕ) → Option (List ℕ) → Type 0
-StopsAt (Ok Poll) number status old new = (status ≡ 14) × Told (GrowsByPart (fault_line NotBuilt)) old new
+StopsAt (Ok Poll) number status old new = ⊥
 StopsAt (Ok Quit) number status old new = (status ≡ 0) × (new ≡ old)
 StopsAt (Ok End) number status old new = (status ≡ 0) × (new ≡ old)
 StopsAt (Ok Faulty) number status old new = (status ≡ 12) × Told (GrowsByPart (fault_line (ControlLine number))) old new
 StopsAt (Ok Exhausted) number status old new = (status ≡ 15) × Told (GrowsByPart (fault_line ControlLong)) old new
 StopsAt (Err _) number status old new = (status ≡ 8) × Told (GrowsByPart (fault_line Control)) old new
 
--- No poll was asked for first: nothing was done.
-pub record StopsFirst {T D : Type 0} (tree tree_after : T) (disk disk_after : D) (rest rest_after written written_after : Option (List ℕ)) (status : ℕ) : Type 0 where
-  pub request : Result Request Failed
-  pub no_poll : request ≢ Ok Poll
-  pub asked : Told (Asks max_control request) rest rest_after
-  pub stops : StopsAt request 1 status written written_after
-  pub same_tree : tree_after ≡ tree
-  pub same_disk : disk_after ≡ disk
+-- The next line asked for this, and so many bytes may be taken behind it.
+pub record AsksFor (left : ℕ) (request : Result Request Failed) (left_after : ℕ) (rest rest_after : Option (List ℕ)) : Type 0 where
+  pub asks : Told (Asks left request) rest rest_after
+  pub spends : Told (Spends left left_after) rest rest_after
 
--- A poll was asked for first, and ended the command.
-pub record StopsInPoll {T D K : Type 0} (trees : TreeMeaning T) (disks : DiskMeaning D) (sinks : SinkMeaning K) (tree tree_after : T) (disk disk_after : D) (rest rest_after : Option (List ℕ)) (report report_after : K) (status : ℕ) : Type 0 where
-  pub not_ended : status ≢ 0
-  pub asked : Told (Asks max_control (Ok Poll)) rest rest_after
-  pub poll : OnceEnds trees disks tree tree_after disk disk_after (sinks.written report) (sinks.written report_after) status
+-- What the command does with its session from one moment on, until it ends with this status at the line with the number
+-- `last`. The line with the number `number` comes next, and of the control input so many bytes may still be taken.
+pub data Follows {T D K : Type 0} (meanings : Meanings T D K) (last status : ℕ) (rest_after : Option (List ℕ)) (new : Moment T D K)
+    : ℕ → ℕ → Session → Option (List ℕ) → Moment T D K → Type 0 where
+  -- The line asks for a poll, which is made and told, and the command goes on.
+  polls : (number left left_after : ℕ) (session next : Session) (rest between : Option (List ℕ)) (old mid : Moment T D K)
+      → AsksFor left (Ok Poll) left_after rest between → Turns meanings session next old mid
+      → Follows meanings last status rest_after new (number + 1) left_after next between mid
+      → Follows meanings last status rest_after new number left session rest old
+  -- The line asks for a poll, which ends the command.
+  stops : (number left left_after : ℕ) (session : Session) (rest : Option (List ℕ)) (old : Moment T D K)
+      → AsksFor left (Ok Poll) left_after rest rest_after → Stops meanings session status old new → last ≡ number
+      → Follows meanings last status rest_after new number left session rest old
+  -- The line asks for something else, or can't be taken, and that ends the command.
+  ends : (number left left_after : ℕ) (session : Session) (rest : Option (List ℕ)) (old : Moment T D K) (request : Result Request Failed)
+      → AsksFor left request left_after rest rest_after
+      → StopsAt request number status (meanings.reports.written old.report) (meanings.reports.written new.report)
+      → new.tree ≡ old.tree → new.disk ≡ old.disk → last ≡ number
+      → Follows meanings last status rest_after new number left session rest old
 
--- A poll was asked for first, and went through. Then the second request was served.
-pub record StopsSecond {T D K : Type 0} (trees : TreeMeaning T) (disks : DiskMeaning D) (sinks : SinkMeaning K) (tree tree_after : T) (disk disk_after : D) (rest rest_after : Option (List ℕ)) (report report_after : K) (status : ℕ) : Type 0 where
-  pub rest_between : Option (List ℕ)
-  pub left_between : ℕ
-  pub first_asked : Told (Asks max_control (Ok Poll)) rest rest_between
-  pub first_spent : Told (Spends max_control left_between) rest rest_between
-  pub report_between : K
-  pub poll : OnceEnds trees disks tree tree_after disk disk_after (sinks.written report) (sinks.written report_between) 0
-  pub request : Result Request Failed
-  pub asked : Told (Asks left_between request) rest_between rest_after
-  pub stops : StopsAt request 2 status (sinks.written report_between) (sinks.written report_after)
+-- So the command served the control lines, up to the one with the number `last`. Each poll adds 1 to the sequence number at most.
+pub record IsServed {T D K : Type 0} (meanings : Meanings T D K) (session : Session) (rest rest_after : Option (List ℕ)) (old new : Moment T D K) (status : ℕ) : Type 0 where
+  pub last : ℕ
+  pub follows : Follows meanings last status rest_after new 1 max_control session rest old
+  pub crash : Passes meanings.disks.images (GrowsBy last) old.disk new.disk
 
-abbrev pub FollowEnds : {T D S K : Type 0} (trees : TreeMeaning T) (disks : DiskMeaning D) (sources : SourceMeaning S) (sinks : SinkMeaning K) (tree tree_after : T) (disk disk_after : D) (control control_after : S) (report report_after : K) (status : ℕ) → Type 0
-FollowEnds trees disks sources sinks tree tree_after disk disk_after control control_after report report_after status =
-    StopsFirst tree tree_after disk disk_after (sources.rest control) (sources.rest control_after) (sinks.written report) (sinks.written report_after) status
-    ⊎ StopsInPoll trees disks sinks tree tree_after disk disk_after (sources.rest control) (sources.rest control_after) report report_after status
-    ⊎ StopsSecond trees disks sinks tree tree_after disk disk_after (sources.rest control) (sources.rest control_after) report report_after status
+module _ {T D K : Type 0} (meanings : Meanings T D K) (rest rest_after : Option (List ℕ)) (old new : Moment T D K) (status : ℕ) where
+  -- A session was opened, and served the control lines.
+  pub record ServesLines : Type 0 where
+    pub session : Session
+    pub between : D
+    pub opens : Opens meanings.disks.images session old.disk between
+    pub served : IsServed meanings session rest rest_after (moment old.tree between old.report) new status
+    pub crash : Passes meanings.disks.images (GrowsBy served.last) old.disk new.disk
+
+  pub data FollowEnds : Type 0 where
+    serves : ServesLines → FollowEnds
+    not_opened : IsNotOpened meanings old new status → rest_after ≡ rest → FollowEnds

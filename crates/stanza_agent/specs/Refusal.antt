@@ -8,25 +8,6 @@ use Rattle.pipeline.specs.declared.fault.BuildFault.{BuildFault}
 use Rattle.pipeline.specs.declared.fault.BuildFault.TheVariants as build
 use Rattle.settings_text.specs.declared.fault.SettingsFault.{SettingsFault}
 use Rattle.settings_text.specs.declared.fault.SettingsFault.TheVariants as read
-use Rattle.stanza_agent.specs.declared.fault.Fault.{Fault}
-use Rattle.stanza_agent.specs.declared.fault.Fault.TheVariants.{Settings, Build, Memory}
-
-abbrev pub settings_fault : SettingsFault → Fault
-settings_fault read.NotJson = Settings read.NotJson
-settings_fault (read.Missing key) = Settings (read.Missing key)
-settings_fault (read.Unknown key) = Settings (read.Unknown key)
-settings_fault (read.WrongKind key) = Settings (read.WrongKind key)
-settings_fault (read.OutOfRange key) = Settings (read.OutOfRange key)
-settings_fault (read.Fraction key) = Settings (read.Fraction key)
-settings_fault (read.TooLong length) = Settings (read.TooLong length)
-settings_fault read.Memory = Memory
-
-abbrev pub build_fault : BuildFault → Fault
-build_fault (build.Glob exclude place) = Build (build.Glob exclude place)
-build_fault (build.SameId place) = Build (build.SameId place)
-build_fault (build.Operator place found) = Build (build.Operator place found)
-build_fault (build.Graph fault) = Build (build.Graph fault)
-build_fault build.Memory = Memory
 
 -- a key stands in them as it is written
 abbrev pub settings_words : SettingsFault → List ℕ

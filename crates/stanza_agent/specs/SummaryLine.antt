@@ -1,6 +1,6 @@
 -- The line that reports a poll.
 use Rattle.std.specs.Prelude.{ℕ, List, ◌++◌, codes, decimal}
-use Rattle.stanza_agent.specs.declared.summary.Summary.{Summary}
+use Rattle.poll_core.specs.declared.summary.Summary.{Summary}
 
 unfoldable pub summary_line : Summary → List ℕ
 summary_line summary =

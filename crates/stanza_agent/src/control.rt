@@ -1,5 +1,5 @@
 // Control lines.
-ghost use Rattle.std.specs.Prelude.{◌≡◌, ◌≢◌, List, ℕ, ◌∷◌, [], length, IfOk, MatchOption};
+ghost use Rattle.std.specs.Prelude.{◌≡◌, ◌≢◌, ◌<◌, List, ℕ, ◌∷◌, [], length, Ok, IfOk, MatchOption};
 ghost use Rattle.std.specs.Str.Lines.{strip_carriage_return};
 ghost use Rattle.outside.specs.Count.{HasOneCause};
 ghost use Rattle.outside.specs.World.{Told};
@@ -35,6 +35,7 @@ pub fn a_line_asks_one_thing()
 pub fn next_request<S: Source>(control: &mut S, left: &mut u64) -> Result<Request, Failed>
     ensures asks { Told (Asks left.old result) (S.meaning.rest control.old) (S.meaning.rest control.new) }
     ensures spends { Told (Spends left.old left.new) (S.meaning.rest control.old) (S.meaning.rest control.new) }
+    ensures fewer { result ≡ Ok Request.Poll → left.new < left.old }
     ensures cause { HasOneCause result (S.meaning.faults control.old) (S.meaning.faults control.new) }
 {
     a_line_asks_one_thing();

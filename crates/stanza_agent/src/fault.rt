@@ -2,10 +2,12 @@
 ghost use Rattle.std.specs.Prelude.{◌≡◌};
 ghost use Rattle.stanza_agent.specs.declared.fault.Fault.TheVariants.{Disk, Memory};
 
+use checkpoint_journal::JournalFault;
 use outside::{CallFault, Failed};
 use pipeline::BuildFault;
+use poll_core::{OpenFault, PollFault};
 use settings_text::SettingsFault;
-use std::alloc::{AllocError, AllocFailed};
+use std::alloc::AllocError;
 
 /// Why a command ends with a status other than 0.
 #[derive(Debug, Drop)]
@@ -16,6 +18,13 @@ pub enum Fault {
     Settings(SettingsFault),
     /// What the settings ask for can't be built.
     Build(BuildFault),
+    /// The checkpoint has no reading from byte `at` on; or the row with the id `at` keeps a state that isn't one of the
+    /// operators that the settings ask for.
+    CheckpointBad { at: u64 },
+    /// The checkpoint is of other settings, which differ first at byte `at`.
+    SettingsChanged { at: u64 },
+    /// The output has `found` bytes, fewer than the `kept` that the checkpoint keeps.
+    OutputShort { kept: u64, found: u64 },
     /// A call on the disk failed.
     Disk,
     /// The control input failed.
@@ -26,9 +35,8 @@ pub enum Fault {
     OutputFull { length: u64 },
     /// The control line with this number, from 1, is no request, or too long.
     ControlLine { number: u64 },
-    /// The agent can't do this yet: other files than one, an output that isn't empty, or a log file that is too long
-    /// or compressed.
-    NotBuilt,
+    /// The checkpoint can't be written, since no sequence number follows its last one.
+    Worn,
     /// As many bytes of control lines were taken as may be, and the command hasn't ended.
     ControlLong,
 }
@@ -43,12 +51,15 @@ impl Fault {
         match self {
             Fault::Usage => 2,
             Fault::Settings(_) | Fault::Build(_) => 3,
+            Fault::CheckpointBad { .. } => 4,
+            Fault::SettingsChanged { .. } => 5,
+            Fault::OutputShort { .. } => 6,
             Fault::Disk => 7,
             Fault::Control => 8,
             Fault::Memory => 10,
             Fault::OutputFull { .. } => 11,
             Fault::ControlLine { .. } => 12,
-            Fault::NotBuilt => 14,
+            Fault::Worn => 13,
             Fault::ControlLong => 15,
         }
     }
@@ -62,14 +73,6 @@ impl From<AllocError> for Fault {
     }
 }
 
-impl<T: Drop> From<AllocFailed<T>> for Fault {
-    ghost from_gives = { λ _ fault. fault ≡ Memory };
-
-    fn from(_: AllocFailed<T>) -> Self {
-        Fault::Memory
-    }
-}
-
 /// For a call on the disk.
 impl From<Failed> for Fault {
     ghost from_gives = { λ _ fault. fault ≡ Disk };
@@ -79,42 +82,50 @@ impl From<Failed> for Fault {
     }
 }
 
-/// For a call on the disk that takes memory.
-impl From<CallFault> for Fault {
-    ghost use Rattle.stanza_agent.specs.Cause.{disk_fault};
+impl From<OpenFault> for Fault {
+    ghost use Rattle.stanza_agent.specs.Cause.{opening_fault};
 
-    ghost from_gives = { λ fault made. made ≡ disk_fault fault };
+    ghost from_gives = { λ fault made. made ≡ opening_fault fault };
 
-    fn from(fault: CallFault) -> Self {
+    fn from(fault: OpenFault) -> Self {
         match fault {
-            CallFault::Failed => Fault::Disk,
-            CallFault::Memory => Fault::Memory,
+            OpenFault::Settings(refused) => Fault::Settings(refused),
+            OpenFault::Build(refused) => Fault::Build(refused),
+            OpenFault::Disk => Fault::Disk,
+            OpenFault::CheckpointBad { at } => Fault::CheckpointBad { at },
+            OpenFault::SettingsChanged { at } => Fault::SettingsChanged { at },
+            OpenFault::OutputShort { kept, found } => Fault::OutputShort { kept, found },
+            OpenFault::Memory => Fault::Memory,
         }
     }
 }
 
-impl From<SettingsFault> for Fault {
-    ghost use Rattle.stanza_agent.specs.Refusal.{settings_fault};
+impl From<PollFault> for Fault {
+    ghost use Rattle.stanza_agent.specs.Cause.{polling_fault};
 
-    ghost from_gives = { λ fault made. made ≡ settings_fault fault };
+    ghost from_gives = { λ fault made. made ≡ polling_fault fault };
 
-    fn from(fault: SettingsFault) -> Self {
+    fn from(fault: PollFault) -> Self {
         match fault {
-            SettingsFault::Memory => Fault::Memory,
-            other => Fault::Settings(other),
+            PollFault::Disk => Fault::Disk,
+            PollFault::OutputFull { length } => Fault::OutputFull { length },
+            PollFault::Worn { .. } => Fault::Worn,
+            PollFault::Memory => Fault::Memory,
         }
     }
 }
 
-impl From<BuildFault> for Fault {
-    ghost use Rattle.stanza_agent.specs.Refusal.{build_fault};
+/// For a look at the checkpoint alone.
+impl From<JournalFault> for Fault {
+    ghost use Rattle.stanza_agent.specs.Cause.{reading_fault};
 
-    ghost from_gives = { λ fault made. made ≡ build_fault fault };
+    ghost from_gives = { λ fault made. made ≡ reading_fault fault };
 
-    fn from(fault: BuildFault) -> Self {
+    fn from(fault: JournalFault) -> Self {
         match fault {
-            BuildFault::Memory => Fault::Memory,
-            other => Fault::Build(other),
+            JournalFault::Disk => Fault::Disk,
+            JournalFault::Bad { at } => Fault::CheckpointBad { at },
+            JournalFault::Memory => Fault::Memory,
         }
     }
 }

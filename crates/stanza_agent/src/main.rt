@@ -1,34 +1,34 @@
-//! A log collecting agent: it appends each complete line of a log file to `output.jsonl`, as one OTLP JSON line.
+//! A log collecting agent: it follows log files that grow and rotate, and appends what its operators make of each entry to
+//! `output.jsonl`, as one OTLP JSON line.
 //!
 //! [`agent::run_agent`] is the whole program over any tree of log files, disk, control input and report, and its
 //! contract is the product's promise. `main` hands it the real ones, which stand in `real`.
 #![tactic(auto)]
 
 mod agent;
+mod committed;
 mod control;
 mod fault;
-mod folder;
 mod follow;
-mod log_file;
 mod once;
-mod output;
-mod poll;
+mod opening;
 mod real;
 mod report;
-mod summary;
-mod task;
 #[cfg(test)]
 mod tests;
+mod turn;
 
 use agent::run_agent;
 use real::{RealDisk, RealSink, RealSource, RealTree};
 use std::alloc::Global;
+use std::fs::File;
 use std::io::ErrorKind;
 use std::process::ExitCode;
 use std::{env, io};
 
 fn main(rt: HostRuntime) -> io::Result<ExitCode> {
     let alloc = rt.alloc();
+    let _places = [place(&rt), place(&rt), place(&rt)];
     let words = words(&rt, alloc)?;
     let status = run_agent(
         alloc,
@@ -39,6 +39,12 @@ fn main(rt: HostRuntime) -> io::Result<ExitCode> {
         &mut RealSink::new(&rt),
     );
     Ok(ExitCode::from(status))
+}
+
+// Where a standard stream was closed before the program began, the next file that is opened gets its number, and a summary
+// would go into it. A folder takes the place, which can't be read or written as a stream.
+fn place(rt: &HostRuntime) -> Option<File> {
+    File::open(rt, ".").ok()
 }
 
 // The words after the program's name. Where a word isn't UTF-8, they are no command, and none are answered.

@@ -2,15 +2,18 @@
 ghost use Rattle.std.specs.Prelude.{◌≡◌, ◌++◌, codes, decimal, OnOk, IfOk, string_bytes};
 ghost use Rattle.outside.specs.Count.{HasCause};
 ghost use Rattle.outside.specs.World.{Told};
+ghost use Rattle.stanza_agent.specs.Committed.{length_line};
 ghost use Rattle.stanza_agent.specs.Refusal.{settings_words, build_words, cause_words, graph_words};
 ghost use Rattle.stanza_agent.specs.Report.{Appends, GrowsByPart};
 ghost use Rattle.stanza_agent.specs.Status.{fault_line, status_of};
+ghost use Rattle.stanza_agent.specs.SummaryLine.{summary_line};
 
 use crate::fault::Fault;
 use graph_core::GraphFault;
 use op_kinds::OpCause;
 use outside::{CallFault, Sink};
 use pipeline::BuildFault;
+use poll_core::Summary;
 use settings_text::SettingsFault;
 use std::alloc::{AllocError, Global};
 
@@ -44,12 +47,15 @@ fn line_of(alloc: Global, fault: &Fault) -> Result<String, AllocError>
         Fault::Usage => String::from_str(alloc, "fault 2 usage\n"),
         Fault::Settings(refused) => settings_line(alloc, refused),
         Fault::Build(refused) => build_line(alloc, refused),
+        Fault::CheckpointBad { at } => format!(in alloc; "fault 4 checkpoint {at}\n"),
+        Fault::SettingsChanged { at } => format!(in alloc; "fault 5 changed {at}\n"),
+        Fault::OutputShort { kept, found } => format!(in alloc; "fault 6 short {kept} {found}\n"),
         Fault::Disk => String::from_str(alloc, "fault 7 disk\n"),
         Fault::Control => String::from_str(alloc, "fault 8 control\n"),
         Fault::Memory => String::from_str(alloc, "fault 10 memory\n"),
         Fault::OutputFull { length } => format!(in alloc; "fault 11 full {length}\n"),
         Fault::ControlLine { number } => format!(in alloc; "fault 12 control-line {number}\n"),
-        Fault::NotBuilt => String::from_str(alloc, "fault 14 not-built\n"),
+        Fault::Worn => String::from_str(alloc, "fault 13 worn\n"),
         Fault::ControlLong => String::from_str(alloc, "fault 15 control-long\n"),
     }
 }
@@ -125,6 +131,56 @@ fn graph_line(alloc: Global, fault: GraphFault) -> Result<String, AllocError>
         GraphFault::TooManyPaths => String::from_str(alloc, "fault 3 graph too-many-paths\n"),
         GraphFault::Memory => String::from_str(alloc, "fault 3 graph memory\n"),
     }
+}
+
+/// Reports the numbers of a poll by its line.
+pub fn report_summary<K: Sink>(
+    alloc: Global,
+    summary: &Summary,
+    report: &mut K,
+) -> Result<(), CallFault>
+    ensures ok { OnOk result (Told (Appends (summary_line summary.now)) (K.meaning.written report.old) (K.meaning.written report.new)) }
+    ensures part { Told (GrowsByPart (summary_line summary.now)) (K.meaning.written report.old) (K.meaning.written report.new) }
+    ensures cause { HasCause result (K.meaning.faults report.old) (K.meaning.faults report.new) }
+{
+    let line = line_of_summary(alloc, summary)?;
+    report_line(alloc, line.as_str(), report)
+}
+
+// The line has its LF.
+#[tactic(auto, unfolding(crate::specs::SummaryLine::summary_line))]
+fn line_of_summary(alloc: Global, summary: &Summary) -> Result<String, AllocError>
+    ensures { IfOk result (λ line. string_bytes line ≡ summary_line summary.now) }
+{
+    let mut line = String::new(alloc);
+    push_field(&mut line, "files=", u64::from(summary.files))?;
+    push_field(&mut line, " lines=", summary.lines)?;
+    push_field(&mut line, " left=", u64::from(summary.left))?;
+    push_field(&mut line, " gone=", u64::from(summary.gone))?;
+    push_field(&mut line, " failed=", u64::from(summary.failed))?;
+    push_field(&mut line, " compressed=", u64::from(summary.compressed))?;
+    push_field(&mut line, " shrunk=", u64::from(summary.shrunk))?;
+    push_field(&mut line, " full=", u64::from(summary.full))?;
+    push_field(&mut line, " deep=", u64::from(summary.deep))?;
+    push_field(&mut line, " output=", summary.output)?;
+    line.push_str("\n")?;
+    Ok(line)
+}
+
+fn push_field(line: &mut String, name: &str, value: u64) -> Result<(), AllocError>
+    ensures { OnOk result (string_bytes line.new ≡ string_bytes line.old ++ name.now ++ decimal value) }
+{
+    write!(line, "{name}{value}")
+}
+
+/// Reports how much of the output is kept.
+pub fn report_length<K: Sink>(alloc: Global, size: u64, report: &mut K) -> Result<(), CallFault>
+    ensures ok { OnOk result (Told (Appends (length_line size)) (K.meaning.written report.old) (K.meaning.written report.new)) }
+    ensures part { Told (GrowsByPart (length_line size)) (K.meaning.written report.old) (K.meaning.written report.new) }
+    ensures cause { HasCause result (K.meaning.faults report.old) (K.meaning.faults report.new) }
+{
+    let line = format!(in alloc; "{size}\n")?;
+    report_line(alloc, line.as_str(), report)
 }
 
 /// Reports a fault, and answers its status.

@@ -6,13 +6,22 @@ use mem_world::{FileName, MemDisk, MemSink, MemSource, MemTree, StepFault, World
 use outside::{DiskFile, Failed};
 use std::alloc::{AllocError, Global};
 
-const SETTINGS: &[u8] = b"{\"include\":[\"app.log\"],\"start_at\":\"beginning\"}";
+const SETTINGS: &[u8] = b"{\"include\":[\"app.log*\"],\"start_at\":\"beginning\"}";
 
 const HELLO: &[u8] =
     b"{\"resourceLogs\":[{\"resource\":{\"attributes\":[]},\"scopeLogs\":[{\"logRecords\":[{\"attributes\":[{\"key\":\"log.file.name\",\"value\":{\"stringValue\":\"app.log\"}}],\"body\":{\"stringValue\":\"hello\"}}],\"scope\":{\"attributes\":[{\"key\":\"agent.file\",\"value\":{\"intValue\":\"1\"}},{\"key\":\"agent.line\",\"value\":{\"intValue\":\"1\"}}],\"name\":\"stanza_agent\"}}]}]}\n";
 
+const WORLD: &[u8] =
+    b"{\"resourceLogs\":[{\"resource\":{\"attributes\":[]},\"scopeLogs\":[{\"logRecords\":[{\"attributes\":[{\"key\":\"log.file.name\",\"value\":{\"stringValue\":\"app.log\"}}],\"body\":{\"stringValue\":\"world\"}}],\"scope\":{\"attributes\":[{\"key\":\"agent.file\",\"value\":{\"intValue\":\"1\"}},{\"key\":\"agent.line\",\"value\":{\"intValue\":\"2\"}}],\"name\":\"stanza_agent\"}}]}]}\n";
+
 const POLLED: &[u8] =
     b"files=1 lines=1 left=0 gone=0 failed=0 compressed=0 shrunk=0 full=0 deep=0 output=326\n";
+
+const AGAIN: &[u8] =
+    b"files=1 lines=0 left=0 gone=0 failed=0 compressed=0 shrunk=0 full=0 deep=0 output=326\n";
+
+const GREW: &[u8] =
+    b"files=1 lines=1 left=0 gone=0 failed=0 compressed=0 shrunk=0 full=0 deep=0 output=652\n";
 
 // What fails in a run, and at which call.
 #[derive(Clone, Copy)]
@@ -40,11 +49,10 @@ type Run = (
 
 const RUNS: &[Run] = &[
     ("once", b"", Nothing, 0, POLLED, b"", HELLO),
-    // Three calls look at the folder, one writes and the fifth syncs.
     (
         "once",
         b"",
-        Failing::Disk(5),
+        Failing::Disk(1),
         7,
         b"fault 7 disk\n",
         b"",
@@ -66,11 +74,11 @@ const RUNS: &[Run] = &[
     ("follow", b"poll\nquit\n", Nothing, 0, POLLED, b"", HELLO),
     (
         "follow",
-        b"poll\r\nquit\r\n",
+        b"poll\r\npoll\r\nquit\r\npoll\r\n",
         Nothing,
         0,
         POLLED,
-        b"",
+        AGAIN,
         HELLO,
     ),
     ("follow", b"poll", Nothing, 0, POLLED, b"", HELLO),
@@ -94,15 +102,6 @@ const RUNS: &[Run] = &[
     ),
     (
         "follow",
-        b"poll\npoll\n",
-        Nothing,
-        14,
-        POLLED,
-        b"fault 14 not-built\n",
-        HELLO,
-    ),
-    (
-        "follow",
         b"poll\n",
         Failing::Control(1),
         8,
@@ -118,6 +117,25 @@ const RUNS: &[Run] = &[
         POLLED,
         b"fault 8 control\n",
         HELLO,
+    ),
+    (
+        "follow",
+        b"poll\npoll\n",
+        Failing::Report(2),
+        9,
+        POLLED,
+        b"",
+        HELLO,
+    ),
+    ("committed", b"", Nothing, 0, b"0\n", b"", b""),
+    (
+        "committed",
+        b"",
+        Failing::Disk(1),
+        7,
+        b"fault 7 disk\n",
+        b"",
+        b"",
     ),
 ];
 
@@ -191,6 +209,91 @@ fn commands_end_as_told(rt: HostRuntime) {
         assert_eq!(rt; ends_as_told(rt.alloc(), row, 1), Ok(true), "row {place}");
         assert_eq!(rt; ends_as_told(rt.alloc(), row, 100), Ok(true), "row {place}");
     }
+}
+
+// What happens, one after another, in one world.
+#[derive(Clone, Copy)]
+enum Step {
+    // The word, the status and what is reported.
+    Run(&'static str, u8, &'static [u8]),
+    Append(&'static [u8]),
+    Rename(&'static str),
+    Put(DiskFile, &'static [u8]),
+    // How the output ends.
+    Ends(&'static [u8]),
+}
+
+// A checkpoint that counts, and has no reading.
+const DAMAGED: &[u8] = b"\xa5\x00\x00\x00\x00\x00\x00\x01\x00\x00\x00\x00\x00\x00\x00\x00\x01x";
+
+const STORY: &[Step] = &[
+    Step::Run("once", 0, POLLED),
+    Step::Run("committed", 0, b"326\n"),
+    Step::Run("once", 0, AGAIN),
+    Step::Rename("app.log.1"),
+    Step::Append(b"ld\n"),
+    Step::Run("once", 0, GREW),
+    Step::Ends(WORLD),
+    Step::Put(DiskFile::Settings, b"{\"include\":[\"app.log*\"]}"),
+    Step::Run("once", 5, b"fault 5 changed 23\n"),
+    Step::Put(DiskFile::Settings, b"{}"),
+    Step::Run("once", 3, b"fault 3 settings missing include\n"),
+    Step::Run("committed", 0, b"652\n"),
+    Step::Put(DiskFile::Settings, SETTINGS),
+    Step::Put(DiskFile::Output, HELLO),
+    Step::Run("once", 6, b"fault 6 short 652 326\n"),
+    Step::Put(DiskFile::SlotA, DAMAGED),
+    Step::Run("once", 4, b"fault 4 checkpoint 0\n"),
+    Step::Run("committed", 4, b"fault 4 checkpoint 0\n"),
+];
+
+impl World {
+    // Whether the step goes as told.
+    fn goes(&mut self, alloc: Global, step: Step) -> Result<bool, StepFault> {
+        let file = FileName(1);
+        match step {
+            Step::Run(word, status, told) => return self.tells(alloc, word, status, told),
+            Step::Append(bytes) => {
+                let bytes = Vec::from_slice(alloc, bytes)?;
+                self.tree.play(alloc, WorldStep::Append { file, bytes })?;
+            }
+            Step::Rename(path) => {
+                let path = Text::from_str(alloc, path)?;
+                self.tree.play(alloc, WorldStep::Rename { file, path })?;
+            }
+            Step::Put(file, bytes) => self.disk.put(alloc, file, bytes)?,
+            Step::Ends(bytes) => return Ok(self.disk.bytes(DiskFile::Output).ends_with(bytes)),
+        }
+        Ok(true)
+    }
+
+    fn tells(
+        &mut self,
+        alloc: Global,
+        word: &str,
+        status: u8,
+        told: &[u8],
+    ) -> Result<bool, StepFault> {
+        self.report = MemSink::new(alloc)?;
+        let given = self.run(alloc, word)?;
+        Ok(given == status && self.report.bytes() == told)
+    }
+}
+
+// The place of the first step that doesn't go as told.
+fn first_wrong_step(alloc: Global) -> Result<Option<usize>, StepFault> {
+    let mut world = World::new(alloc, b"", 1)?;
+    for (place, step) in STORY.iter().enumerate() {
+        if !world.goes(alloc, *step)? {
+            return Ok(Some(place));
+        }
+    }
+    Ok(None)
+}
+
+#[test]
+fn commands_follow_one_another(rt: HostRuntime) {
+    assert_eq!(rt; first_wrong_step(rt.alloc()), Ok(None));
 }
 
 type Answer = Result<Request, Failed>;

@@ -15,7 +15,7 @@ check_carriage_returns() { follow 0 "$(one_line)$LF" 'poll\r\nquit\r\npoll\npoll
 
 check_last_line_without_an_end() { follow 0 "$(one_line)$LF" 'poll' && bodies '["hello"]'; }
 
-check_no_lines() { follow 0 '' '' && follow 0 '' 'quit\npoll\n' && [ ! -e output.jsonl ]; }
+check_no_lines() { a_log && untouched follow 0 '' '' && untouched follow 0 '' 'quit\npoll\n'; }
 
 check_garbage() {
     follow 12 "fault 12 control-line 1$LF" 'frob\npoll\n' &&
@@ -23,7 +23,7 @@ check_garbage() {
         follow 12 "fault 12 control-line 1$LF" 'poll \n' &&
         follow 12 "fault 12 control-line 1$LF" 'poll\r' &&
         follow 12 "fault 12 control-line 1$LF" 'POLL\n' &&
-        [ ! -e output.jsonl ] &&
+        [ "$(ls)" = "app.log${LF}settings.json" ] &&
         follow 12 "$(one_line)${LF}fault 12 control-line 2$LF" 'poll\nfrob\n' && bodies '["hello"]'
 }
 
@@ -33,13 +33,48 @@ check_long_line() {
     [ "${PIPESTATUS[2]}" = 12 ] && [ "$(cat "$work/report")" = 'fault 12 control-line 1' ]
 }
 
-check_second_poll() { follow 14 "$(one_line)${LF}fault 14 not-built$LF" 'poll\npoll\n' && bodies '["hello"]'; }
+check_several_polls() {
+    follow 12 "$(one_line)$LF$(summary 1 0 0 326)${LF}fault 12 control-line 3$LF" 'poll\npoll\nnow\n' && bodies '["hello"]'
+}
+
+# What comes while it waits for the next control line is in the next poll.
+check_polls_of_a_log_that_grows() {
+    a_log
+    (
+        echo poll
+        for number in 1 2 3; do
+            grown report "$number" || exit 1
+            echo "more $number" >>app.log
+            echo poll
+        done
+    ) | wait_for "$agent" follow >report || return 1
+    diff report <(one_line && summary 1 1 0 653 && summary 1 1 0 980 && summary 1 1 0 1307) &&
+        bodies '["hello", "more 1", "more 2", "more 3"]'
+}
+
+# The settings are read once, before the first control line.
+check_refusals_before_the_first_line() {
+    printf '{' >settings.json
+    printf 'hello\n' >app.log
+    untouched follow 3 "fault 3 settings not-json$LF" 'poll\n'
+}
 
 check_broken_input() {
+    a_log
     wait_for "$agent" follow <. >"$work/report"
     [ $? = 8 ] && [ "$(cat "$work/report")" = 'fault 8 control' ] || return 1
     wait_for "$agent" follow <&- >"$work/report"
     [ $? = 8 ] && [ "$(cat "$work/report")" = 'fault 8 control' ]
+}
+
+# What stands where a standard stream is closed is none of the agent's own files.
+check_closed_streams() {
+    a_log
+    once 0 "$(one_line)$LF" && echo world >>app.log || return 1
+    wait_for "$agent" once <&- >&-
+    [ $? = 9 ] && run 0 "652$LF" committed && bodies '["hello", "world"]' || return 1
+    wait_for "$agent" follow <&- >&-
+    [ $? = 8 ] && untouched once 0 "$(summary 1 0 0 652)$LF"
 }
 
 check_byte_by_byte() {

@@ -132,14 +132,29 @@ check_refused_settings() {
     [ "$count" -gt 10 ]
 }
 
-check_settings_not_built() {
-    local said count=0
-    printf 'hello\n' >app.log
-    while IFS=$'\x1f' read -r said _; do
-        ends 14 not-built "$said" || return 1
+# matches PATTERN PATH: whether a file of this path is taken by the pattern.
+matches() {
+    rm -rf one && mkdir -p "one/$(dirname "$2")" && echo hello >"one/$2" || return 1
+    (
+        cd one || exit 1
+        python3 -c 'import json, sys; print(json.dumps({"include": sys.argv[1:], "start_at": "beginning"}))' "$1" >settings.json
+        quietly && case $(cat "$work/report") in
+        'files=1 lines=1 '*) echo yes ;;
+        'files=0 lines=0 '*) echo no ;;
+        esac
+    )
+}
+
+check_patterns() {
+    local pattern path wanted count=0
+    while IFS=$'\x1f' read -r pattern path wanted; do
+        [ "$(matches "$pattern" "$path")" = "$wanted" ] || {
+            echo "$pattern and $path"
+            return 1
+        }
         count=$((count + 1))
-    done < <(document rows "$root/docs/STATUSES.md" Settings "What it can't do yet")
-    [ "$count" -gt 3 ]
+    done < <(document rows "$root/docs/SETTINGS.md" Pattern Path)
+    [ "$count" -gt 10 ]
 }
 
 # Each status of the table has a section, and the README has the same statuses.

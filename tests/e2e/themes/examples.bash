@@ -25,30 +25,53 @@ check_unknown_example() {
     [ $? = 2 ] && grep -q '^  first-run$' "$work/shown"
 }
 
-# A run of `take` that was stopped anywhere is made good by the next.
-check_rotated_after_a_stop() {
-    cp -R "$root/examples/rotated/." . && mkdir spool && PATH=$work/bin:$PATH || return 1
-    ./take logs state spool && mkdir wanted && cp spool/* wanted || return 1
-    rm spool/app.log-20261127.jsonl
-    printf x >state/output.jsonl
-    printf 'INFO st' >state/app.log
-    ./take logs state spool && diff -r wanted spool && [ "$(ls state)" = settings.json ]
+hand_over() { PATH=$work/bin:$PATH "$root/examples/rotated/hand_over" spool; }
+
+# handed LINE..: the files of the spool have these lines together, as `told` prints them.
+handed() { mkdir -p all && cat spool/*.jsonl >all/output.jsonl && (cd all && tells "$@"); }
+
+check_hand_over() {
+    local before
+    mkdir spool logs
+    a_folder 'logs/app.log*'
+    hand_over && [ "$(ls spool)" = '' ] || return 1
+    echo a1 >logs/app.log
+    quietly && hand_over && hand_over && handed '1 1 app.log a1' || return 1
+    seq 1 1000 >>logs/app.log
+    quietly && hand_over && echo b1 >logs/app.log-1 && quietly && hand_over || return 1
+    [ "$(ls spool | wc -l)" = 3 ] && [ "$(cat handed)" = "$(stat -c %s output.jsonl)" ] || return 1
+    mapfile -t before < <(paste -d ' ' <(seq -f '1 %g app.log' 2 1001) <(seq 1 1000))
+    handed '1 1 app.log a1' "${before[@]}" '2 1 app.log-1 b1'
 }
 
-# A file that isn't taken as a whole doesn't come into the spool; the others do, and it does once it can be taken.
-check_rotated_with_a_fault() {
-    cp -R "$root/examples/rotated/." . && mkdir spool && PATH=$work/bin:$PATH || return 1
-    printf '\x1f\x8b' >logs/app.log-20261126
-    ./take logs state spool 2>"$work/shown"
-    [ $? = 1 ] && [ "$(ls spool)" = app.log-20261127.jsonl ] || return 1
-    grep -q 'app.log-20261126: fault 14 not-built$' "$work/shown" || return 1
-    echo hello >logs/app.log-20261126
-    ./take logs state spool && [ "$(ls spool | wc -l)" = 2 ]
+# A run of `hand_over` that was stopped anywhere is made good by the next.
+check_hand_over_after_a_stop() {
+    mkdir spool
+    a_log 'one\n'
+    quietly && hand_over && echo two >>app.log && quietly || return 1
+    # It has looked how much is kept, and more is kept since.
+    "$agent" committed >handing && echo three >>app.log && quietly || return 1
+    printf '{"res' >spool/new
+    hand_over && handed '1 1 app.log one' '1 2 app.log two' || return 1
+    # The file is in the spool, and that isn't noted yet.
+    "$agent" committed >handing && cp -R . ../copy && hand_over || return 1
+    handed '1 1 app.log one' '1 2 app.log two' '1 3 app.log three' || return 1
+    cp spool/* ../copy/spool && cd ../copy && hand_over && handed '1 1 app.log one' '1 2 app.log two' '1 3 app.log three' || return 1
+    cd - >/dev/null && rm -r ../copy && [ ! -e handing ]
+}
+
+# Where the output can't be read nothing is handed on.
+check_hand_over_of_nothing() {
+    mkdir spool
+    a_log
+    quietly && mv output.jsonl away && ! hand_over 2>/dev/null && [ "$(ls spool)" = new ] && [ ! -e handed ] || return 1
+    mv away output.jsonl && hand_over && handed '1 1 app.log hello' && [ "$(ls spool)" = 0000000000000.jsonl ]
 }
 
 check_units() {
     command -v systemd-analyze >/dev/null || return 0
-    sed "s#/usr/local/lib/stanza_agent/take#$root/examples/rotated/take#" "$root/examples/rotated/stanza-agent.service" >stanza-agent.service
+    sed "s#/usr/local/lib/stanza_agent/#$root/examples/rotated/#;s#/usr/local/bin/stanza_agent#$work/bin/stanza_agent#" \
+        "$root/examples/rotated/stanza-agent.service" >stanza-agent.service
     cp "$root/examples/rotated/stanza-agent.timer" .
     systemd-analyze verify "$PWD/stanza-agent.service" "$PWD/stanza-agent.timer" 2>"$work/shown"
     ! grep stanza-agent "$work/shown"

@@ -76,22 +76,33 @@ check_trimmed_and_lossy() {
         '["a", {"log.file.record_number": 1}, {}]' '["\ufffd\ufffd", {"log.file.record_number": 4}, {}]'
 }
 
-check_too_long() {
+# In one poll 16 MiB are taken of a file, and the rest in the next ones.
+check_more_than_a_poll_takes() {
     a_log ''
-    head -c 16777217 /dev/zero | tr '\0' '\n' >app.log
-    not_built
+    head -c 16777215 /dev/zero | tr '\0' '\n' >app.log
+    printf 'z\n' >>app.log
+    once 0 "$(summary 1 0 0 0 left=1)$LF" && once 0 "$(summary 1 1 0 322)$LF" && bodies '["z"]' || return 1
+    untouched once 0 "$(summary 1 0 0 322)$LF"
 }
 
-check_just_long_enough() {
+check_what_a_poll_takes() {
     a_log ''
     head -c 16777215 /dev/zero | tr '\0' '\n' >app.log
     printf z >>app.log
     once 0 "$(summary 1 0 0 0)$LF" && bodies '[]'
 }
 
+# A line that three polls see grow is taken once it has its end.
+check_line_that_grows() {
+    a_log 'hel'
+    once 0 "$(summary 1 0 0 0)$LF" && printf 'lo' >>app.log && once 0 "$(summary 1 0 0 0)$LF" || return 1
+    printf '\nwor' >>app.log
+    once 0 "$(one_line)$LF" && bodies '["hello"]'
+}
+
 check_compressed() {
     a_log '\x1f\x8b\x08\x00'
-    not_built
+    once 0 "$(summary 1 0 0 0 compressed=1)$LF" && bodies '[]'
 }
 
 check_one_byte_of_gzip() {

@@ -71,7 +71,7 @@ doubling() {
 
 check_many_routes() {
     [ "$(makes "$(doubling 10)" 'a\n' | uniq -c | sed 's/^ *//')" = '1024 ["a", {}, {}]' ] || return 1
-    rm output.jsonl
+    anew
     ends 3 'graph too-many-paths' "{\"include\":[\"app.log\"],\"start_at\":\"beginning\",$(doubling 11)}"
 }
 

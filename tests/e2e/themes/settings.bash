@@ -24,33 +24,32 @@ check_settings_of_the_greatest_length() {
     once 0 "$(one_line)$LF"
 }
 
-check_settings_of_other_files() {
-    printf 'hello\n' >app.log
-    for include in '["*.log"]' '["a","b"]' '["logs/app.log"]' '["."]' '["app.lo?"]' '["app.lo[g]"]' '["app.{log}"]' '[""]'; do
-        ends 14 not-built "{\"include\":$include,\"start_at\":\"beginning\"}" || return 1
+check_patterns_refused() {
+    for include in '[""]' '["."]' '["./app.log"]' '["logs/"]' '["a//b"]' '["../app.log"]' '["/"]' '["app.lo["]' '["app.{log"]' '["a{b/c}"]' '["app.log\\"]'; do
+        ends 3 'include 0 glob' "{\"include\":$include}" || return 1
     done
-    ends 14 not-built '{"include":["app.log"]}' &&
-        ends 14 not-built '{"include":["app.log"],"start_at":"beginning","exclude":["x"]}'
+    ends 3 'include 1 glob' '{"include":["a","["],"exclude":["["]}' &&
+        ends 3 'exclude 1 glob' '{"include":["a","b"],"exclude":["a","["]}'
 }
 
-# Settings are looked at before the output, and the log before the operators.
+# The words come before the settings, and the settings before the checkpoint and the output.
 check_refusals_in_order() {
     printf 'hello\n' >app.log
-    printf x >output.jsonl
+    printf x >checkpoint.a
+    mkdir output.jsonl
     printf '{' >settings.json
     once 3 "fault 3 settings not-json$LF" || return 1
-    printf '%s' "${settings%\}},\"operators\":[{\"type\":\"remove\",\"field\":\"bodyx\"}]}" >settings.json
-    once 14 "fault 14 not-built$LF" || return 1
-    rm output.jsonl
-    printf '\x1f\x8b\n' >app.log
-    once 14 "fault 14 not-built$LF" || return 1
-    printf 'hello\n' >app.log
-    once 3 "fault 3 operator 0 path$LF"
+    printf '%s' '{"include":["["],"operators":[{"type":"remove","field":"bodyx"}]}' >settings.json
+    once 3 "fault 3 include 0 glob$LF" || return 1
+    printf '%s' "${settings%\}},\"operators\":[{\"type\":\"remove\",\"field\":\"bodyx\"},{\"type\":\"noop\",\"output\":\"zz\"}]}" >settings.json
+    once 3 "fault 3 operator 0 path$LF" || return 1
+    printf '%s' "$settings" >settings.json
+    once 7 "fault 7 disk$LF"
 }
 
 check_no_settings() {
     printf 'hello\n' >app.log
-    once 3 "fault 3 settings not-json$LF" && [ ! -e output.jsonl ]
+    untouched once 3 "fault 3 settings not-json$LF"
 }
 
 check_settings_is_a_folder() {

@@ -1,4 +1,4 @@
-# Words, the output that is there already, and disks and reports that fail.
+# Words, the output that is there already, and files and reports that fail.
 
 check_words() {
     a_log
@@ -6,10 +6,13 @@ check_words() {
         run 2 "fault 2 usage$LF" frob &&
         run 2 "fault 2 usage$LF" once x &&
         run 2 "fault 2 usage$LF" follow x &&
+        run 2 "fault 2 usage$LF" committed x &&
+        run 2 "fault 2 usage$LF" demo 0 &&
+        run 2 "fault 2 usage$LF" demo 07 &&
         run 2 "fault 2 usage$LF" --help &&
         run 2 "fault 2 usage$LF" ONCE &&
         run 2 "fault 2 usage$LF" '' &&
-        [ ! -e output.jsonl ]
+        [ "$(ls)" = "app.log${LF}settings.json" ]
 }
 
 check_words_that_are_not_utf8() {
@@ -18,13 +21,14 @@ check_words_that_are_not_utf8() {
         run 2 "fault 2 usage$LF" $'once\xff' &&
         run 2 "fault 2 usage$LF" once $'\xff' &&
         run 2 "fault 2 usage$LF" $'\xff' once &&
-        [ ! -e output.jsonl ]
+        [ "$(ls)" = "app.log${LF}settings.json" ]
 }
 
+# Without a checkpoint nothing of the output is kept.
 check_output_not_empty() {
     a_log
-    printf x >output.jsonl
-    not_built
+    printf 'x%.0s' $(seq 1000) >output.jsonl
+    once 0 "$(one_line)$LF" && bodies '["hello"]'
 }
 
 check_output_empty() {
@@ -35,7 +39,12 @@ check_output_empty() {
 
 check_second_run() {
     a_log
-    once 0 "$(one_line)$LF" && not_built
+    once 0 "$(one_line)$LF" && untouched once 0 "$(summary 1 0 0 326)$LF" && bodies '["hello"]'
+}
+
+check_pattern_too_large() {
+    a_log
+    ends 10 memory "${settings%\}},\"operators\":[{\"type\":\"filter\",\"expr\":\"body matches '(?:(?:a{1000}){1000}){1000}'\"}]}"
 }
 
 check_output_is_a_folder() {
@@ -44,10 +53,18 @@ check_output_is_a_folder() {
     once 7 "fault 7 disk$LF"
 }
 
+check_checkpoint_is_a_folder() {
+    a_log
+    mkdir checkpoint.b
+    once 7 "fault 7 disk$LF" && run 7 "fault 7 disk$LF" committed && [ ! -e output.jsonl ]
+}
+
 check_full_report() {
     a_log
     wait_for "$agent" once >/dev/full
-    [ $? = 9 ] && bodies '["hello"]' || return 1
+    [ $? = 9 ] && bodies '["hello"]' && untouched once 0 "$(summary 1 0 0 326)$LF" || return 1
+    wait_for "$agent" committed >/dev/full
+    [ $? = 9 ] || return 1
     wait_for "$agent" frob >/dev/full
     [ $? = 2 ]
 }

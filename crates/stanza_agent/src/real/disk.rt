@@ -6,9 +6,9 @@ use super::{TRIES, counted, counted_call};
 use outside::{CallFault, Disk, DiskFile, Failed};
 use std::alloc::Global;
 use std::fs::{File, OpenOptions};
-use std::io;
 use std::io::ErrorKind;
 use std::os::unix::fs::FileExt;
+use std::{fs, io};
 
 // One of the four files, from its first use on.
 #[derive(Drop)]
@@ -59,26 +59,23 @@ impl OwnFile {
         }
     }
 
-    // Opens the file where it is there. A folder in its place is an error.
+    // Opens the file where it is there. What is no plain file in its place is an error: to open a pipe waits for a writer.
     fn open(&mut self, rt: &HostRuntime) -> io::Result<()> {
         if self.file.is_some() {
             return Ok(());
         }
-        match OpenOptions::new()
+        match fs::metadata(rt, self.path) {
+            Ok(found) if found.is_file() => {}
+            Ok(_) => return Err(io::Error::from(ErrorKind::InvalidInput)),
+            Err(e) if e.kind() == ErrorKind::NotFound => return Ok(()),
+            Err(e) => return Err(e),
+        }
+        let file = OpenOptions::new()
             .read(true)
             .write(self.is_written)
-            .open(rt, self.path)
-        {
-            Ok(file) => {
-                if !file.metadata()?.is_file() {
-                    return Err(io::Error::from(ErrorKind::IsADirectory));
-                }
-                self.file = Some(file);
-                Ok(())
-            }
-            Err(e) if e.kind() == ErrorKind::NotFound => Ok(()),
-            Err(e) => Err(e),
-        }
+            .open(rt, self.path)?;
+        self.file = Some(file);
+        Ok(())
     }
 
     // Opens the file, and makes it where it isn't there.

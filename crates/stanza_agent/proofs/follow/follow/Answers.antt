@@ -1,45 +1,69 @@
-use Rattle.std.proofs.Common.{◌≡◌, inl, inr, rules, subst}
-use Rattle.std.specs.Prelude.{◌≢◌, Ok}
-use Rattle.outside.specs.World.{Told}
-use Rattle.stanza_agent.specs.Control.{max_control, Asks}
-use Rattle.stanza_agent.specs.declared.control.Request.TheVariants.{Poll}
-use Rattle.stanza_agent.proofs.Controlling.{at_most_told, spends_both_told, exactly_both_told, takes_exactly_told}
-use Rattle.stanza_agent.proofs.Following.{exhausted_of_status}
+use Rattle.std.proofs.Common.{ℕ, [], refl, sym, ◌∙◌, subst, arith}
+use Rattle.outside.proofs.Telling.{told_same}
+use Rattle.outside.specs.Count.{Rose}
+use Rattle.stanza_agent.specs.Control.{max_control, TakesAtMost}
+use Rattle.stanza_agent.specs.Follow.{not_opened, serves}
+use Rattle.stanza_agent.proofs.GrowLemmas.{opened_grows, opening_grows}
+use Rattle.stanza_agent.proofs.StandLemmas.{closed_stands, opened_stands}
+use Rattle.stanza_agent.proofs.StatusLemmas.{count_of_fault, opening_status, some_fault}
 use Rattle.stanza_agent.proofs.follow.follow.Goals as goal
 
-pub returns-then-status-ne0-clause-course : goal.returns-then-status-ne0-clause-course
-returns-then-status-ne0-clause-course g c =
-    let first : c.next_request-first.result ≡ Ok Poll = search rules in
-    let not_ended : c.once-status.result ≢ 0 = search rules in
-    inr (inl (record {
-      not_ended = not_ended;
-      asked = subst (λ request. Told (Asks max_control request) (g.S.Source.meaning.rest c.args.control.now) (g.S.Source.meaning.rest c.next_request-first.new.control)) first c.next_request-first.ensures.asks;
-      poll = c.once-status.ensures.ends;
-    }))
+-- ---- no session was opened
 
-pub returns-clause-course : goal.returns-clause-course
-returns-clause-course g c =
-    let first : c.next_request-first.result ≡ Ok Poll = search rules in
-    let went : c.once-status.result ≡ 0 = search rules in
-    inr (inr (record {
-      rest_between = g.S.Source.meaning.rest c.next_request-first.new.control;
-      left_between = c.next_request-first.new.left;
-      first_asked = subst (λ request. Told (Asks max_control request) (g.S.Source.meaning.rest c.args.control.now) (g.S.Source.meaning.rest c.next_request-first.new.control)) first c.next_request-first.ensures.asks;
-      first_spent = c.next_request-first.ensures.spends;
-      report_between = c.once-status.new.report;
-      poll = rw went at c.once-status.ensures.ends;
-      request = c.next_request-second.result;
-      asked = c.next_request-second.ensures.asks;
-      stops = c.stop-2.ensures.stops;
-    }))
+pub returns-in-Err-clause-ends : goal.returns-in-Err-clause-ends
+returns-in-Err-clause-ends g c = not_opened (record {
+  fault = c.in-Err.fault;
+  is = c.refuse.ensures.status;
+  cause = c.in-Err.ensures.fault;
+  told = c.refuse.ensures.told;
+  same_tree = refl;
+  untouched = c.in-Err.ensures.untouched;
+  crash = opening_grows _ _ c.open_session.ensures.crash;
+}) refl
 
-pub returns-clause-taken : goal.returns-clause-taken
-returns-clause-taken g c =
-    at_most_told max_control _ _ _ (spends_both_told max_control _ _ _ _ _ c.next_request-first.ensures.spends c.next_request-second.ensures.spends)
+pub returns-in-Err-clause-standing : goal.returns-in-Err-clause-standing
+returns-in-Err-clause-standing g c = closed_stands g.D.Disk.meaning.images c.args.disk.now c.open_session.new.disk (g.T.Tree.meaning.world c.args.tree.now) (λ from image early left. g.met.D.Disk.counts_now c.args.disk.now from image early left) c.open_session.ensures.crash
 
-pub returns-clause-control_long : goal.returns-clause-control_long
-returns-clause-control_long g c = λ is.
-    let long = exhausted_of_status c.next_request-second.result 2 c.stop-2.result _ _ c.stop-2.ensures.stops is in
-    exactly_both_told max_control c.next_request-first.new.left _ _ _ c.next_request-first.ensures.spends
-    (takes_exactly_told c.next_request-first.new.left _ _
-    (subst (λ request. Told (Asks c.next_request-first.new.left request) (g.S.Source.meaning.rest c.next_request-first.new.control) (g.S.Source.meaning.rest c.next_request-second.new.control)) long c.next_request-second.ensures.asks))
+pub returns-in-Err-clause-control_failed : goal.returns-in-Err-clause-control_failed
+returns-in-Err-clause-control_failed g c = λ is. absurd ((opening_status g.D.Disk.meaning.images c.args.disk.now c.in-Err.fault c.in-Err.ensures.fault).1 (sym c.refuse.ensures.status ∙ is))
+
+pub returns-in-Err-clause-disk_failed : goal.returns-in-Err-clause-disk_failed
+returns-in-Err-clause-disk_failed g c = λ is. (count_of_fault ℕ c.in-Err.fault _ _ c.in-Err.ensures.cause).0 (sym c.refuse.ensures.status ∙ is)
+
+pub returns-in-Err-clause-disk_stood : goal.returns-in-Err-clause-disk_stood
+returns-in-Err-clause-disk_stood g c = λ other. (count_of_fault ℕ c.in-Err.fault _ _ c.in-Err.ensures.cause).1 (λ is. other (c.refuse.ensures.status ∙ is))
+
+pub returns-in-Err-clause-report_failed : goal.returns-in-Err-clause-report_failed
+returns-in-Err-clause-report_failed g c = λ is. absurd ((some_fault c.in-Err.fault).0 (sym c.refuse.ensures.status ∙ is))
+
+pub returns-in-Err-clause-report_stood : goal.returns-in-Err-clause-report_stood
+returns-in-Err-clause-report_stood g c = λ is. absurd ((some_fault c.in-Err.fault).1 (sym c.refuse.ensures.status ∙ is))
+
+pub returns-in-Err-clause-taken : goal.returns-in-Err-clause-taken
+returns-in-Err-clause-taken g c = told_same (TakesAtMost max_control) (g.S.Source.meaning.rest c.args.control.now) (λ text. record { taken = []; front = refl; within = omega arith })
+
+pub returns-in-Err-clause-control_long : goal.returns-in-Err-clause-control_long
+returns-in-Err-clause-control_long g c = λ is.
+    let high = (opening_status g.D.Disk.meaning.images c.args.disk.now c.in-Err.fault c.in-Err.ensures.fault).2 in
+    absurd (omega (arith, high, c.refuse.ensures.status, is))
+
+-- ---- one was
+
+pub returns-clause-ends : goal.returns-clause-ends
+returns-clause-ends g c = serves (record {
+  session = c.in-Ok.session;
+  between = c.open_session.new.disk;
+  opens = c.in-Ok.ensures.ok;
+  served = c.serve.ensures.served;
+  crash = opened_grows c.serve.ensures.served.last _ _ _ c.open_session.ensures.crash c.serve.ensures.served.crash;
+})
+
+pub returns-clause-standing : goal.returns-clause-standing
+returns-clause-standing g c = opened_stands g.D.Disk.meaning.images c.in-Ok.session c.args.disk.now c.open_session.new.disk c.serve.new.disk (g.T.Tree.meaning.world c.args.tree.now) (g.T.Tree.meaning.world c.serve.new.tree) c.settings_give_one_set_of_rules.ensures.rules
+    (λ from image early left. g.met.D.Disk.counts_now c.args.disk.now from image early left) c.in-Ok.ensures.ok c.open_session.ensures.crash c.serve.ensures.standing
+
+pub returns-clause-disk_failed : goal.returns-clause-disk_failed
+returns-clause-disk_failed g c = λ is. subst (λ (n : ℕ). Rose n (g.D.Disk.meaning.faults c.serve.new.disk)) c.in-Ok.ensures.cause (c.serve.ensures.disk_failed is)
+
+pub returns-clause-disk_stood : goal.returns-clause-disk_stood
+returns-clause-disk_stood g c = λ other. c.serve.ensures.disk_stood other ∙ c.in-Ok.ensures.cause
