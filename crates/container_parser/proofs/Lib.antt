@@ -1,0 +1,9 @@
+pub mod Splits
+pub mod Words
+pub mod Streams
+pub mod Contents
+pub mod CriLaws
+pub mod Records
+pub mod OneLine
+pub mod Paths
+pub mod Ends

@@ -1,0 +1,26 @@
+// What the definitions imply.
+ghost use Rattle.std.specs.Prelude.{◌≡◌, ◌≢◌, ℕ, List};
+ghost use Rattle.container_parser.specs.Lines.{IsLine, IsLineFault};
+ghost use Rattle.container_parser.specs.Pods.{IsPodPath};
+ghost use Rattle.container_parser.specs.declared.fault.ContainerFault.{ContainerFault as line_fault};
+ghost use Rattle.container_parser.specs.declared.fault.ContainerFault.TheVariants.{Memory};
+ghost use Rattle.container_parser.specs.declared.format.Format.{Format as line_format};
+ghost use Rattle.container_parser.specs.declared.line.ContainerLine.{ContainerLine as line_record};
+ghost use Rattle.container_parser.specs.declared.pod.Pod.{Pod as pod_record};
+
+/// A line says one thing at most in a format.
+pub fn line_says_one_thing()
+    ensures { (format : line_format) (text : List ℕ) (line other : line_record) → IsLine format text line → IsLine format text other → line ≡ other }
+{}
+
+/// A line that says something has no fault, and any other has one at most, but for want of memory.
+pub fn line_has_one_fault()
+    ensures none { (format : line_format) (text : List ℕ) (line : line_record) (fault : line_fault) → IsLine format text line → IsLineFault format text fault → fault ≡ Memory }
+    ensures one { (format : line_format) (text : List ℕ) (fault other : line_fault) → IsLineFault format text fault → IsLineFault format text other
+        → fault ≢ Memory → other ≢ Memory → fault ≡ other }
+{}
+
+/// A path has the names of one pod at most.
+pub fn path_is_of_one_pod()
+    ensures { (path : List ℕ) (pod other : pod_record) → IsPodPath path pod → IsPodPath path other → pod ≡ other }
+{}
