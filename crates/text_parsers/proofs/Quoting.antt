@@ -1,6 +1,7 @@
 -- Quoted parts, byte by byte.
-use Rattle.std.proofs.Common.{◌≡◌, ◌≢◌, ℕ, ◌+◌, ◌<◌, ◌≤◌, List, [], ◌∙◌, ap, sym, refl, subst, Bool, true, false, ◌==◌, cond, length, take, get_or, Option, None, Some, IfSome, is_none, ◌⊎◌, inl, inr, ⊎_elim, arith}
-use Rattle.std.proofs.lemmas.Bool.{cases_lt, eqb-false}
+use Rattle.std.proofs.Common.{◌≡◌, ◌≢◌, ℕ, zero, suc, ◌+◌, ◌<◌, ◌≤◌, List, [], ◌∙◌, ap, sym, refl, subst, Bool, true, false, ◌==◌, cond, length, take, get_or, Option, None, Some, IfSome, is_none, ◌⊎◌, inl, inr, ⊎_elim, arith}
+use Rattle.memchr.specs.Find.{is_byte2, IsFirstByte}
+use Rattle.std.proofs.lemmas.Bool.{cases_lt, eqb-false, false_from_ne_true}
 use Rattle.std.proofs.lemmas.Bool.Decides.{nat_tests}
 use Rattle.std.proofs.lemmas.List.{take_all}
 use Rattle.std.proofs.lemmas.List.Sums.{fold_more}
@@ -99,3 +100,37 @@ quoted_start text bytes e u h q =
     let inside : 0 < length text = let lengths = ap length e in omega arith in
     let quote : is_quote (get_or text 0 0) ≡ true = ap (λ l. is_quote (get_or l 0 0)) (sym e) ∙ q in
     IsCharBoundary-after_ascii text 0 u inside (quote_is_low (get_or text 0 0) quote)
+
+-- ---- bytes without quotes
+
+-- no quote is open where none stands before
+pub quoteless : (text : List ℕ) (n : ℕ) → n ≤ length text → ((k : ℕ) → k < n → is_quote (get_or text k 0) ≡ false) → open_quote (take n text) ≡ None
+quoteless text zero h none = open_quote-nil
+quoteless text (suc n) h none =
+    let plus : n + 1 ≡ suc n = omega arith in
+    let before = quoteless text n (omega arith) (λ k l. none k (omega arith)) in
+    subst (λ (m : ℕ). open_quote (take m text) ≡ None) plus
+    (open_quote-more text n (omega arith)
+    ∙ ap (λ (q : Option ℕ). open_behind q (get_or text n 0)) before
+    ∙ ap (λ (r : Bool). cond r (Some (get_or text n 0)) None) (none n (omega arith)))
+
+-- what a search for quotes says
+pub no_quote : (text bytes : List ℕ) → bytes ≡ text → IsFirstByte (is_byte2 34 39) bytes None → open_quote text ≡ None
+no_quote text bytes e none =
+    let size = ap length e in
+    closed text (length text) (omega arith)
+    (quoteless text (length text) (omega arith) (λ k l.
+    ap (λ (t : List ℕ). is_quote (get_or t k 0)) (sym e) ∙ false_from_ne_true (is_quote (get_or bytes k 0)) (none k (omega arith) (omega arith))))
+
+pub quote_within : (text bytes : List ℕ) (n : ℕ) → bytes ≡ text → IsFirstByte (is_byte2 34 39) bytes (Some n) → n ≤ length text
+quote_within text bytes n e found = let size = ap length e in let high = found.0.high in omega arith
+
+pub none_before : (text bytes : List ℕ) (n : ℕ) → bytes ≡ text → IsFirstByte (is_byte2 34 39) bytes (Some n) → open_quote (take n text) ≡ None
+none_before text bytes n e found =
+    quoteless text n (quote_within text bytes n e found) (λ k l.
+    ap (λ (t : List ℕ). is_quote (get_or t k 0)) (sym e) ∙ false_from_ne_true (is_quote (get_or bytes k 0)) (found.0.before k (omega arith) l))
+
+pub quoteless_of : (text bytes : List ℕ) (n : ℕ) → bytes ≡ text → n ≤ length bytes → ((k : ℕ) → k < n → is_quote (get_or bytes k 0) ≡ false) → open_quote (take n text) ≡ None
+quoteless_of text bytes n e within none =
+    let size = ap length e in
+    quoteless text n (omega arith) (λ k l. ap (λ (t : List ℕ). is_quote (get_or t k 0)) (sym e) ∙ none k l)

@@ -3,6 +3,7 @@ pub mod JsonObjects
 pub mod Blanks
 pub mod Quotes
 pub mod Cuts
+pub mod Passed
 pub mod Pieces
 pub mod Pairs
 pub mod CsvRecords

@@ -1,10 +1,13 @@
 // Where a text is cut: outside of its quoted parts, at a delimiter.
-ghost use Rattle.std.specs.Prelude.{◌≡◌, ◌+◌, ◌≤◌, ◌<◌, [], ◌≢◌, ◌&&◌, IsTrue, IfSome, IfNone, IfOk, Some, None, is_none, length, drop};
+ghost use Rattle.std.specs.Prelude.{◌≡◌, ◌+◌, ◌≤◌, ◌<◌, [], ◌≢◌, ◌&&◌, IsTrue, IfSome, IfNone, IfOk, Some, None, is_none, false, length, drop, nat_eq, slice_index, ℕ};
+ghost use Rattle.std.specs.List.{prefix_len, starts_with};
 ghost use Rattle.std.specs.Str.{IsCharBoundary};
 ghost use Rattle.text_parsers.specs.Cuts.{begins_with, delimiter_len, IsFirstCut, IsUncut};
+ghost use Rattle.text_parsers.specs.Passed.{is_past, is_other};
+ghost use Rattle.text_parsers.specs.Quotes.{is_quote};
 
 use crate::blanks::is_blank;
-use crate::quotes::open_behind;
+use crate::quotes::{is_quote, open_behind};
 use entry_model::Text;
 use std::alloc::{AllocError, Global};
 use std::marker::Model;
@@ -51,6 +54,18 @@ impl Delimiter {
         }
     }
 
+    /// So many bytes at the front neither begin the delimiter nor open a quote, which each of them tells by itself.
+    fn passed(&self, bytes: &[u8]) -> usize
+        ensures within { result ≤ length bytes.now }
+        ensures unquoted { (k : ℕ) → k < result → is_quote (slice_index bytes.now k) ≡ false }
+        ensures uncut { (k : ℕ) → k < result → begins_with self.now (drop k bytes.now) ≡ false }
+    {
+        match &self.text {
+            Some(delimiter) => other_len(delimiter.as_str().as_bytes()[0], bytes),
+            None => past_len(bytes),
+        }
+    }
+
     /// Whether it stands at this place, outside of quoted parts. This quote is open there.
     fn stands(&self, text: &str, at: usize, quote: Option<u8>) -> bool
         requires { at < length text.now }
@@ -62,12 +77,21 @@ impl Delimiter {
         if quote.is_some() {
             return false;
         }
-        let rest = &text.as_bytes()[at..];
+        let bytes = text.as_bytes();
         match &self.text {
-            Some(delimiter) => rest.starts_with(delimiter.as_str().as_bytes()),
-            None => is_blank(rest[0]),
+            Some(delimiter) => begins_with(delimiter.as_str().as_bytes(), bytes, at),
+            None => is_blank(bytes[at]),
         }
     }
+}
+
+/// Whether what stands from this place on begins with the delimiter. At most places its first byte tells that it doesn't.
+fn begins_with(delimiter: &[u8], bytes: &[u8], at: usize) -> bool
+    requires some { 0 < length delimiter.now }
+    requires inside { at < length bytes.now }
+    ensures { result ≡ starts_with nat_eq (drop at bytes.now) delimiter.now }
+{
+    bytes[at] == delimiter[0] && bytes[at..].starts_with(delimiter)
 }
 
 /// The first place at which the text is cut.
@@ -78,12 +102,36 @@ pub fn first_cut(delimiter: &Delimiter, text: &str) -> Option<usize>
     ensures behind { IfSome result (λ at. IsCharBoundary text.now (at + delimiter_len delimiter.now)) }
     ensures some { IfSome result (λ _. 0 < delimiter_len delimiter.now) }
 {
+    let bytes = text.as_bytes();
     let mut quote = None;
-    for (at, byte) in text.as_bytes().iter().enumerate() {
+    for at in delimiter.passed(bytes)..bytes.len() {
         if delimiter.stands(text, at, quote) {
             return Some(at);
         }
-        quote = open_behind(quote, *byte);
+        quote = open_behind(quote, bytes[at]);
     }
     None
+}
+
+/// How many bytes at the front are past blanks and quotes in ASCII.
+fn past_len(bytes: &[u8]) -> usize
+    ensures { result ≡ prefix_len is_past bytes.now }
+{
+    bytes.iter().take_while(|byte| **byte > b'\'').count()
+}
+
+/// How many bytes at the front are neither this one nor quotes.
+fn other_len(first: u8, bytes: &[u8]) -> usize
+    ensures { result ≡ prefix_len (is_other first) bytes.now }
+{
+    bytes
+        .iter()
+        .take_while(|byte| is_other(first, **byte))
+        .count()
+}
+
+fn is_other(first: u8, byte: u8) -> bool
+    ensures { result ≡ is_other first byte }
+{
+    byte != first && !is_quote(byte)
 }

@@ -1,6 +1,8 @@
 // Quoted parts of a text, from a `"` or a `'` to the next same character.
-ghost use Rattle.std.specs.Prelude.{◌≡◌, None, IfSome, IfNone, option_map};
+ghost use Rattle.std.specs.Prelude.{◌≡◌, ◌≤◌, None, IfSome, IfNone, length, take};
 ghost use Rattle.text_parsers.specs.Quotes.{is_quote as is_quote_byte, open_behind as open_quote_behind, open_quote, unquoted, IsUnclosed};
+
+use memchr::memchr2;
 
 pub fn is_quote(byte: u8) -> bool
     ensures { result ≡ is_quote_byte byte }
@@ -24,13 +26,27 @@ pub fn unclosed_quote(text: &str) -> Option<usize>
     ensures unclosed { IfSome result (IsUnclosed text.now) }
     ensures closed { IfNone result (open_quote text.now ≡ None) }
 {
+    match memchr2(b'"', b'\'', text.as_bytes()) {
+        Some(first) => unclosed_from(text, first),
+        None => None,
+    }
+}
+
+/// The same, of a text in which no quote is open at this place.
+fn unclosed_from(text: &str, start: usize) -> Option<usize>
+    requires within { start ≤ length text.now }
+    requires outside { open_quote (take start text.now) ≡ None }
+    ensures unclosed { IfSome result (IsUnclosed text.now) }
+    ensures closed { IfNone result (open_quote text.now ≡ None) }
+{
+    let bytes = text.as_bytes();
     let mut quote = None;
-    let mut place = 0;
-    for (at, byte) in text.as_bytes().iter().enumerate() {
+    let mut place = start;
+    for at in start..bytes.len() {
         if quote.is_none() {
             place = at;
         }
-        quote = open_behind(quote, *byte);
+        quote = open_behind(quote, bytes[at]);
     }
     match quote {
         Some(_) => Some(place),

@@ -1,20 +1,11 @@
-use Rattle.std.proofs.Common.{ℕ, ◌+◌, ◌<◌, ap, sym, subst, List, length, get_or, Option, not, ◌∙◌, arith}
-use Rattle.std.proofs.lemmas.Bool.{false≢true}
-use Rattle.text_parsers.proofs.Quoting.{Opened, nothing_opened, opened_more}
+use Rattle.text_parsers.proofs.Quoting.{no_quote, quote_within, none_before}
 use Rattle.text_parsers.proofs.quotes.unclosed_quote.Goals as goal
-use Rattle.text_parsers.proofs.quotes.unclosed_quote.Goals.{then-is_none, else-is_none}
 
-pub loop-at-init : goal.loop-at-init
-loop-at-init c = nothing_opened c.args.text.now 0
+pub unclosed_from-requires-clause-within : goal.unclosed_from-requires-clause-within
+unclosed_from-requires-clause-within c = quote_within c.args.text.now c.as_bytes.result.now c.in-Some.first c.as_bytes.ensures.value c.in-Some.ensures
 
-pub loop-at-preserved : goal.loop-at-preserved
-loop-at-preserved c =
-    let at = c.loop-at.at in
-    let same = c.as_bytes-byte-items.ensures.value in
-    let inside : at < length c.args.text.now = let l = c.loop-at-test.true in let e = ap length same in omega arith in
-    subst (λ (q : Option ℕ). Opened c.args.text.now (at + 1) q c.if-is_none.place) (sym c.open_behind-quote.ensures)
-    (opened_more c.args.text.now at c.loop-at.place c.if-is_none.place (get_or c.as_bytes-byte-items.result.now at 0) c.loop-at.quote inside
-    (ap (λ (l : List ℕ). get_or l at 0) same)
-    (λ e. elim c.if-is_none.branch [ then-is_none w ↦ w.place-is | else-is_none w ↦ absurd (false≢true (sym (ap not w.if-is_none.ensures) ∙ e)) ])
-    (λ e. elim c.if-is_none.branch [ then-is_none w ↦ absurd (false≢true (sym e ∙ ap not w.if-is_none.ensures)) | else-is_none w ↦ w.place-is ])
-    c.loop-at.invariant)
+pub unclosed_from-requires-clause-outside : goal.unclosed_from-requires-clause-outside
+unclosed_from-requires-clause-outside c = none_before c.args.text.now c.as_bytes.result.now c.in-Some.first c.as_bytes.ensures.value c.in-Some.ensures
+
+pub returns-in-None-clause-closed : goal.returns-in-None-clause-closed
+returns-in-None-clause-closed c = no_quote c.args.text.now c.as_bytes.result.now c.as_bytes.ensures.value c.in-None.ensures
