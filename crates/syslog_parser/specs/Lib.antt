@@ -1,0 +1,15 @@
+pub mod Bytes
+pub mod Words
+pub mod Priorities
+pub mod Stamps
+pub mod Structured
+pub mod Rfc5424
+pub mod Rfc3164
+pub mod Leftmost
+pub mod Machines
+pub mod States5424
+pub mod States3164
+pub mod Told
+pub mod Faults
+pub mod Reads
+pub mod Senders
