@@ -1,0 +1,9 @@
+pub mod FilterLemmas
+pub mod TableLemmas
+pub mod GroupLemmas
+pub mod MeaningLemmas
+pub mod PositionLemmas
+pub mod StepLemmas
+pub mod JudgeLemmas
+pub mod SpellingLemmas
+pub mod RunLemmas

@@ -1,0 +1,12 @@
+use Rattle.std.proofs.Common.{ap}
+use Rattle.recombine.specs.Group.{Group}
+use Rattle.recombine.proofs.TableLemmas.{group_at, entries_most, seen_range}
+use Rattle.recombine.proofs.groups.Groups.entries_at.Goals as goal
+
+pub returns-clause-value : goal.returns-clause-value
+returns-clause-value c = λ before behind group parts count.
+    ap (λ (g : Group). g.entries) (group_at c.self.inside.in_order.items c.args.self.now c.args.place c.index.result.now c.self.view_is c.requires c.index.ensures before behind group parts count)
+
+pub returns-clause-most : goal.returns-clause-most
+returns-clause-most c =
+    entries_most c.self.inside.in_order.items c.self.inside.bytes c.args.place c.index.result.now c.self.invariant (seen_range c.self.inside.in_order.items c.args.self.now c.args.place c.self.view_is c.requires) c.index.ensures

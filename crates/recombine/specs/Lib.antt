@@ -1,0 +1,16 @@
+pub mod Group
+pub mod Joining
+pub mod Item
+pub mod Sources
+pub mod Steps
+pub mod Recombined
+pub mod Stepped
+pub mod Positions
+pub mod ByPosition
+pub mod Runs
+pub mod Table
+pub mod Spelling
+pub mod Rules
+pub mod Reading
+pub mod Told
+pub mod Restores

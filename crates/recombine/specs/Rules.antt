@@ -1,0 +1,22 @@
+-- Which groups have a spelling.
+use Rattle.std.specs.Prelude.{◌≤◌, List, [], ◌∷◌, length, ⊤}
+use Rattle.state_codec.specs.Rules.{IsShortText, IsReadable}
+use Rattle.recombine.specs.declared.TheConstants.{GROUP_LIMIT, BATCH_LIMIT}
+use Rattle.recombine.specs.Group.{Group}
+use Rattle.recombine.specs.Sources.{AreOfOthers}
+
+pub record KeepsRules (group : Group) : Type 0 where
+  pub source : IsShortText group.source
+  pub some : 1 ≤ group.entries
+  pub most : group.entries ≤ BATCH_LIMIT
+  pub text : IsShortText group.text
+  pub base : IsReadable group.base
+
+-- each does, and no two are of one source
+abbrev pub KeepRules : List Group → Type 0
+KeepRules [] = ⊤
+KeepRules (group ∷ groups) = KeepsRules group × (AreOfOthers group.source groups × KeepRules groups)
+
+pub record AreSpellable (groups : List Group) : Type 0 where
+  pub few : length groups ≤ GROUP_LIMIT
+  pub each : KeepRules groups

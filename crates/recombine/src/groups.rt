@@ -1,0 +1,169 @@
+// The open groups, in the order in which they were opened.
+ghost use Rattle.std.specs.Prelude.{◌≡◌, ◌+◌, ◌<◌, ◌≤◌, ◌^◌, ◌↔◌, [], ◌∷◌, ◌++◌, length, IsTrue, OnOk, string_bytes};
+ghost use Rattle.entry_model.specs.Lawful.{NestsWithin};
+ghost use Rattle.entry_model.specs.LogRecord.{log_record};
+ghost use Rattle.state_codec.specs.declared.TheConstants.{LEVELS};
+ghost use Rattle.recombine.specs.declared.TheConstants.{GROUP_LIMIT, BATCH_LIMIT};
+ghost use Rattle.recombine.specs.Sources.{AreOfOthers};
+ghost use Rattle.recombine.specs.Steps.{text_bytes};
+ghost use Rattle.recombine.specs.Table.{group_seen, groups_seen, IsOpen, AreOpen, IsPlace, Changes, Tells, with_piece, with_entries, with_base, without};
+
+use crate::group::OpenGroup;
+use entry_model::{Entry, Text};
+use std::alloc::{AllocError, Global};
+use std::marker::Model;
+use std::mem;
+
+/// The open groups of one recombine and one file, in the order in which they were opened. Contracts see them as the list of
+/// what they are, so that groups that were restored equal those that were saved.
+#[derive(Drop)]
+pub struct Groups {
+    in_order: Vec<OpenGroup>,
+    // How many bytes their texts have together.
+    bytes: usize,
+}
+
+impl Model for Groups {
+    ghost use Rattle.std.specs.Prelude.{List};
+    ghost use Rattle.recombine.specs.Group.{Group, groups_code};
+
+    ghost Value = { List Group };
+
+    ghost coded = { groups_code };
+
+    ghost use Rattle.recombine.specs.Table.{groups_seen, IsTable};
+
+    ghost view = { λ groups. groups_seen groups.in_order.items };
+
+    ghost invariant = { λ groups. IsTable (groups_seen groups.in_order.items) groups.bytes };
+}
+
+impl Groups {
+    /// No open groups.
+    pub fn new(alloc: Global) -> Groups
+        ensures { result ≡ [] }
+    {
+        Groups {
+            in_order: Vec::new(alloc),
+            bytes: 0,
+        }
+    }
+
+    /// Whether no group is open.
+    pub fn is_empty(&self) -> bool
+        ensures { IsTrue result ↔ (self.now ≡ []) }
+    {
+        self.in_order.is_empty()
+    }
+
+    /// How many groups are open.
+    pub(crate) fn len(&self) -> usize
+        ensures value { result ≡ length self.now }
+        ensures few { result ≤ GROUP_LIMIT }
+    {
+        self.in_order.len()
+    }
+
+    /// How many bytes their texts have together.
+    pub(crate) fn bytes(&self) -> usize
+        ensures value { result ≡ text_bytes self.now }
+        ensures few { length self.now ≤ GROUP_LIMIT }
+    {
+        self.bytes
+    }
+
+    /// The groups, in order.
+    pub(crate) fn in_order(&self) -> &[OpenGroup]
+        ensures seen { groups_seen result.now ≡ self.now }
+        ensures are_open { AreOpen self.now }
+    {
+        self.in_order.as_slice()
+    }
+
+    /// The place of the group of a source.
+    pub(crate) fn place_of(&self, source: &Text) -> Option<usize>
+        ensures { IsPlace source.now self.now result }
+    {
+        for (place, group) in self.in_order.iter().enumerate() {
+            if *source == group.source {
+                return Some(place);
+            }
+        }
+        None
+    }
+
+    /// How many entries the group at a place has.
+    pub(crate) fn entries_at(&self, place: usize) -> u32
+        requires { place < length self.now }
+        ensures value { Tells self.now place (λ group. group.entries ≡ result) }
+        ensures most { result ≤ BATCH_LIMIT }
+    {
+        self.in_order[place].entries
+    }
+
+    /// Puts a piece behind the text of the group at a place. Where memory runs out all is as it was.
+    pub(crate) fn append(&mut self, place: usize, piece: &str) -> Result<(), AllocError>
+        requires in_range { place < length self.old }
+        requires fits { text_bytes self.old + length piece.now < 2 ^ 64 }
+        ensures ok { OnOk result (Changes self.old place (with_piece piece.now) self.new) }
+    {
+        let group = &mut self.in_order[place];
+        group.text.push_str(piece)?;
+        self.bytes += piece.len();
+        Ok(())
+    }
+
+    pub(crate) fn set_entries(&mut self, place: usize, entries: u32)
+        requires in_range { place < length self.old }
+        requires some { 1 ≤ entries }
+        requires most { entries ≤ BATCH_LIMIT }
+        ensures { Changes self.old place (with_entries entries) self.new }
+    {
+        let group = &mut self.in_order[place];
+        group.entries = entries;
+    }
+
+    /// Makes another entry the base of the group at a place, and hands the old one out.
+    pub(crate) fn set_base(&mut self, place: usize, base: Entry) -> Entry
+        requires in_range { place < length self.old }
+        requires shallow { NestsWithin LEVELS (log_record base) }
+        ensures { Changes self.old place (with_base base) self.new }
+    {
+        let group = &mut self.in_order[place];
+        mem::replace(&mut group.base, base)
+    }
+
+    /// Takes the group at a place out.
+    pub(crate) fn remove(&mut self, place: usize) -> OpenGroup
+        requires in_range { place < length self.old }
+        ensures left { Changes self.old place without self.new }
+        ensures taken { Tells self.old place (λ group. group ≡ group_seen result) }
+    {
+        let group = self.in_order.remove(place);
+        self.bytes -= group.text.as_str().len();
+        group
+    }
+
+    /// Puts a group behind the others. Where memory runs out all is as it was.
+    pub(crate) fn push(&mut self, group: OpenGroup) -> Result<(), AllocError>
+        requires new { AreOfOthers group.source self.old }
+        requires is_open { IsOpen (group_seen group) }
+        requires few { length self.old < GROUP_LIMIT }
+        requires fits { text_bytes self.old + length (string_bytes group.text) < 2 ^ 64 }
+        ensures { OnOk result (self.new ≡ self.old ++ group_seen group ∷ []) }
+    {
+        let size = group.text.as_str().len();
+        self.in_order.push(group)?;
+        self.bytes += size;
+        Ok(())
+    }
+
+    /// Takes all groups out, in order.
+    pub(crate) fn take_all(&mut self, alloc: Global) -> Vec<OpenGroup>
+        ensures taken { groups_seen result.items ≡ self.old }
+        ensures left { self.new ≡ [] }
+    {
+        let Groups { in_order, .. } = mem::replace(self, Groups::new(alloc));
+        in_order
+    }
+}
