@@ -16,12 +16,14 @@ use Rattle.op_kinds.specs.AnyOpView.{act_of}
 use Rattle.op_kinds.specs.Compiled.{ArePathTexts, AreExpressions, Does, Routes, IsCondition, IsCompiledTo, drops_faulty}
 use Rattle.op_kinds.specs.Operator as operator
 use Rattle.op_kinds.specs.Operator.{Act, Operator, conditional, router}
-use Rattle.op_kinds.specs.Readings.{Reading, path, member, expression, IsFaulty, own_readings, condition_readings, readings, route_reading, IsLeastCause, AreRead}
+use Rattle.op_kinds.specs.Said.{by_pattern, as_json}
+use Rattle.op_kinds.specs.Readings.{Reading, path, member, expression, pattern, names, IsFaulty, own_readings, parser_readings, condition_readings, readings, route_reading, IsLeastCause, AreRead}
 use Rattle.op_kinds.specs.WorkView.{IsWorkOf, operator_of}
 use Rattle.op_kinds.specs.declared.cause.OpCause.{OpCause}
 use Rattle.op_kinds.specs.declared.compiling.Work.{Work}
 use Rattle.op_kinds.specs.declared.compiling.Work.TheVariants.{Act as ActWork, Route}
-use Rattle.op_kinds.proofs.Readings.{has-either}
+use Rattle.op_kinds.proofs.Parsers.{parser_is_read, one_parser}
+use Rattle.op_kinds.proofs.Readings.{all_are_read, one_is_read, two_are_read, pattern_is_read}
 use Rattle.settings_text.specs.declared.settings.OpKind.TheVariants as kind
 use Rattle.settings_text.specs.declared.settings.OpKind.{OpKind}
 use Rattle.settings_text.specs.declared.settings.OpSpec.{OpSpec}
@@ -70,24 +72,17 @@ routes_are_read (route ∷ routes) [] are reading has faulty = are
 routes_are_read (route ∷ routes) (tree ∷ trees) are reading (inl is) faulty = faulty_at (expression route.expr) reading is faulty tree are.0
 routes_are_read (route ∷ routes) (tree ∷ trees) are reading (inr has) faulty = routes_are_read routes trees are.1 reading has faulty
 
-two_are_read : (from to : List ℕ) (source target : Place) → IsPathText from source → IsPathText to target → AreRead (path from ∷ path to ∷ [])
-two_are_read from to source target first second reading (inl is) faulty = faulty_at (path from) reading is faulty source first
-two_are_read from to source target first second reading (inr (inl is)) faulty = faulty_at (path to) reading is faulty target second
-two_are_read from to source target first second reading (inr (inr none)) faulty = none
-
-one_is_read : (one : Reading) → (IsFaulty one → ⊥) → AreRead (one ∷ [])
-one_is_read one fine reading (inl is) faulty = fine (faulty_at one reading is faulty)
-one_is_read one fine reading (inr none) faulty = none
-
 done_is_read : (kind : OpKind) (act : Act) → Does kind act → AreRead (own_readings kind)
 done_is_read kind.Noop act does = λ reading has faulty. has
-done_is_read (kind.Move from to) act does = two_are_read from to does.0 does.1 does.2 does.3
-done_is_read (kind.Copy from to) act does = two_are_read from to does.0 does.1 does.2 does.3
+done_is_read (kind.Move from to) act does = two_are_read (path from) (path to) (λ none. none does.0 does.2) (λ none. none does.1 does.3)
+done_is_read (kind.Copy from to) act does = two_are_read (path from) (path to) (λ none. none does.0 does.2) (λ none. none does.1 does.3)
 done_is_read (kind.Add field value) act does = one_is_read (path field) (λ none. none does.0 does.1)
 done_is_read (kind.Remove field) act does = one_is_read (path field) (λ none. none does.0 does.1)
 done_is_read (kind.Flatten field) act does = one_is_read (member field) (λ none. none does.0 does.1 does.2)
 done_is_read (kind.Retain fields) act does = paths_are_read fields does.0 does.1
 done_is_read (kind.Filter expr) act does = one_is_read (expression expr) (λ none. none does.0 does.1)
+done_is_read (kind.Json parser) act does = parser_is_read as_json parser does.0 does.1
+done_is_read (kind.Regex regex parser) act does = all_are_read (pattern regex ∷ names regex ∷ []) (parser_readings parser) (pattern_is_read regex does.1) (parser_is_read (by_pattern regex) parser does.0 does.2)
 done_is_read (kind.Router routes default) act does = λ reading has faulty. does
 
 routed_is_read : (kind : OpKind) (trees : List Tree) (has_default : Bool) → Routes kind trees has_default → AreRead (own_readings kind)
@@ -99,6 +94,8 @@ routed_is_read (kind.Remove field) trees has_default is = λ reading has faulty.
 routed_is_read (kind.Flatten field) trees has_default is = λ reading has faulty. is
 routed_is_read (kind.Retain fields) trees has_default is = λ reading has faulty. is
 routed_is_read (kind.Filter expr) trees has_default is = λ reading has faulty. is
+routed_is_read (kind.Json parser) trees has_default is = λ reading has faulty. is
+routed_is_read (kind.Regex regex parser) trees has_default is = λ reading has faulty. is
 routed_is_read (kind.Router routes default) trees has_default is = routes_are_read routes trees is.0
 
 pub work_is_read : (kind : OpKind) (work : Work) → IsWorkOf kind work → AreRead (own_readings kind)
@@ -109,9 +106,6 @@ pub condition_is_read : (condition : Option (List ℕ)) (tree : Option Tree) →
 condition_is_read None tree is = λ reading has faulty. has
 condition_is_read (Some text) None is = λ reading has faulty. is
 condition_is_read (Some text) (Some tree) is = one_is_read (expression text) (λ none. none tree is)
-
-all_are_read : (front back : List Reading) → AreRead front → AreRead back → AreRead (front ++ back)
-all_are_read front back first then_so reading has = elim (has-either front back reading has) [ inl in_front ↦ first reading in_front | inr behind ↦ then_so reading behind ]
 
 compiled_is_read : (spec : OpSpec) (made : Operator) → IsCompiledTo spec made → AreRead (readings spec)
 compiled_is_read spec (conditional condition act drops) is =
@@ -190,6 +184,10 @@ same_act (kind.Retain fields) act other does also =
     does.2 ∙ ap operator.retain (same_paths fields does.0 also.0 does.1 also.1) ∙ sym also.2
 same_act (kind.Filter expr) act other does also =
     does.2 ∙ ap operator.filter (one_tree expr does.0 also.0 does.1 also.1) ∙ sym also.2
+same_act (kind.Json parser) act other does also =
+    does.2 ∙ ap operator.parse (one_parser as_json parser does.0 also.0 does.1 also.1) ∙ sym also.2
+same_act (kind.Regex regex parser) act other does also =
+    does.3 ∙ ap operator.parse (one_parser (by_pattern regex) parser does.0 also.0 does.2 also.2) ∙ sym also.3
 same_act (kind.Router routes default) act other does also = absurd does
 
 not_both : (kind : OpKind) (act : Act) (trees : List Tree) (has_default : Bool) → Does kind act → Routes kind trees has_default → ⊥
@@ -201,6 +199,8 @@ not_both (kind.Remove field) act trees has_default does routes = routes
 not_both (kind.Flatten field) act trees has_default does routes = routes
 not_both (kind.Retain fields) act trees has_default does routes = routes
 not_both (kind.Filter expr) act trees has_default does routes = routes
+not_both (kind.Json parser) act trees has_default does routes = routes
+not_both (kind.Regex regex parser) act trees has_default does routes = routes
 not_both (kind.Router routes default) act trees has_default does _ = does
 
 same_routes : (kind : OpKind) (trees others : List Tree) (has also_has : Bool) → Routes kind trees has → Routes kind others also_has → (trees ≡ others) × (has ≡ also_has)
@@ -212,6 +212,8 @@ same_routes (kind.Remove field) trees others has also_has routes also = absurd r
 same_routes (kind.Flatten field) trees others has also_has routes also = absurd routes
 same_routes (kind.Retain fields) trees others has also_has routes also = absurd routes
 same_routes (kind.Filter expr) trees others has also_has routes also = absurd routes
+same_routes (kind.Json parser) trees others has also_has routes also = absurd routes
+same_routes (kind.Regex regex parser) trees others has also_has routes also = absurd routes
 same_routes (kind.Router all default) trees others has also_has routes also = (same_trees all trees others routes.0 also.0, routes.1 ∙ sym also.1)
 
 pub one_operator : (spec : OpSpec) (made other : Operator) → IsCompiledTo spec made → IsCompiledTo spec other → made ≡ other

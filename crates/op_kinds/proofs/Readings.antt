@@ -1,7 +1,7 @@
 -- Texts that can't be read, and the least cause.
-use Rattle.std.proofs.Common.{◌≡◌, ◌≢◌, ℕ, zero, suc, ◌<◌, ◌≤◌, ◌⊎◌, List, [], ◌∷◌, ◌++◌, inl, inr, Bool, true, false, true≢false, length, length-append, map, arith, refl, sym, ap, subst, ◌∙◌}
+use Rattle.std.proofs.Common.{◌≡◌, ◌≢◌, ℕ, zero, suc, ◌<◌, ◌≤◌, ◌⊎◌, List, [], ◌∷◌, ◌++◌, inl, inr, Bool, true, false, true≢false, length, length-append, map, IfOk, IfErr, arith, rules, refl, sym, ap, subst, ◌∙◌}
 use Rattle.std.proofs.lemmas.Bool.{ltb-true, ltb-false}
-use Rattle.std.specs.Prelude.{slice_index_or, nat_lt, if◌then◌else◌, Option, None, Some}
+use Rattle.std.specs.Prelude.{slice_index_or, nat_lt, if◌then◌else◌, Option, None, Some, Result, Ok, Err}
 use Rattle.expr_lang.specs.Outcome.{IsReadFault as IsExprFault}
 use Rattle.expr_lang.specs.declared.read.ExprReadFault.{ExprReadFault}
 use Rattle.expr_lang.specs.declared.read.ExprReadFault.TheVariants as expr
@@ -13,11 +13,20 @@ use Rattle.field_paths.specs.ReadFault.{IsReadFault}
 use Rattle.field_paths.specs.declared.path.PathFault.{PathFault}
 use Rattle.field_paths.specs.declared.path.PathFault.TheVariants.{NotAPath, Memory}
 use Rattle.graph_core.specs.Wiring.{Has}
-use Rattle.op_kinds.specs.Causes.{of_path_fault, of_read_fault}
-use Rattle.op_kinds.specs.Readings.{Reading, path, member, expression, IsFaulty, route_reading, cause_of, number, least_of, IsLeastCause, Caused, AreRead}
+use Rattle.op_kinds.specs.Causes.{of_path_fault, of_read_fault, of_regex_fault, of_layout_fault}
+use Rattle.op_kinds.specs.Readings.{Reading, path, member, expression, pattern, names, layout, count, IsFaulty, route_reading, cause_of, number, least_of, IsLeastCause, Caused, AreRead, Answers, both}
 use Rattle.op_kinds.specs.declared.cause.OpCause.{OpCause}
 use Rattle.op_kinds.specs.declared.cause.OpCause.TheVariants as cause
+use Rattle.op_kinds.specs.Parsers.{count_named, IsPattern}
 use Rattle.settings_text.specs.declared.settings.RouteSpec.{RouteSpec}
+use Rattle.text_parsers.specs.Groups.{IsRefused}
+use Rattle.text_parsers.specs.declared.regex_fault.RegexFault.{RegexFault}
+use Rattle.text_parsers.specs.declared.regex_fault.RegexFault.TheVariants as regex
+use Rattle.time_layout.specs.LayoutFaults.{IsFaultOf}
+use Rattle.time_layout.specs.LayoutText.{layout_parts}
+use Rattle.time_layout.specs.declared.fault.LayoutFault.{LayoutFault}
+use Rattle.time_layout.specs.declared.fault.LayoutFault.TheVariants as layout_fault
+use Rattle.time_layout.specs.declared.parts.Part.{Part}
 
 -- ---- members of lists
 
@@ -51,17 +60,48 @@ not_memory : (reading : Reading) → cause_of reading ≢ cause.Memory
 not_memory (path text) is = cc is
 not_memory (member text) is = cc is
 not_memory (expression text) is = cc is
+not_memory (pattern text) is = cc is
+not_memory (names text) is = cc is
+not_memory (layout text) is = cc is
+not_memory (count text) is = cc is
 
 same_number : (one other : OpCause) → number one ≡ number other → one ≡ other
 same_number cause.Memory cause.Memory is = refl
 same_number cause.Memory cause.Path is = absurd (omega (arith, is))
 same_number cause.Memory cause.Expr is = absurd (omega (arith, is))
+same_number cause.Memory cause.Pattern is = absurd (omega (arith, is))
+same_number cause.Memory cause.Layout is = absurd (omega (arith, is))
+same_number cause.Memory cause.NoNames is = absurd (omega (arith, is))
 same_number cause.Path cause.Memory is = absurd (omega (arith, is))
 same_number cause.Path cause.Path is = refl
 same_number cause.Path cause.Expr is = absurd (omega (arith, is))
+same_number cause.Path cause.Pattern is = absurd (omega (arith, is))
+same_number cause.Path cause.Layout is = absurd (omega (arith, is))
+same_number cause.Path cause.NoNames is = absurd (omega (arith, is))
 same_number cause.Expr cause.Memory is = absurd (omega (arith, is))
 same_number cause.Expr cause.Path is = absurd (omega (arith, is))
 same_number cause.Expr cause.Expr is = refl
+same_number cause.Expr cause.Pattern is = absurd (omega (arith, is))
+same_number cause.Expr cause.Layout is = absurd (omega (arith, is))
+same_number cause.Expr cause.NoNames is = absurd (omega (arith, is))
+same_number cause.Pattern cause.Memory is = absurd (omega (arith, is))
+same_number cause.Pattern cause.Path is = absurd (omega (arith, is))
+same_number cause.Pattern cause.Expr is = absurd (omega (arith, is))
+same_number cause.Pattern cause.Pattern is = refl
+same_number cause.Pattern cause.Layout is = absurd (omega (arith, is))
+same_number cause.Pattern cause.NoNames is = absurd (omega (arith, is))
+same_number cause.Layout cause.Memory is = absurd (omega (arith, is))
+same_number cause.Layout cause.Path is = absurd (omega (arith, is))
+same_number cause.Layout cause.Expr is = absurd (omega (arith, is))
+same_number cause.Layout cause.Pattern is = absurd (omega (arith, is))
+same_number cause.Layout cause.Layout is = refl
+same_number cause.Layout cause.NoNames is = absurd (omega (arith, is))
+same_number cause.NoNames cause.Memory is = absurd (omega (arith, is))
+same_number cause.NoNames cause.Path is = absurd (omega (arith, is))
+same_number cause.NoNames cause.Expr is = absurd (omega (arith, is))
+same_number cause.NoNames cause.Pattern is = absurd (omega (arith, is))
+same_number cause.NoNames cause.Layout is = absurd (omega (arith, is))
+same_number cause.NoNames cause.NoNames is = refl
 
 ordered : (n m : ℕ) → (n < m) ⊎ ((n ≡ m) ⊎ (m < n))
 ordered zero zero = inr (inl refl)
@@ -159,6 +199,10 @@ paths_first : (text : List ℕ) (all : List Reading) (other : Reading) → Has a
 paths_first text all (path other) has = omega arith
 paths_first text all (member other) has = omega arith
 paths_first text all (expression other) has = omega arith
+paths_first text all (pattern other) has = omega arith
+paths_first text all (names other) has = omega arith
+paths_first text all (layout other) has = omega arith
+paths_first text all (count other) has = omega arith
 
 pub first_path : (from to : List ℕ) (found : OpCause) → Caused (path from ∷ []) found → Caused (path from ∷ path to ∷ []) found
 first_path from to found given = caused_among (path from) (path from ∷ path to ∷ []) found (inl refl) (paths_first from (path from ∷ path to ∷ [])) given
@@ -201,6 +245,9 @@ none_below : (found : OpCause) → found ≢ cause.Memory → number found ≤ 0
 none_below cause.Memory some below = some refl
 none_below cause.Path some below = omega (arith, below)
 none_below cause.Expr some below = omega (arith, below)
+none_below cause.Pattern some below = omega (arith, below)
+none_below cause.Layout some below = omega (arith, below)
+none_below cause.NoNames some below = omega (arith, below)
 
 -- ---- a whole operator
 
@@ -252,3 +299,55 @@ least_caused front back one other first then_so = by (nat_lt (number other) (num
             | inr behind ↦ last.least third behind (omega (arith, lesser, ltb-false (number other) (number one) is)) faulty
           ];
         }
+
+-- ---- what was read
+
+pub all_are_read : (front back : List Reading) → AreRead front → AreRead back → AreRead (front ++ back)
+all_are_read front back first then_so reading has = elim (has-either front back reading has) [ inl in_front ↦ first reading in_front | inr behind ↦ then_so reading behind ]
+
+pub one_is_read : (one : Reading) → (IsFaulty one → ⊥) → AreRead (one ∷ [])
+one_is_read one fine reading (inl is) faulty = fine (subst IsFaulty is faulty)
+one_is_read one fine reading (inr none) faulty = none
+
+pub two_are_read : (one other : Reading) → (IsFaulty one → ⊥) → (IsFaulty other → ⊥) → AreRead (one ∷ other ∷ [])
+two_are_read one other fine also = all_are_read (one ∷ []) (other ∷ []) (one_is_read one fine) (one_is_read other also)
+
+-- ---- what readers answer
+
+pub both_answer : {A B : Type 0} (all more : List Reading) (one : Result A OpCause) (other : Result B OpCause) → Answers all one → Answers more other → Answers (all ++ more) (both one other)
+both_answer all more (Ok x) (Ok y) first second = all_are_read all more first second
+both_answer all more (Ok x) (Err found) first second = caused_behind all more found first second
+both_answer all more (Err found) (Ok y) first second = caused_alone all more found second first
+both_answer all more (Err found) (Err other) first second = least_caused all more found other first second
+
+-- what both answered, where they answered
+pub both_made : {A B : Type 0} (one : Result A OpCause) (other : Result B OpCause) (x : A) (y : B) → both one other ≡ Ok (x, y) → (one ≡ Ok x) × (other ≡ Ok y)
+both_made {A} {B} (Ok a) (Ok b) x y is =
+    let pair : (a, b) ≡ (x, y) = cc is in
+    (ap (λ (p : A × B). Ok p.0) pair, ap (λ (p : A × B). Ok p.1) pair)
+both_made (Ok a) (Err found) x y is = absurd (search (rules, is))
+both_made (Err found) (Ok b) x y is = absurd (search (rules, is))
+both_made (Err found) (Err other) x y is = absurd (search (rules, is))
+
+pub path_answers : (text : List ℕ) (read : Result Place OpCause) → IfOk read (IsPathText text) → IfErr read (Caused (path text ∷ [])) → Answers (path text ∷ []) read
+path_answers text (Ok place) is given = one_is_read (path text) (λ none. none place is)
+path_answers text (Err found) is given = given
+
+pub two_paths_answer : (from to : List ℕ) (read : Result (Place × Place) OpCause) → IfOk read (λ p. IsPathText from p.0 × IsPathText to p.1) → IfErr read (Caused (path from ∷ path to ∷ [])) → Answers (path from ∷ path to ∷ []) read
+two_paths_answer from to (Ok places) is given = two_are_read (path from) (path to) (λ none. none places.0 is.0) (λ none. none places.1 is.1)
+two_paths_answer from to (Err found) is given = given
+
+pub pattern_answers : (text : List ℕ) (fault : RegexFault) → IsRefused text fault → Caused (pattern text ∷ names text ∷ []) (of_regex_fault fault)
+pattern_answers text regex.Refused is = caused_in_front (pattern text ∷ []) (names text ∷ []) cause.Pattern (λ other has. elim has [ inl same ↦ omega (arith, ap (λ r. number (cause_of r)) same) | inr none ↦ absurd none ]) (λ _. of_one (pattern text) cause.Pattern refl is)
+pattern_answers text regex.NoNames is = caused_behind (pattern text ∷ []) (names text ∷ []) cause.NoNames (one_is_read (pattern text) (λ faulty. true≢false (sym is.0 ∙ faulty))) (λ _. of_one (names text) cause.NoNames refl is.1)
+pattern_answers text regex.Memory is = λ some. absurd (some refl)
+
+pub pattern_is_read : (text : List ℕ) → IsPattern text → AreRead (pattern text ∷ names text ∷ [])
+pattern_is_read text is = two_are_read (pattern text) (names text) (λ faulty. true≢false (sym is.read ∙ faulty)) (λ faulty. is.named faulty)
+
+pub layout_answers : (text : List ℕ) (fault : LayoutFault) → IsFaultOf (layout_parts text) fault → Caused (layout text ∷ []) (of_layout_fault fault)
+layout_answers text (layout_fault.Directive at) is = λ _. of_one (layout text) cause.Layout refl (λ parts spelled. absurd (search (rules, sym is ∙ spelled)))
+layout_answers text layout_fault.Memory is = λ some. absurd (some refl)
+
+pub count_answers : (text : List ℕ) → count_named text ≡ None → Caused (count text ∷ []) cause.Layout
+count_answers text is = λ _. of_one (count text) cause.Layout refl is

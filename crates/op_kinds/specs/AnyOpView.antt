@@ -6,8 +6,9 @@ use Rattle.entry_model.specs.LogRecord.{LogRecord}
 use Rattle.expr_lang.specs.TreeOf.{tree_of}
 use Rattle.op_kinds.specs.Operator as op
 use Rattle.op_kinds.specs.Operator.{Act, Operator}
+use Rattle.op_kinds.specs.ParserView.{parsing_of}
 use Rattle.op_kinds.specs.declared.action.Action.{Action}
-use Rattle.op_kinds.specs.declared.action.Action.TheVariants.{Noop, Move, Copy, Add, Remove, Flatten, Retain, Filter}
+use Rattle.op_kinds.specs.declared.action.Action.TheVariants.{Noop, Move, Copy, Add, Remove, Flatten, Retain, Parse, Filter}
 use Rattle.op_kinds.specs.declared.action.Fate.{Fate}
 use Rattle.op_kinds.specs.declared.action.Fate.TheVariants.{Sent, Dropped, Faulty}
 use Rattle.op_kinds.specs.declared.row.RowFault.{RowFault}
@@ -23,6 +24,7 @@ act_of (Add made) = op.add made.field (datum made.value)
 act_of (Remove made) = op.remove made.field
 act_of (Flatten made) = op.flatten made.parent made.name
 act_of (Retain made) = op.retain made.fields.items
+act_of (Parse made) = op.parse (parsing_of made)
 act_of (Filter expr) = op.filter (tree_of expr)
 
 abbrev pub form_of : Form → Operator

@@ -7,12 +7,14 @@ use Rattle.entry_model.specs.Code.{datum_code}
 use Rattle.entry_model.specs.Datum.{Datum}
 use Rattle.expr_lang.specs.Tree.{Tree}
 use Rattle.field_paths.specs.Place.{Place}
-use Rattle.op_kinds.specs.Operator.{Act, noop, move, copy, add, remove, flatten, retain, filter, Operator, conditional, router}
+use Rattle.op_kinds.specs.Operator.{Act, noop, move, copy, add, remove, flatten, retain, filter, parse, Operator, conditional, router}
+use Rattle.op_kinds.specs.Parsing.{Parsing}
+use Rattle.op_kinds.specs.ParsingCode.{parsing_code}
 use Rattle.op_kinds.specs.PlaceCode.{place_code}
 use Rattle.op_kinds.specs.TreeCode.{tree_code}
 
 abbrev pub Acts : Type 0
-Acts = (Unit {0} ⊎ (Place × Place) ⊎ Place × Place) ⊎ ((Place × Datum) ⊎ Place) ⊎ (Place × List ℕ) ⊎ List Place ⊎ Tree
+Acts = (Unit {0} ⊎ (Place × Place) ⊎ Place × Place) ⊎ ((Place × Datum) ⊎ Place) ⊎ (Place × List ℕ) ⊎ List Place ⊎ (Tree ⊎ Parsing)
 
 abbrev pub act_case : Act → Acts
 act_case noop = inl (inl tt)
@@ -22,7 +24,8 @@ act_case (add field value) = inr (inl (inl (field, value)))
 act_case (remove field) = inr (inl (inr field))
 act_case (flatten parent name) = inr (inr (inl (parent, name)))
 act_case (retain fields) = inr (inr (inr (inl fields)))
-act_case (filter expr) = inr (inr (inr (inr expr)))
+act_case (filter expr) = inr (inr (inr (inr (inl expr))))
+act_case (parse parsing) = inr (inr (inr (inr (inr parsing))))
 
 abbrev pub act : Acts → Act
 act (inl (inl _)) = noop
@@ -32,7 +35,8 @@ act (inr (inl (inl p))) = add p.0 p.1
 act (inr (inl (inr field))) = remove field
 act (inr (inr (inl p))) = flatten p.0 p.1
 act (inr (inr (inr (inl fields)))) = retain fields
-act (inr (inr (inr (inr expr)))) = filter expr
+act (inr (inr (inr (inr (inl expr))))) = filter expr
+act (inr (inr (inr (inr (inr parsing))))) = parse parsing
 
 pub act_back : (a : Act) → act (act_case a) ≡ a
 act_back noop = refl
@@ -43,11 +47,12 @@ act_back (remove field) = refl
 act_back (flatten parent name) = refl
 act_back (retain fields) = refl
 act_back (filter expr) = refl
+act_back (parse parsing) = refl
 
 abbrev pub act_code : Coded Act
 act_code = code_by Acts
     (coded⊎ (coded⊎ coded_unit (coded⊎ (coded× place_code place_code) (coded× place_code place_code)))
-    (coded⊎ (coded⊎ (coded× place_code datum_code) place_code) (coded⊎ (coded× place_code (coded_list coded_ℕ)) (coded⊎ (coded_list place_code) tree_code))))
+    (coded⊎ (coded⊎ (coded× place_code datum_code) place_code) (coded⊎ (coded× place_code (coded_list coded_ℕ)) (coded⊎ (coded_list place_code) (coded⊎ tree_code parsing_code)))))
     act_case act act_back
 
 abbrev pub Operators : Type 0

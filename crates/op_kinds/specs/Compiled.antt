@@ -6,6 +6,9 @@ use Rattle.field_ops.specs.Rows.{member_of}
 use Rattle.field_paths.specs.PathText.{IsPathText}
 use Rattle.field_paths.specs.Place.{Place}
 use Rattle.op_kinds.specs.Operator as op
+use Rattle.op_kinds.specs.Parsers.{IsParser, IsPattern}
+use Rattle.op_kinds.specs.Parsing.{Parsing}
+use Rattle.op_kinds.specs.Said.{by_pattern, as_json}
 use Rattle.op_kinds.specs.Operator.{Act, Operator, conditional, router}
 use Rattle.settings_text.specs.declared.settings.OpKind.{OpKind}
 use Rattle.settings_text.specs.declared.settings.OpSpec.{OpSpec}
@@ -43,6 +46,8 @@ Does (kind.Remove field) done = (place : Place) × IsPathText field place × (do
 Does (kind.Flatten field) done = (parent : Place) × (name : List ℕ) × IsPathText field (member_of parent name) × (done ≡ op.flatten parent name)
 Does (kind.Retain fields) done = (places : List Place) × ArePathTexts fields places × (done ≡ op.retain places)
 Does (kind.Filter expr) done = (tree : Tree) × IsExpression expr tree × (done ≡ op.filter tree)
+Does (kind.Json parser) done = (parsing : Parsing) × IsParser as_json parser parsing × (done ≡ op.parse parsing)
+Does (kind.Regex regex parser) done = (parsing : Parsing) × IsPattern regex × IsParser (by_pattern regex) parser parsing × (done ≡ op.parse parsing)
 Does (kind.Router routes default) done = ⊥
 
 abbrev pub IsCondition : Option (List ℕ) → Option Tree → Type 0

@@ -10,6 +10,7 @@ use Rattle.field_ops.specs.Outcome.{Outcome}
 use Rattle.field_ops.specs.Rows as rows
 use Rattle.field_paths.specs.Place.{Place}
 use Rattle.graph_core.specs.Behavior.{Behavior}
+use Rattle.op_kinds.specs.Parsing.{Parsing, parsed}
 use Rattle.op_kinds.specs.Kept.{Kept, fresh_kept}
 
 -- what an operator with one output does with an entry
@@ -24,6 +25,8 @@ pub data Act : Type 0 where
   retain : (fields : List Place) → Act
   -- an entry for which the expression is true is dropped
   filter : (expr : Tree) → Act
+  -- members are made of a value
+  parse : (parsing : Parsing) → Act
 
 pub data Operator : Type 0 where
   -- one output: the act is done on the entries for which the condition is true, or on all where there is none
@@ -67,6 +70,7 @@ row (add field value) entry = changed (rows.added field value entry)
 row (remove field) entry = changed (rows.removed field entry)
 row (flatten parent name) entry = changed (rows.flattened parent name entry)
 row (retain fields) entry = Some (rows.retained fields entry ∷ [])
+row (parse parsing) entry = option_map (λ changed. changed ∷ []) (parsed parsing entry)
 row (filter expr) entry = filtered (holds expr entry) entry
 
 -- ---- operators with one output

@@ -1,16 +1,25 @@
 -- What must be readable in the settings of an operator, and for which cause there is none.
-use Rattle.std.specs.Prelude.{◌≡◌, ◌≢◌, ◌<◌, nat_lt, if◌then◌else◌, ℕ, List, [], ◌∷◌, ◌++◌, map, Option, None, Some}
+use Rattle.std.specs.Prelude.{◌≡◌, ◌≢◌, ◌<◌, nat_lt, if◌then◌else◌, ℕ, List, [], ◌∷◌, ◌++◌, map, false, Option, None, Some, Result, Ok, Err}
 use Rattle.expr_lang.specs.Outcome.{IsNoExpression}
 use Rattle.field_ops.specs.Rows.{member_of}
 use Rattle.field_paths.specs.PathText.{IsPathText}
 use Rattle.field_paths.specs.Place.{Place}
 use Rattle.graph_core.specs.Wiring.{Has}
+use Rattle.op_kinds.specs.Parsers.{count_named}
 use Rattle.op_kinds.specs.declared.cause.OpCause.{OpCause}
-use Rattle.op_kinds.specs.declared.cause.OpCause.TheVariants.{Path, Expr, Memory}
+use Rattle.op_kinds.specs.declared.cause.OpCause.TheVariants.{Path, Expr, Pattern, Layout, NoNames, Memory}
+use Rattle.settings_text.specs.declared.parsing.LayoutType.{LayoutType}
+use Rattle.settings_text.specs.declared.parsing.LayoutType.TheVariants.{Strptime, Epoch}
+use Rattle.settings_text.specs.declared.parsing.ParserKeys.{ParserKeys}
+use Rattle.settings_text.specs.declared.parsing.SeveritySpec.{SeveritySpec}
+use Rattle.settings_text.specs.declared.parsing.TimeSpec.{TimeSpec}
 use Rattle.settings_text.specs.declared.settings.OpKind.{OpKind}
 use Rattle.settings_text.specs.declared.settings.OpSpec.{OpSpec}
 use Rattle.settings_text.specs.declared.settings.RouteSpec.{RouteSpec}
 use Rattle.settings_text.specs.declared.settings.OpKind.TheVariants as kind
+use Rattle.text_parsers.specs.Groups.{is_shallow, named_groups, names_in, reading}
+use Rattle.time_layout.specs.LayoutText.{layout_parts}
+use Rattle.time_layout.specs.declared.parts.Part.{Part}
 
 -- a text that is to be read
 pub data Reading : Type 0 where
@@ -19,6 +28,14 @@ pub data Reading : Type 0 where
   -- as a field path with a member
   member : List ℕ → Reading
   expression : List ℕ → Reading
+  -- as a pattern
+  pattern : List ℕ → Reading
+  -- as a pattern of which a group has a name
+  names : List ℕ → Reading
+  -- as the directives of a layout
+  layout : List ℕ → Reading
+  -- as what a count since 1970 counts
+  count : List ℕ → Reading
 
 abbrev pub IsNoPath : List ℕ → Type 0
 IsNoPath text = (place : Place) → IsPathText text place → ⊥
@@ -27,15 +44,39 @@ IsNoPath text = (place : Place) → IsPathText text place → ⊥
 abbrev pub IsNoMember : List ℕ → Type 0
 IsNoMember text = (parent : Place) (name : List ℕ) → IsPathText text (member_of parent name) → ⊥
 
+-- no parts are spelled by the text
+abbrev pub IsNoLayout : List ℕ → Type 0
+IsNoLayout text = (parts : List Part) → layout_parts text ≡ Ok parts → ⊥
+
 abbrev pub IsFaulty : Reading → Type 0
 IsFaulty (path text) = IsNoPath text
 IsFaulty (member text) = IsNoMember text
 IsFaulty (expression text) = IsNoExpression text
+IsFaulty (pattern text) = is_shallow (reading text) ≡ false
+IsFaulty (names text) = named_groups (names_in (reading text)) ≡ []
+IsFaulty (layout text) = IsNoLayout text
+IsFaulty (count text) = count_named text ≡ None
 
 -- ---- what a type names
 
 abbrev pub route_reading : RouteSpec → Reading
 route_reading route = expression route.expr
+
+abbrev pub layout_reading : LayoutType → List ℕ → Reading
+layout_reading Strptime text = layout text
+layout_reading Epoch text = count text
+
+abbrev pub time_readings : Option TimeSpec → List Reading
+time_readings None = []
+time_readings (Some spec) = path spec.parse_from ∷ layout_reading spec.layout_type spec.layout ∷ []
+
+abbrev pub severity_readings : Option SeveritySpec → List Reading
+severity_readings None = []
+severity_readings (Some spec) = path spec.parse_from ∷ []
+
+-- what all parsers name
+abbrev pub parser_readings : ParserKeys → List Reading
+parser_readings keys = path keys.parse_from ∷ path keys.parse_to ∷ (time_readings keys.timestamp ++ severity_readings keys.severity)
 
 abbrev pub own_readings : OpKind → List Reading
 own_readings kind.Noop = []
@@ -46,6 +87,8 @@ own_readings (kind.Remove field) = path field ∷ []
 own_readings (kind.Flatten field) = member field ∷ []
 own_readings (kind.Retain fields) = map path fields
 own_readings (kind.Filter expr) = expression expr ∷ []
+own_readings (kind.Json parser) = parser_readings parser
+own_readings (kind.Regex regex parser) = pattern regex ∷ names regex ∷ parser_readings parser
 own_readings (kind.Router routes default) = map route_reading routes
 
 abbrev pub condition_readings : Option (List ℕ) → List Reading
@@ -62,12 +105,19 @@ abbrev pub cause_of : Reading → OpCause
 cause_of (path text) = Path
 cause_of (member text) = Path
 cause_of (expression text) = Expr
+cause_of (pattern text) = Pattern
+cause_of (names text) = NoNames
+cause_of (layout text) = Layout
+cause_of (count text) = Layout
 
 -- of several causes the one with the least number counts
 abbrev pub number : OpCause → ℕ
 number Memory = 0
 number Path = 1
 number Expr = 2
+number Pattern = 3
+number Layout = 4
+number NoNames = 5
 
 -- the one of two causes that counts
 abbrev pub least_of : OpCause → OpCause → OpCause
@@ -88,3 +138,15 @@ Caused all cause = cause ≢ Memory → IsLeastCause all cause
 -- all can be read
 abbrev pub AreRead : List Reading → Type 0
 AreRead all = (reading : Reading) → Has all reading → IsFaulty reading → ⊥
+
+-- what two readers answer, or of their causes the one that counts
+abbrev pub both : {A B : Type 0} → Result A OpCause → Result B OpCause → Result (A × B) OpCause
+both (Ok x) (Ok y) = Ok (x, y)
+both (Ok x) (Err cause) = Err cause
+both (Err cause) (Ok y) = Err cause
+both (Err cause) (Err other) = Err (least_of cause other)
+
+-- what a reader answers: a cause that these texts have, or all of them can be read
+abbrev pub Answers : {A : Type 0} → List Reading → Result A OpCause → Type 0
+Answers all (Ok x) = AreRead all
+Answers all (Err cause) = Caused all cause

@@ -3,16 +3,16 @@ ghost use Rattle.std.specs.Prelude.{◌≡◌, IfOk};
 ghost use Rattle.entry_model.specs.LogRecord.{log_record};
 ghost use Rattle.op_kinds.specs.AnyOpView.{act_of, entries_by, fate_from};
 ghost use Rattle.op_kinds.specs.Applied.{IsApplied, effect};
-ghost use Rattle.op_kinds.specs.Faults as faults;
 ghost use Rattle.op_kinds.specs.Operator as operator;
 ghost use Rattle.op_kinds.specs.Operator.{done, row};
 
-use crate::row::RowFault;
+use crate::parsing::Parse;
+use crate::row::{RowFault, in_row};
 use crate::types::filtering;
 use crate::{OpState, Record};
 use entry_model::Entry;
 use expr_lang::Expr;
-use field_ops::{Add, Copy, FieldFault, Flatten, Move, Remove, Retain};
+use field_ops::{Add, Copy, Flatten, Move, Remove, Retain};
 use std::alloc::{AllocError, Global};
 
 /// What an operator with one output does with an entry.
@@ -25,6 +25,7 @@ pub(crate) enum Action {
     Remove(Remove),
     Flatten(Flatten),
     Retain(Retain),
+    Parse(Parse),
     /// An entry for which the expression is true is dropped.
     Filter(Expr),
 }
@@ -90,6 +91,7 @@ impl Action {
             Action::Remove(op) => after(in_row(op.apply(alloc, entry))),
             Action::Flatten(op) => after(in_row(op.apply(alloc, entry))),
             Action::Retain(op) => after(in_row(op.apply(alloc, entry))),
+            Action::Parse(op) => after(op.apply(alloc, entry)),
             Action::Filter(expr) => filtering::apply(alloc, expr, entry),
         }
     }
@@ -102,14 +104,5 @@ fn after(done: Result<(), RowFault>) -> Result<Fate, AllocError>
         Ok(()) => Ok(Fate::Sent),
         Err(RowFault::Faulty) => Ok(Fate::Faulty),
         Err(RowFault::Memory) => Err(AllocError),
-    }
-}
-
-fn in_row(applied: Result<(), FieldFault>) -> Result<(), RowFault>
-    ensures { result ≡ faults.in_row applied }
-{
-    match applied {
-        Ok(()) => Ok(()),
-        Err(fault) => Err(RowFault::from(fault)),
     }
 }

@@ -2,7 +2,9 @@
 use expr_lang::ExprReadFault;
 use field_paths::PathFault;
 use std::alloc::{AllocError, AllocFailed};
+use text_parsers::RegexFault;
 use thiserror::Error;
+use time_layout::LayoutFault;
 
 /// Why the settings of an operator make none. Of several causes the one that stands first here counts.
 #[derive(Clone, Copy, Debug, PartialEq, Eq, Drop, Error)]
@@ -13,6 +15,15 @@ pub enum OpCause {
     /// An expression can't be read.
     #[error("an expression can't be read")]
     Expr,
+    /// A text is no pattern, or nests too deep for one.
+    #[error("a pattern can't be read")]
+    Pattern,
+    /// A text is no layout of times.
+    #[error("a layout can't be read")]
+    Layout,
+    /// No group of a pattern has a name.
+    #[error("no group of a pattern has a name")]
+    NoNames,
     #[error("out of memory")]
     Memory,
 }
@@ -29,6 +40,9 @@ impl OpCause {
             OpCause::Memory => 0,
             OpCause::Path => 1,
             OpCause::Expr => 2,
+            OpCause::Pattern => 3,
+            OpCause::Layout => 4,
+            OpCause::NoNames => 5,
         }
     }
 
@@ -90,6 +104,35 @@ impl From<ExprReadFault> for OpCause {
         match fault {
             ExprReadFault::Syntax { .. } | ExprReadFault::Pattern { .. } => OpCause::Expr,
             ExprReadFault::Memory => OpCause::Memory,
+        }
+    }
+}
+
+impl From<RegexFault> for OpCause {
+    ghost use Rattle.std.specs.Prelude.{◌≡◌};
+    ghost use Rattle.op_kinds.specs.Causes.{of_regex_fault};
+
+    ghost from_gives = { λ fault cause. cause ≡ of_regex_fault fault };
+
+    fn from(fault: RegexFault) -> OpCause {
+        match fault {
+            RegexFault::Refused => OpCause::Pattern,
+            RegexFault::NoNames => OpCause::NoNames,
+            RegexFault::Memory => OpCause::Memory,
+        }
+    }
+}
+
+impl From<LayoutFault> for OpCause {
+    ghost use Rattle.std.specs.Prelude.{◌≡◌};
+    ghost use Rattle.op_kinds.specs.Causes.{of_layout_fault};
+
+    ghost from_gives = { λ fault cause. cause ≡ of_layout_fault fault };
+
+    fn from(fault: LayoutFault) -> OpCause {
+        match fault {
+            LayoutFault::Directive { .. } => OpCause::Layout,
+            LayoutFault::Memory => OpCause::Memory,
         }
     }
 }

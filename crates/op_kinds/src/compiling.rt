@@ -13,7 +13,10 @@ use crate::any_op::Form;
 use crate::conditional::Conditional;
 use crate::reading::condition;
 use crate::router::Router;
-use crate::types::{adding, copying, filtering, flattening, moving, removing, retaining};
+use crate::types::{
+    adding, copying, filtering, flattening, json_parsing, moving, regex_parsing, removing,
+    retaining,
+};
 use crate::{AnyOp, OpCause};
 use entry_model::Text;
 use expr_lang::Expr;
@@ -108,6 +111,12 @@ fn work_of(alloc: Global, kind: &OpKind) -> Result<Work, OpCause>
         }
         OpKind::Retain { fields } => {
             Ok(Work::Act(Action::Retain(retaining::compile(alloc, fields.as_slice())?)))
+        }
+        OpKind::Json { parser } => Ok(Work::Act(Action::Parse(json_parsing::compile(
+            alloc, parser,
+        )?))),
+        OpKind::Regex { regex, parser } => {
+            Ok(Work::Act(Action::Parse(regex_parsing::compile(alloc, regex, parser)?)))
         }
         OpKind::Filter { expr } => Ok(Work::Act(Action::Filter(filtering::compile(alloc, expr)?))),
         OpKind::Router { routes, default } => Ok(Work::Route(Router::compile(

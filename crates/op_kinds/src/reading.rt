@@ -1,5 +1,5 @@
 // The texts in the settings of an operator that are to be read.
-ghost use Rattle.std.specs.Prelude.{[], ◌∷◌, IfOk, IfErr, option_map};
+ghost use Rattle.std.specs.Prelude.{◌≡◌, [], ◌∷◌, IfOk, IfErr, option_map};
 ghost use Rattle.expr_lang.specs.Grammar.{IsExpression};
 ghost use Rattle.expr_lang.specs.TreeOf.{tree_of};
 ghost use Rattle.field_paths.specs.PathText.{IsPathText};
@@ -38,6 +38,25 @@ pub(crate) fn expression(alloc: Global, text: &Text) -> Result<Expr, OpCause>
     ensures cause { IfErr result (Caused (readings.expression text.now ∷ [])) }
 {
     Ok(Expr::read(alloc, text.as_str())?)
+}
+
+/// What both answer, or of their causes the one that counts.
+pub(crate) fn both<A: Drop, B: Drop>(
+    one: Result<A, OpCause>,
+    other: Result<B, OpCause>,
+) -> Result<(A, B), OpCause>
+    ensures { result ≡ readings.both one other }
+{
+    match one {
+        Ok(first) => match other {
+            Ok(second) => Ok((first, second)),
+            Err(cause) => Err(cause),
+        },
+        Err(cause) => match other {
+            Ok(_second) => Err(cause),
+            Err(another) => Err(cause.or_less(another)),
+        },
+    }
 }
 
 pub(crate) fn condition(alloc: Global, text: &Option<Text>) -> Result<Option<Expr>, OpCause>

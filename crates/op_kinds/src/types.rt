@@ -3,6 +3,8 @@ pub(crate) mod adding;
 pub(crate) mod copying;
 pub(crate) mod filtering;
 pub(crate) mod flattening;
+pub(crate) mod json_parsing;
 pub(crate) mod moving;
+pub(crate) mod regex_parsing;
 pub(crate) mod removing;
 pub(crate) mod retaining;

@@ -115,6 +115,15 @@ refused operators place spec cause.Path fine there new_id given =
 refused operators place spec cause.Expr fine there new_id given =
     let some : cause.Expr ≢ cause.Memory = λ is. cc is in
     (some, record { fine_before = fine; spec = spec; there = there; new_id = new_id; faulty = given some })
+refused operators place spec cause.Pattern fine there new_id given =
+    let some : cause.Pattern ≢ cause.Memory = λ is. cc is in
+    (some, record { fine_before = fine; spec = spec; there = there; new_id = new_id; faulty = given some })
+refused operators place spec cause.Layout fine there new_id given =
+    let some : cause.Layout ≢ cause.Memory = λ is. cc is in
+    (some, record { fine_before = fine; spec = spec; there = there; new_id = new_id; faulty = given some })
+refused operators place spec cause.NoNames fine there new_id given =
+    let some : cause.NoNames ≢ cause.Memory = λ is. cc is in
+    (some, record { fine_before = fine; spec = spec; there = there; new_id = new_id; faulty = given some })
 refused operators place spec cause.Memory fine there new_id given = tt
 
 pub all_ids : (operators : List OpSpec) (place : ℕ) (ids : List (List ℕ)) → length operators ≤ place → ids ≡ ids_before operators place → ids ≡ ids_of operators

@@ -77,6 +77,9 @@ abbrev pub refusal : ℕ → OpCause → BuildFault
 refusal place cause.Memory = Memory
 refusal place cause.Path = RefusesOperator place cause.Path
 refusal place cause.Expr = RefusesOperator place cause.Expr
+refusal place cause.Pattern = RefusesOperator place cause.Pattern
+refusal place cause.Layout = RefusesOperator place cause.Layout
+refusal place cause.NoNames = RefusesOperator place cause.NoNames
 
 -- no operator has too many routes to have a port for each
 abbrev pub HaveFewRoutes : List OpSpec → Type 0

@@ -18,6 +18,8 @@ mod fault;
 mod feed;
 mod globs;
 pub mod laws;
+#[cfg(test)]
+mod parser_tests;
 mod restore;
 mod state;
 #[cfg(test)]

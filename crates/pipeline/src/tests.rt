@@ -8,7 +8,7 @@ use state_codec::CodecFault;
 use std::alloc::Global;
 use std::test::Fail;
 
-fn build(alloc: Global, text: &str) -> Result<Result<Pipeline, BuildFault>, Fail> {
+pub fn build(alloc: Global, text: &str) -> Result<Result<Pipeline, BuildFault>, Fail> {
     settings_keep_limits();
     let settings = read(alloc, text.as_bytes())?;
     Ok(Pipeline::build(alloc, settings))
@@ -107,7 +107,7 @@ fn the_first_fault_is_told(rt: HostRuntime) -> Result<(), Fail> {
 }
 
 // The tokens, lines and bytes that two pieces give, which are fed one after the other.
-fn fed(
+pub fn fed(
     alloc: Global,
     text: &str,
     first: &[u8],

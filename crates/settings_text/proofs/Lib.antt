@@ -6,3 +6,4 @@ pub mod Numbers
 pub mod JsonTexts
 pub mod Limits
 pub mod FreeIds
+pub mod Mapped

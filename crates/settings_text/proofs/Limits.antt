@@ -12,6 +12,7 @@ use Rattle.settings_text.specs.Kinds.{Kind, must, may, or_missing, or_default, g
 use Rattle.settings_text.specs.Limits.{KeepsLimits, OperatorKeepsLimits, KindKeepsLimits, route_count}
 use Rattle.settings_text.specs.Operators as op
 use Rattle.settings_text.specs.Operators.{at_most_64, with_ids, draft, written_ids, front, type_named, on_error_named, is_key_of, kind_of}
+use Rattle.settings_text.specs.Parsers as parsers
 use Rattle.settings_text.specs.Outcome.{◌>>=◌, or_fault}
 use Rattle.settings_text.specs.Place.{item_place}
 use Rattle.settings_text.specs.Types.Routing as routing
@@ -21,7 +22,7 @@ use Rattle.settings_text.specs.declared.fault.SettingsFault.{SettingsFault}
 use Rattle.settings_text.specs.declared.fault.SettingsFault.TheVariants.{NotJson, WrongKind, OutOfRange, Fraction, TooLong}
 use Rattle.settings_text.specs.declared.operators.Draft.{Draft}
 use Rattle.settings_text.specs.declared.operators.OpType.{OpType}
-use Rattle.settings_text.specs.declared.operators.OpType.TheVariants.{Noop, Move, Copy, Add, Remove, Flatten, Retain, Filter, Router}
+use Rattle.settings_text.specs.declared.operators.OpType.TheVariants.{Noop, Move, Copy, Add, Remove, Flatten, Retain, Filter, Json, Regex, Router}
 use Rattle.settings_text.specs.declared.settings.OnError.TheVariants.{Send}
 use Rattle.settings_text.specs.declared.settings.OpKind.{OpKind}
 use Rattle.settings_text.specs.declared.settings.OpKind.TheVariants as kind
@@ -260,6 +261,13 @@ kind_keeps Retain at d made e =
 kind_keeps Filter at d made e =
     let expr = binds (must at (codes "expr") text d) _ made e in
     kept (kind.Filter expr.0) made tt expr.2
+kind_keeps Json at d made e =
+    let parser = binds (parsers.read at d) _ made e in
+    kept (kind.Json parser.0) made tt parser.2
+kind_keeps Regex at d made e =
+    let regex = binds (must at (codes "regex") text d) _ made e in
+    let parser = binds (parsers.read at d) _ made regex.2 in
+    kept (kind.Regex regex.0 parser.0) made tt parser.2
 kind_keeps Router at d made e =
     let place = at ++ codes "routes" in
     let all = binds (must at (codes "routes") routing.routes d) _ made e in
@@ -327,6 +335,8 @@ few_of (kind.Remove field) keeps = omega arith
 few_of (kind.Flatten field) keeps = omega arith
 few_of (kind.Retain listed) keeps = omega arith
 few_of (kind.Filter expr) keeps = omega arith
+few_of (kind.Json parser) keeps = omega arith
+few_of (kind.Regex regex parser) keeps = omega arith
 few_of (kind.Router routes default) keeps = keeps.few
 
 default_front : (16 ≤ 1000) × (1000 ≤ 4096)

@@ -3,6 +3,11 @@ pub mod Place
 pub mod ValueData
 pub mod Content
 pub mod Kinds
+pub mod Times
+pub mod Rules
+pub mod Mappings
+pub mod Severities
+pub mod Parsers
 pub mod Types
 pub mod Ids
 pub mod Operators

@@ -1,7 +1,7 @@
 -- The limits of what settings say: under these the layers above work.
 use Rattle.std.specs.Prelude.{◌≡◌, ⊤, ℕ, ◌≤◌, length, Some, slice_get}
 use Rattle.settings_text.specs.declared.settings.OpKind.{OpKind}
-use Rattle.settings_text.specs.declared.settings.OpKind.TheVariants.{Noop, Move, Copy, Add, Remove, Flatten, Retain, Filter, Router}
+use Rattle.settings_text.specs.declared.settings.OpKind.TheVariants.{Noop, Move, Copy, Add, Remove, Flatten, Retain, Filter, Json, Regex, Router}
 use Rattle.settings_text.specs.declared.settings.OpSpec.{OpSpec}
 use Rattle.settings_text.specs.declared.settings.Settings.{Settings}
 use Rattle.settings_text.specs.Kinds.{IsSomeIfWritten}
@@ -23,6 +23,8 @@ KindKeepsLimits (Remove field) = ⊤
 KindKeepsLimits (Flatten field) = ⊤
 KindKeepsLimits (Retain fields) = retaining.KeepsLimits fields
 KindKeepsLimits (Filter expr) = ⊤
+KindKeepsLimits (Json parser) = ⊤
+KindKeepsLimits (Regex regex parser) = ⊤
 KindKeepsLimits (Router routes default) = routing.KeepsLimits routes default
 
 pub record OperatorKeepsLimits (operator : OpSpec) : Type 0 where

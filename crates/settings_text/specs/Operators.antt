@@ -13,7 +13,7 @@ use Rattle.settings_text.specs.declared.settings.OpKind.TheVariants as kind
 use Rattle.settings_text.specs.declared.settings.OpSpec.{OpSpec}
 use Rattle.settings_text.specs.declared.operators.Draft.{Draft}
 use Rattle.settings_text.specs.declared.operators.OpType.{OpType}
-use Rattle.settings_text.specs.declared.operators.OpType.TheVariants.{Noop, Move, Copy, Add, Remove, Flatten, Retain, Filter, Router}
+use Rattle.settings_text.specs.declared.operators.OpType.TheVariants.{Noop, Move, Copy, Add, Remove, Flatten, Retain, Filter, Json, Regex, Router}
 use Rattle.settings_text.specs.Ids.{default_id}
 use Rattle.settings_text.specs.Kinds.{Kind, must, may, known, each, given, name, text, text_or_texts}
 use Rattle.settings_text.specs.Outcome.{◌>>=◌, or_fault}
@@ -25,6 +25,8 @@ use Rattle.settings_text.specs.Types.Removing as removing
 use Rattle.settings_text.specs.Types.Flattening as flattening
 use Rattle.settings_text.specs.Types.Retaining as retaining
 use Rattle.settings_text.specs.Types.Filtering as filtering
+use Rattle.settings_text.specs.Types.JsonParsing as json_parsing
+use Rattle.settings_text.specs.Types.RegexParsing as regex_parsing
 use Rattle.settings_text.specs.Types.Routing as routing
 
 -- ---- the table of types
@@ -39,7 +41,9 @@ type_named name =
     if bytes_eq name (codes "flatten") then Some Flatten else (
     if bytes_eq name (codes "retain") then Some Retain else (
     if bytes_eq name (codes "filter") then Some Filter else (
-    if bytes_eq name (codes "router") then Some Router else None))))))))
+    if bytes_eq name (codes "json_parser") then Some Json else (
+    if bytes_eq name (codes "regex_parser") then Some Regex else (
+    if bytes_eq name (codes "router") then Some Router else None))))))))))
 
 -- the keys of a type beside those that it shares with others
 abbrev pub is_own_key : OpType → List ℕ → Bool
@@ -51,6 +55,8 @@ is_own_key Remove name = removing.is_key name
 is_own_key Flatten name = flattening.is_key name
 is_own_key Retain name = retaining.is_key name
 is_own_key Filter name = filtering.is_key name
+is_own_key Json name = json_parsing.is_key name
+is_own_key Regex name = regex_parsing.is_key name
 is_own_key Router name = routing.is_key name
 
 -- what its own keys say
@@ -63,6 +69,8 @@ kind_of Remove at d = removing.read at d
 kind_of Flatten at d = flattening.read at d
 kind_of Retain at d = retaining.read at d
 kind_of Filter at d = filtering.read at d
+kind_of Json at d = json_parsing.read at d
+kind_of Regex at d = regex_parsing.read at d
 kind_of Router at d = routing.read at d
 
 -- the keys of all types

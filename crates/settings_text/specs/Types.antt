@@ -6,4 +6,6 @@ pub mod Removing
 pub mod Flattening
 pub mod Retaining
 pub mod Filtering
+pub mod JsonParsing
+pub mod RegexParsing
 pub mod Routing

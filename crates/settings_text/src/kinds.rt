@@ -97,6 +97,23 @@ pub fn optional_text(
     Ok(Some(Text::from_str(alloc, content)?))
 }
 
+/// A text that is this one where the key is missing.
+pub fn text_or(
+    alloc: Global,
+    object: &Value,
+    at: &str,
+    key: &str,
+    default: &str,
+) -> Result<Text, SettingsFault>
+    ensures { Gives (λ text. text) result (kinds.may at.now key.now kinds.text default.now (view object.now)) }
+{
+    let content = match object.get(key) {
+        Some(value) => name(alloc, value, at, key)?,
+        None => default,
+    };
+    Ok(Text::from_str(alloc, content)?)
+}
+
 pub fn flag(
     alloc: Global,
     object: &Value,

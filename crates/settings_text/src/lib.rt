@@ -29,14 +29,22 @@ mod kinds;
 pub mod laws;
 mod lists;
 mod literal;
+mod mapping;
+mod mappings;
 #[cfg(test)]
 mod operator_tests;
 mod operators;
+#[cfg(test)]
+mod parser_tests;
+mod parsers;
+mod parsing;
 mod place;
 mod settings;
+mod severities;
 #[cfg(test)]
 mod tests;
 mod texts;
+mod times;
 mod types;
 mod values;
 
@@ -44,7 +52,9 @@ pub use fault::SettingsFault;
 use kinds::{Keys, check_known, fields, flag, name, some_texts, texts, whole};
 pub use lists::{Operators, Routes};
 pub use literal::Literal;
+pub use mapping::{MapRule, MapRules, MapWant};
 use operators::operators;
+pub use parsing::{LayoutType, ParserKeys, SeveritySpec, TimeSpec};
 use place::place;
 use serde_json::Value;
 pub use settings::{OnError, OpKind, OpSpec, RouteSpec, Settings, StartAt};

@@ -12,7 +12,10 @@ use crate::lists::Operators;
 use crate::place::{item_place, place};
 use crate::settings::{OnError, OpKind, OpSpec};
 use crate::texts::Texts;
-use crate::types::{adding, copying, filtering, flattening, moving, removing, retaining, routing};
+use crate::types::{
+    adding, copying, filtering, flattening, json_parsing, moving, regex_parsing, removing,
+    retaining, routing,
+};
 use entry_model::Text;
 use serde_json::Value;
 use std::alloc::{AllocError, Global};
@@ -30,6 +33,8 @@ enum OpType {
     Flatten,
     Retain,
     Filter,
+    Json,
+    Regex,
     Router,
 }
 
@@ -53,6 +58,10 @@ impl OpType {
             Some(OpType::Retain)
         } else if name == "filter" {
             Some(OpType::Filter)
+        } else if name == "json_parser" {
+            Some(OpType::Json)
+        } else if name == "regex_parser" {
+            Some(OpType::Regex)
         } else if name == "router" {
             Some(OpType::Router)
         } else {
@@ -72,6 +81,8 @@ impl OpType {
             OpType::Flatten => flattening::is_key(name),
             OpType::Retain => retaining::is_key(name),
             OpType::Filter => filtering::is_key(name),
+            OpType::Json => json_parsing::is_key(name),
+            OpType::Regex => regex_parsing::is_key(name),
             OpType::Router => routing::is_key(name),
         }
     }
@@ -89,6 +100,8 @@ impl OpType {
             OpType::Flatten => flattening::read(alloc, object, at),
             OpType::Retain => retaining::read(alloc, object, at),
             OpType::Filter => filtering::read(alloc, object, at),
+            OpType::Json => json_parsing::read(alloc, object, at),
+            OpType::Regex => regex_parsing::read(alloc, object, at),
             OpType::Router => routing::read(alloc, object, at),
         }
     }

@@ -1,5 +1,5 @@
 // The names of places in the text, as faults have them.
-ghost use Rattle.std.specs.Prelude.{◌≡◌, ◌++◌, IfOk};
+ghost use Rattle.std.specs.Prelude.{◌≡◌, ◌++◌, codes, IfOk, string_bytes};
 ghost use Rattle.settings_text.specs.Place.{item_place, member_place};
 
 use entry_model::Text;
@@ -10,6 +10,14 @@ pub fn place(alloc: Global, at: &str, key: &str) -> Result<Text, AllocError>
     ensures { IfOk result (λ text. text ≡ at.now ++ key.now) }
 {
     Ok(Text::new(format!(in alloc; "{at}{key}")?)?)
+}
+
+/// What stands before the keys of the object at a key.
+pub fn inner(alloc: Global, at: &str, key: &str) -> Result<String, AllocError>
+    ensures { IfOk result (λ text. string_bytes text ≡ (at.now ++ key.now) ++ codes ".") }
+{
+    let place = place(alloc, at, key)?;
+    format!(in alloc; "{place}.")
 }
 
 /// A member of the list at a key.

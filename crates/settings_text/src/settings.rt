@@ -1,6 +1,7 @@
 // What settings say.
 use crate::lists::{Operators, Routes};
 use crate::literal::Literal;
+use crate::parsing::ParserKeys;
 use crate::texts::{NamedTexts, Texts};
 use entry_model::Text;
 
@@ -83,6 +84,13 @@ pub enum OpKind {
     },
     Filter {
         expr: Text,
+    },
+    Json {
+        parser: ParserKeys,
+    },
+    Regex {
+        regex: Text,
+        parser: ParserKeys,
     },
     Router {
         /// 1 to 65,534.

@@ -1,4 +1,5 @@
 // Texts with their answers, each worked out by hand from the tables of keys.
+use crate::parser_tests::show_parser;
 use crate::{OnError, OpKind, OpSpec, Routes, Settings, SettingsFault, StartAt, Texts, read};
 use entry_model::{Fields, Text, Value};
 use std::alloc::{AllocError, Global};
@@ -378,6 +379,14 @@ fn show_kind(kind: &OpKind, out: &mut String) -> Result<(), AllocError> {
             show_texts(fields.as_slice(), out)
         }
         OpKind::Filter { expr } => write!(out, "filter {expr}"),
+        OpKind::Json { parser } => {
+            out.push_str("json")?;
+            show_parser(parser, out)
+        }
+        OpKind::Regex { regex, parser } => {
+            write!(out, "regex {regex}")?;
+            show_parser(parser, out)
+        }
         OpKind::Router { routes, default } => {
             out.push_str("router ")?;
             show_routes(routes, out)?;

@@ -23,6 +23,9 @@ settings_words read.Memory = codes "settings memory"
 abbrev pub cause_words : OpCause → List ℕ
 cause_words cause.Path = codes "path"
 cause_words cause.Expr = codes "expr"
+cause_words cause.Pattern = codes "pattern"
+cause_words cause.Layout = codes "layout"
+cause_words cause.NoNames = codes "no-names"
 cause_words cause.Memory = codes "memory"
 
 abbrev pub graph_words : GraphFault → List ℕ

@@ -118,6 +118,9 @@ fn operator_line(alloc: Global, place: u64, cause: OpCause) -> Result<String, Al
     match cause {
         OpCause::Path => format!(in alloc; "fault 3 operator {place} path\n"),
         OpCause::Expr => format!(in alloc; "fault 3 operator {place} expr\n"),
+        OpCause::Pattern => format!(in alloc; "fault 3 operator {place} pattern\n"),
+        OpCause::Layout => format!(in alloc; "fault 3 operator {place} layout\n"),
+        OpCause::NoNames => format!(in alloc; "fault 3 operator {place} no-names\n"),
         OpCause::Memory => format!(in alloc; "fault 3 operator {place} memory\n"),
     }
 }

@@ -1,0 +1,8 @@
+use Rattle.op_kinds.proofs.Said.{groups_are_matched, objects_are_spelled}
+use Rattle.op_kinds.proofs.laws.texts_say_members.Goals as goal
+
+pub returns-clause-groups : goal.returns-clause-groups
+returns-clause-groups c = groups_are_matched
+
+pub returns-clause-object : goal.returns-clause-object
+returns-clause-object c = objects_are_spelled
