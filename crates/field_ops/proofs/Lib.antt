@@ -1,3 +1,4 @@
 pub mod Held
 pub mod Taken
 pub mod Retained
+pub mod Listed

@@ -26,7 +26,7 @@ another_emptied Resource Body entry differ = refl
 another_emptied Resource Attributes entry differ = refl
 another_emptied Resource Resource entry differ = absurd (differ refl)
 
-this_emptied : (root : Root) (entry : LogRecord) → root_value root (with_empty_map root entry) ≡ fields no_members
+pub this_emptied : (root : Root) (entry : LogRecord) → root_value root (with_empty_map root entry) ≡ fields no_members
 this_emptied Body entry = refl
 this_emptied Attributes entry = refl
 this_emptied Resource entry = refl
@@ -48,7 +48,7 @@ others_emptied (field ∷ listed) other entry differ =
     others_emptied listed other (with_empty_map field.root entry) (All-tail (λ (f : Place). f.root ≢ other) field listed differ)
     ∙ another_emptied field.root other entry (All-head (λ (f : Place). f.root ≢ other) field listed differ)
 
-stay_empty : (listed : List Place) (other : Root) (entry : LogRecord) → root_value other entry ≡ fields no_members → root_value other (emptied listed entry) ≡ fields no_members
+pub stay_empty : (listed : List Place) (other : Root) (entry : LogRecord) → root_value other entry ≡ fields no_members → root_value other (emptied listed entry) ≡ fields no_members
 stay_empty [] other entry is = is
 stay_empty (field ∷ listed) other entry is = stay_empty listed other (with_empty_map field.root entry) (stays_empty field.root other entry is)
 
@@ -70,7 +70,7 @@ one_apart field place (Some value) entry apart = by (set_at field value entry) r
     by None is = refl
     by (Some after) is = put_elsewhere field place value entry after apart is
 
-all_apart : (listed : List Place) (place : Place) (whole entry : LogRecord) → All (λ (field : Place). AreApart field place) listed → datum_at place (with_listed listed whole entry) ≡ datum_at place entry
+pub all_apart : (listed : List Place) (place : Place) (whole entry : LogRecord) → All (λ (field : Place). AreApart field place) listed → datum_at place (with_listed listed whole entry) ≡ datum_at place entry
 all_apart [] place whole entry apart = refl
 all_apart (field ∷ listed) place whole entry apart =
     all_apart listed place whole (with_found field (datum_at field whole) entry) (All-tail (λ (f : Place). AreApart f place) field listed apart)

@@ -36,7 +36,7 @@ not_at name other apart = by (cmp name other) refl
     by Greater e = refl
 
 -- whether two names are one
-same_or_not : (name other : List ℕ) → (name ≡ other) ⊎ (name ≢ other)
+pub same_or_not : (name other : List ℕ) → (name ≡ other) ⊎ (name ≢ other)
 same_or_not name other = by (cmp name other) refl
   where
     by : (o : Ordering) → cmp name other ≡ o → (name ≡ other) ⊎ (name ≢ other)
@@ -44,7 +44,7 @@ same_or_not name other = by (cmp name other) refl
     by Equal e = inl (exact_bytes name other e)
     by Greater e = inr (λ same. absurd (cc (e, ap (λ (k : List ℕ). cmp k other) same, itself other)))
 
-put_there : (name : List ℕ) (value : Datum) (ms : Members) → member_at name (with_member name value ms) ≡ Some value
+pub put_there : (name : List ℕ) (value : Datum) (ms : Members) → member_at name (with_member name value ms) ≡ Some value
 put_there name value no_members = rw (itself name) refl
 put_there name value (member other old rest) = by (cmp name other) refl (put_there name value rest)
   where
@@ -54,7 +54,7 @@ put_there name value (member other old rest) = by (cmp name other) refl (put_the
     by Equal e h = rw e refl
     by Greater e h = rw e h
 
-put_elsewhere : (name other : List ℕ) (value : Datum) (ms : Members) → other ≢ name → member_at other (with_member name value ms) ≡ member_at other ms
+pub put_elsewhere : (name other : List ℕ) (value : Datum) (ms : Members) → other ≢ name → member_at other (with_member name value ms) ≡ member_at other ms
 put_elsewhere name other value no_members apart = rw (not_at other name apart) refl
 put_elsewhere name other value (member one old rest) apart = by (cmp name one) refl (put_elsewhere name other value rest apart)
   where

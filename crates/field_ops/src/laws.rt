@@ -1,5 +1,5 @@
 //! What the definitions imply.
-ghost use Rattle.std.specs.Prelude.{◌≡◌, ◌≢◌, ℕ, List, All, None, Some, slice_get};
+ghost use Rattle.std.specs.Prelude.{◌≡◌, ◌≢◌, ◌∷◌, ◌++◌, ℕ, List, All, None, Some, slice_get};
 ghost use Rattle.entry_model.specs.Datum.{Datum};
 ghost use Rattle.entry_model.specs.LogRecord.{LogRecord};
 ghost use Rattle.field_ops.specs.Rows.{retained};
@@ -21,4 +21,11 @@ pub fn retain_leaves_other_roots()
         → datum_at place (retained listed entry) ≡ datum_at place entry }
     ensures left_out { (listed : List Place) (at : ℕ) (field place : Place) (entry : LogRecord) → slice_get listed at ≡ Some field → field.root ≡ place.root
         → All (λ (one : Place). AreApart one place) listed → datum_at place (retained listed entry) ≡ None }
+{}
+
+/// Retaining leaves at a listed field what it has, or nothing where it has nothing, if no other listed field is above or below it.
+pub fn retain_keeps_listed_fields()
+    ensures { (before after : List Place) (field : Place) (entry : LogRecord) → All (λ (other : Place). AreApart other field) before
+        → All (λ (other : Place). AreApart other field) after
+        → datum_at field (retained (before ++ field ∷ after) entry) ≡ datum_at field entry }
 {}

@@ -16,11 +16,15 @@ use Rattle.graph_core.specs.Wiring.{wiring_of}
 use Rattle.op_kinds.proofs.Compiled.{one_operator}
 use Rattle.op_kinds.specs.Kept.{Kept}
 use Rattle.op_kinds.specs.Operator.{Operator, behavior_of}
-use Rattle.pipeline.specs.BuildFaults.{IsFineAt, IsOperatorFault, ids_before, refusal}
+use Rattle.pipeline.specs.BuildFaults.{AreGlobs, IsBuildFault, IsFineAt, IsOperatorFault, ids_before, refusal}
 use Rattle.op_kinds.specs.Compiled.{IsCompiledTo}
 use Rattle.op_kinds.specs.declared.cause.OpCause.{OpCause}
 use Rattle.op_kinds.specs.declared.cause.OpCause.TheVariants as cause
 use Rattle.op_kinds.specs.Readings.{Caused, readings}
+use Rattle.pipeline.specs.Splitters.{HasPattern}
+use Rattle.pipeline.specs.declared.fault.BuildFault.{BuildFault}
+use Rattle.pipeline.specs.declared.fault.BuildFault.TheVariants as fault
+use Rattle.settings_text.specs.declared.settings.Settings.{Settings}
 use Rattle.pipeline.specs.Listed.{ArePaired, AreOperatorsFrom}
 use Rattle.pipeline.specs.Wired.{IsNode, AreNodes, AreFirstNodes, HaveOwnIds, IsNetwork, ids_of}
 use Rattle.settings_text.specs.Ids.{is_taken}
@@ -198,3 +202,13 @@ module _ (operators : List OpSpec) (xs ys : List (NodeSpec Operator)) (are : Are
 
 pub one_network : (operators : List OpSpec) (network other : Network Kept LogRecord) → IsNetwork operators network → IsNetwork operators other → network ≡ other
 one_network operators network other is also = is.is ∙ same_networks operators is.nodes also.nodes is.are also.are ∙ sym also.is
+
+-- why operators give no network is why their settings give no pipeline, where the globs and the pattern of lines are read
+pub operators_refused : (settings : Settings) (found : BuildFault) → AreGlobs settings.include → AreGlobs settings.exclude → HasPattern settings.multiline
+    → IsOperatorFault settings.operators found → IsBuildFault settings found
+operators_refused settings (fault.Glob exclude place) include exclude_too pattern is = absurd is
+operators_refused settings fault.Multiline include exclude pattern is = absurd is
+operators_refused settings (fault.SameId place) include exclude pattern is = (include, (exclude, (pattern, is)))
+operators_refused settings (fault.Operator place cause) include exclude pattern is = (include, (exclude, (pattern, is)))
+operators_refused settings (fault.Graph found) include exclude pattern is = (include, (exclude, (pattern, is)))
+operators_refused settings fault.Memory include exclude pattern is = tt

@@ -9,12 +9,12 @@ use Rattle.graph_core.specs.Traces.{Network, states_after, outputs, start_states
 use Rattle.op_kinds.specs.Kept.{Kept}
 use Rattle.line_splitter.specs.Cuts.{Cut}
 use Rattle.line_splitter.specs.Cuts.{texts, used_by}
-use Rattle.line_splitter.specs.LineTokens.{HasNoToken, BeginsWith}
 use Rattle.otlp_json.specs.OutputLines.{output_lines}
 use Rattle.pipeline.specs.Entries.{records_of, record_with, records_behind, text_of}
 use Rattle.pipeline.specs.Fed.{Fed, GoesOn}
 use Rattle.pipeline.specs.GraphOutput.{graph_output, kept_from, given_from, StandsFor}
-use Rattle.pipeline.specs.Tokens.{cuts_of, tokens_of, used_of}
+use Rattle.pipeline.specs.NextToken.{BeginsWith}
+use Rattle.pipeline.specs.Tokens.{first_cut_of, cuts_of, tokens_of, used_of}
 use Rattle.pipeline.specs.declared.state.FileState.{FileState}
 use Rattle.settings_text.specs.declared.settings.Settings.{Settings}
 
@@ -103,7 +103,7 @@ module _ (settings : Settings) (network : Network Kept LogRecord) (id : ℕ) (pa
   pub feeds_from_start : FeedsOn settings network id path bytes bytes 0 s s o o
   feeds_from_start = record { done = []; left = refl; used_so_far = omega arith; fed = fed_none settings network path graph laws id s o }
 
-  pub feeds_token : (rest : List ℕ) (at : ℕ) (c : Cut) (m t : FileState) (q r : List ℕ) → BeginsWith settings.max_log_size rest c → FeedsOn settings network id path bytes rest at s m o q → Fed settings network id path (c.text ∷ []) m t q r → FeedsOn settings network id path bytes (drop c.used rest) (at + c.used) s t o r
+  pub feeds_token : (rest : List ℕ) (at : ℕ) (c : Cut) (m t : FileState) (q r : List ℕ) → BeginsWith (first_cut_of settings) rest c → FeedsOn settings network id path bytes rest at s m o q → Fed settings network id path (c.text ∷ []) m t q r → FeedsOn settings network id path bytes (drop c.used rest) (at + c.used) s t o r
   feeds_token rest at c m t q r begins so_far next = record {
     done = so_far.done ++ c.text ∷ [];
     left = so_far.left ∙ ap (λ cs. so_far.done ++ texts cs) begins.cuts_follow ∙ sym (append_assoc so_far.done (c.text ∷ []) (tokens_of settings (drop c.used rest)));
@@ -111,10 +111,10 @@ module _ (settings : Settings) (network : Network Kept LogRecord) (id : ℕ) (pa
     fed = fed_then settings network path graph laws id so_far.done (c.text ∷ []) s m t o q r so_far.fed next;
   }
 
-  pub feeds_all : (rest : List ℕ) (at : ℕ) (t : FileState) (r : List ℕ) → HasNoToken settings.max_log_size rest → FeedsOn settings network id path bytes rest at s t o r → (at ≡ used_of settings bytes) × Fed settings network id path (tokens_of settings bytes) s t o r
+  pub feeds_all : (rest : List ℕ) (at : ℕ) (t : FileState) (r : List ℕ) → cuts_of settings rest ≡ [] → FeedsOn settings network id path bytes rest at s t o r → (at ≡ used_of settings bytes) × Fed settings network id path (tokens_of settings bytes) s t o r
   feeds_all rest at t r ends so_far =
-      let all : so_far.done ≡ tokens_of settings bytes = sym (so_far.left ∙ ap (λ cs. so_far.done ++ texts cs) ends.no_cuts ∙ append-nil so_far.done) in
-      (omega (arith, so_far.used_so_far, ap used_by ends.no_cuts), subst (λ ts. Fed settings network id path ts s t o r) all so_far.fed)
+      let all : so_far.done ≡ tokens_of settings bytes = sym (so_far.left ∙ ap (λ cs. so_far.done ++ texts cs) ends ∙ append-nil so_far.done) in
+      (omega (arith, so_far.used_so_far, ap used_by ends), subst (λ ts. Fed settings network id path ts s t o r) all so_far.fed)
 
 pub prefix_kept : (settings : Settings) (network : Network Kept LogRecord) → GraphLaws network → (path : List ℕ) (earlier more : List (List ℕ)) → (rest : List LogRecord) × (graph_output settings network path (earlier ++ more) ≡ graph_output settings network path earlier ++ rest)
 prefix_kept settings network graph path earlier more =

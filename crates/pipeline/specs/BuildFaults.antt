@@ -11,9 +11,10 @@ use Rattle.op_kinds.specs.declared.cause.OpCause.{OpCause}
 use Rattle.op_kinds.specs.declared.cause.OpCause.TheVariants as cause
 use Rattle.glob_match.specs.Pattern.{Pattern}
 use Rattle.pipeline.specs.Globs.{ArePatterns, IsNoGlobAt}
+use Rattle.pipeline.specs.Splitters.{HasPattern, HasNoPattern}
 use Rattle.pipeline.specs.Wired.{AreNodes, ids_of}
 use Rattle.pipeline.specs.declared.fault.BuildFault.{BuildFault}
-use Rattle.pipeline.specs.declared.fault.BuildFault.TheVariants.{Glob, SameId, Operator as RefusesOperator, Graph, Memory}
+use Rattle.pipeline.specs.declared.fault.BuildFault.TheVariants.{Glob, Multiline, SameId, Operator as RefusesOperator, Graph, Memory}
 use Rattle.settings_text.specs.Ids.{is_taken}
 use Rattle.settings_text.specs.Limits.{route_count}
 use Rattle.settings_text.specs.declared.settings.OpSpec.{OpSpec}
@@ -57,6 +58,7 @@ pub record HasGraphFault (operators : List OpSpec) (fault : GraphFault) : Type 0
 
 abbrev pub IsOperatorFault : List OpSpec → BuildFault → Type 0
 IsOperatorFault operators (Glob exclude place) = ⊥
+IsOperatorFault operators Multiline = ⊥
 IsOperatorFault operators (SameId place) = HasSameId operators place
 IsOperatorFault operators (RefusesOperator place found) = IsRefusal operators place found
 IsOperatorFault operators (Graph fault) = HasGraphFault operators fault
@@ -65,12 +67,14 @@ IsOperatorFault operators Memory = ⊤
 abbrev pub AreGlobs : List (List ℕ) → Type 0
 AreGlobs texts = (patterns : List Pattern) × ArePatterns texts patterns
 
--- The includes are read before the excludes, and these before the operators.
+-- The includes are read before the excludes, then comes the pattern of lines, and then the operators.
 abbrev pub IsBuildFault : Settings → BuildFault → Type 0
 IsBuildFault settings (Glob false place) = IsNoGlobAt settings.include place
 IsBuildFault settings (Glob true place) = AreGlobs settings.include × IsNoGlobAt settings.exclude place
+IsBuildFault settings Multiline = AreGlobs settings.include × (AreGlobs settings.exclude × HasNoPattern settings.multiline)
 IsBuildFault settings Memory = ⊤
-IsBuildFault settings fault = AreGlobs settings.include × (AreGlobs settings.exclude × IsOperatorFault settings.operators fault)
+IsBuildFault settings fault =
+    AreGlobs settings.include × (AreGlobs settings.exclude × (HasPattern settings.multiline × IsOperatorFault settings.operators fault))
 
 -- the fault that tells why the operator at a place can't be made
 abbrev pub refusal : ℕ → OpCause → BuildFault

@@ -5,7 +5,7 @@ use Rattle.glob_match.specs.GlobText.{IsGlobText}
 use Rattle.glob_match.specs.Pattern.{Pattern}
 use Rattle.pipeline.specs.Listed.{ArePaired}
 use Rattle.pipeline.specs.declared.fault.BuildFault.{BuildFault}
-use Rattle.pipeline.specs.declared.fault.BuildFault.TheVariants.{Glob, SameId, Operator, Graph, Memory}
+use Rattle.pipeline.specs.declared.fault.BuildFault.TheVariants.{Glob, Multiline, SameId, Operator, Graph, Memory}
 
 abbrev pub IsPatternOf : List ℕ → Pattern → Type 0
 IsPatternOf text pattern = IsGlobText (chars text) pattern
@@ -25,6 +25,7 @@ pub record IsNoGlobAt (texts : List (List ℕ)) (place : ℕ) : Type 0 where
 -- why the includes, or the excludes, aren't all globs
 abbrev pub IsGlobFault : Bool → List (List ℕ) → BuildFault → Type 0
 IsGlobFault exclude texts (Glob excluded place) = (excluded ≡ exclude) × IsNoGlobAt texts place
+IsGlobFault exclude texts Multiline = ⊥
 IsGlobFault exclude texts (SameId place) = ⊥
 IsGlobFault exclude texts (Operator place found) = ⊥
 IsGlobFault exclude texts (Graph fault) = ⊥

@@ -1,4 +1,6 @@
 pub mod Tokens
+pub mod NextToken
+pub mod Splitters
 pub mod Entries
 pub mod Wired
 pub mod Listed

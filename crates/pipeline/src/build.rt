@@ -1,6 +1,7 @@
 // Pipelines of settings.
 ghost use Rattle.std.specs.Prelude.{◌≡◌, ◌≤◌, ◌<◌, ℕ, [], length, map, OnOk, IfOk, IfErr};
-ghost use Rattle.graph_core.specs.Traces.{start_states};
+ghost use Rattle.graph_core.specs.Traces.{network_of, start_states};
+ghost use Rattle.op_kinds.specs.Operator.{behavior_of};
 ghost use Rattle.op_kinds.specs.States.{states_spelling};
 ghost use Rattle.pipeline.specs.BuildFaults.{IsBuildFault, IsOperatorFault, IsFineAt, HaveFewRoutes, refusal};
 ghost use Rattle.pipeline.specs.Globs.{ArePatterns};
@@ -8,10 +9,12 @@ ghost use Rattle.pipeline.specs.GraphOutput.{StandsFor};
 ghost use Rattle.pipeline.specs.Listed.{AreOperators};
 ghost use Rattle.pipeline.specs.Parts.{settings_of, network, node_count, HaveKinds};
 ghost use Rattle.pipeline.specs.RowStates.{IsStateOf};
+ghost use Rattle.pipeline.specs.Splitters.{HasPattern};
 ghost use Rattle.pipeline.specs.Wired.{AreNodes, IsNetwork, ids_of};
 ghost use Rattle.settings_text.specs.Limits.{KeepsLimits};
 
 use crate::globs::globs_of;
+use crate::splitter::Splitter;
 use crate::wiring::wired;
 use crate::{BuildFault, FileState, Pipeline};
 use glob_match::Glob;
@@ -30,21 +33,20 @@ impl Pipeline {
         ensures network { IfOk result (λ pipeline. IsNetwork settings.operators (network pipeline)) }
         ensures include { IfOk result (λ pipeline. ArePatterns settings.include pipeline.include.items) }
         ensures exclude { IfOk result (λ pipeline. ArePatterns settings.exclude pipeline.exclude.items) }
+        ensures multiline { OnOk result (HasPattern settings.multiline) }
         ensures fault { IfErr result (IsBuildFault settings) }
     {
         let include = globs_of(alloc, false, settings.include.as_slice())?;
         let exclude = globs_of(alloc, true, settings.exclude.as_slice())?;
-        let nodes = nodes_of(alloc, settings.operators.as_slice())?;
-        match Graph::build(alloc, nodes) {
-            Ok(graph) => Ok(Pipeline {
-                settings,
-                include,
-                exclude,
-                graph,
-            }),
-            Err(GraphFault::Memory) => Err(BuildFault::Memory),
-            Err(fault) => Err(BuildFault::Graph(fault)),
-        }
+        let splitter = Splitter::new(alloc, &settings.multiline)?;
+        let graph = graph_of(alloc, settings.operators.as_slice())?;
+        Ok(Pipeline {
+            settings,
+            include,
+            exclude,
+            splitter,
+            graph,
+        })
     }
 
     pub fn settings(&self) -> &Settings
@@ -85,6 +87,21 @@ impl Pipeline {
             lines: 0,
             states,
         })
+    }
+}
+
+// The operators as their outputs wire them, or their first fault.
+fn graph_of(alloc: Global, specs: &[OpSpec]) -> Result<Graph<AnyOp>, BuildFault>
+    requires few { length specs.now ≤ 64 }
+    requires routes { HaveFewRoutes specs.now }
+    ensures network { IfOk result (λ graph. IsNetwork specs.now (network_of behavior_of graph)) }
+    ensures fault { IfErr result (IsOperatorFault specs.now) }
+{
+    let nodes = nodes_of(alloc, specs)?;
+    match Graph::build(alloc, nodes) {
+        Ok(graph) => Ok(graph),
+        Err(GraphFault::Memory) => Err(BuildFault::Memory),
+        Err(fault) => Err(BuildFault::Graph(fault)),
     }
 }
 

@@ -10,6 +10,9 @@ pub enum BuildFault {
     /// The pattern at this place of the includes, or of the excludes, is no glob.
     #[error("pattern {place} is no glob (exclude: {exclude})")]
     Glob { exclude: bool, place: u64 },
+    /// The text at the key `multiline` is no pattern.
+    #[error("the pattern of multiline can't be read")]
+    Multiline,
     /// The operator at this place has the id of one before it.
     #[error("operator {place} has the id of one before it")]
     SameId { place: u64 },

@@ -6,13 +6,14 @@ ghost use Rattle.otlp_json.specs.OutputLines.{output_lines};
 ghost use Rattle.pipeline.specs.Entries.{file_attributes, records_behind, record_with};
 ghost use Rattle.pipeline.specs.Fed.{Fed, GoesOn};
 ghost use Rattle.pipeline.specs.GraphOutput.{StandsFor};
+ghost use Rattle.pipeline.specs.NextToken.{IsNext};
 ghost use Rattle.pipeline.specs.Parts.{settings_of, network, HaveKinds};
-ghost use Rattle.pipeline.specs.Tokens.{tokens_of, used_of};
+ghost use Rattle.pipeline.specs.Tokens.{first_cut_of, tokens_of, used_of};
 
 use crate::{FileState, Pipeline};
 use entry_model::Fields;
 use graph_core::laws as graph;
-use line_splitter::{entry_text, next};
+use line_splitter::{Token, entry_text};
 use op_kinds::Record;
 use otlp_json::laws::{line_is_one_line, lines_append};
 use otlp_json::line;
@@ -53,15 +54,22 @@ impl Pipeline {
         graph::begin(&self.graph);
         graph::go_on(&self.graph);
         lines_append();
-        let max = self.settings.max_log_size as usize;
         let shared = self.file_attributes(alloc, path)?;
         let mut at = 0;
-        while let Some(token) = next(max, &bytes[at..]) {
+        while let Some(token) = self.next_token(alloc, &bytes[at..])? {
             let rest = &bytes[at..];
             self.feed_token(alloc, state, id, &shared, &rest[token.from..token.to], out)?;
             at += token.after;
         }
         Ok(at)
+    }
+
+    // The first token of the bytes.
+    fn next_token(&self, alloc: Global, bytes: &[u8]) -> Result<Option<Token>, AllocError>
+        ensures { IfOk result (IsNext (first_cut_of (settings_of self.now)) bytes.now) }
+    {
+        self.splitter
+            .next(alloc, self.settings.max_log_size as usize, bytes)
     }
 
     fn feed_token(

@@ -22,6 +22,7 @@ ghost use Rattle.standing.specs.Tokens.{used};
 use crate::Pipeline;
 use graph_core::laws as graph;
 use line_splitter::laws::lines_are_cut_by_a_rule;
+use multiline::laws as several;
 use otlp_json::laws::{line_is_one_line, line_tells_all, lines_append};
 
 /// What comes out for some tokens is a prefix of what comes out for them and more.
@@ -44,7 +45,9 @@ pub fn operators_make_one_network()
 pub fn tokens_are_cut_by_a_rule(pipeline: &Pipeline)
     ensures { IsCutRule (first_cut_of (settings_of pipeline.now)) }
 {
-    lines_are_cut_by_a_rule(pipeline.settings.max_log_size as usize);
+    let max = pipeline.settings.max_log_size as usize;
+    lines_are_cut_by_a_rule(max);
+    several::tokens_are_cut_by_a_rule(max);
 }
 
 /// What the operators keep and what comes out for one list of tokens and then another: that of the first, and then that of

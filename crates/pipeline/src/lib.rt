@@ -10,7 +10,8 @@
 //! the state of a row is what these say of it ([`laws`]).
 #![tactic(auto)]
 
-ghost use Rattle.std.specs.Prelude.{◌≤◌};
+ghost use Rattle.std.specs.Prelude.{◌≡◌, ◌≤◌};
+ghost use Rattle.pipeline.specs.Splitters.{multiline_of};
 
 mod build;
 mod entry;
@@ -19,8 +20,11 @@ mod feed;
 mod globs;
 pub mod laws;
 #[cfg(test)]
+mod multiline_tests;
+#[cfg(test)]
 mod parser_tests;
 mod restore;
+mod splitter;
 mod state;
 #[cfg(test)]
 mod tests;
@@ -31,6 +35,7 @@ use glob_match::Glob;
 use graph_core::Graph;
 use op_kinds::AnyOp;
 use settings_text::Settings;
+use splitter::Splitter;
 pub use state::FileState;
 
 /// The operators of some settings, ready for any file.
@@ -39,6 +44,8 @@ pub struct Pipeline {
     settings: Settings,
     include: Vec<Glob>,
     exclude: Vec<Glob>,
+    splitter: Splitter,
     graph: Graph<AnyOp>,
     ghost some_bytes: { 1 ≤ settings.max_log_size },
+    ghost cut_so: { multiline_of splitter ≡ settings.multiline },
 }

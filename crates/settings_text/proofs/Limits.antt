@@ -10,6 +10,7 @@ use Rattle.entry_model.specs.Lawful.{nesting, items_nesting, members_nesting}
 use Rattle.settings_text.specs.Grammar.{settings, settings_of, flags_of, json_of, is_top_key, start_named}
 use Rattle.settings_text.specs.Kinds.{Kind, must, may, or_missing, or_default, given, known, name, text, whole, integer, integer_within, number_within, texts, some_texts, text_or_texts, some_item_texts, fields, value, each, IsSomeIfWritten}
 use Rattle.settings_text.specs.Limits.{KeepsLimits, OperatorKeepsLimits, KindKeepsLimits, route_count}
+use Rattle.settings_text.specs.Multilines.{multiline}
 use Rattle.settings_text.specs.Operators as op
 use Rattle.settings_text.specs.Operators.{at_most_64, with_ids, draft, written_ids, front, type_named, on_error_named, is_key_of, kind_of}
 use Rattle.settings_text.specs.Parsers as parsers
@@ -23,6 +24,7 @@ use Rattle.settings_text.specs.declared.fault.SettingsFault.TheVariants.{NotJson
 use Rattle.settings_text.specs.declared.operators.Draft.{Draft}
 use Rattle.settings_text.specs.declared.operators.OpType.{OpType}
 use Rattle.settings_text.specs.declared.operators.OpType.TheVariants.{Noop, Move, Copy, Add, Remove, Flatten, Retain, Filter, Json, Regex, Router}
+use Rattle.settings_text.specs.declared.settings.Multiline.TheVariants.{Lines}
 use Rattle.settings_text.specs.declared.settings.OnError.TheVariants.{Send}
 use Rattle.settings_text.specs.declared.settings.OpKind.{OpKind}
 use Rattle.settings_text.specs.declared.settings.OpKind.TheVariants as kind
@@ -365,7 +367,8 @@ keys_say d said e =
     let start_at = binds (may [] (codes "start_at") (name start_named) End d) _ said exclude.2 in
     let fingerprint = binds (may [] (codes "fingerprint_size") (whole 16 4096) 1000 d) _ said start_at.2 in
     let max = binds (may [] (codes "max_log_size") (whole 64 4194304) 1048576 d) _ said fingerprint.2 in
-    let flags = binds (flags_of d) _ said max.2 in
+    let multiline = binds (may [] (codes "multiline") multiline Lines d) _ said max.2 in
+    let flags = binds (flags_of d) _ said multiline.2 in
     let attributes = binds (may [] (codes "attributes") fields datum.no_members d) _ said flags.2 in
     let resource = binds (may [] (codes "resource") fields datum.no_members d) _ said attributes.2 in
     let operators = binds (may [] (codes "operators") op.operators [] d) _ said resource.2 in

@@ -10,9 +10,11 @@ use Rattle.settings_text.specs.declared.fault.SettingsFault.TheVariants.{NotJson
 use Rattle.settings_text.specs.declared.settings.StartAt.{StartAt}
 use Rattle.settings_text.specs.declared.settings.StartAt.TheVariants.{Beginning, End}
 use Rattle.settings_text.specs.Kinds.{must, may, known, flag, name, whole, texts, some_texts, fields}
+use Rattle.settings_text.specs.Multilines.{multiline}
 use Rattle.settings_text.specs.Outcome.{◌>>=◌, or_fault}
 use Rattle.settings_text.specs.Operators as operators
 use Rattle.settings_text.specs.declared.Flags.{Flags}
+use Rattle.settings_text.specs.declared.settings.Multiline.TheVariants.{Lines}
 use Rattle.settings_text.specs.declared.settings.Settings.{Settings}
 
 abbrev pub start_named : List ℕ → Option StartAt
@@ -21,7 +23,7 @@ start_named name = if bytes_eq name (codes "beginning") then Some Beginning else
 abbrev pub is_top_key : List ℕ → Bool
 is_top_key name =
     bytes_eq name (codes "include") || bytes_eq name (codes "exclude") || bytes_eq name (codes "start_at")
-    || bytes_eq name (codes "fingerprint_size") || bytes_eq name (codes "max_log_size")
+    || bytes_eq name (codes "fingerprint_size") || bytes_eq name (codes "max_log_size") || bytes_eq name (codes "multiline")
     || bytes_eq name (codes "preserve_leading_whitespaces") || bytes_eq name (codes "preserve_trailing_whitespaces")
     || bytes_eq name (codes "include_file_name") || bytes_eq name (codes "include_file_path") || bytes_eq name (codes "include_file_record_number")
     || bytes_eq name (codes "attributes") || bytes_eq name (codes "resource") || bytes_eq name (codes "operators")
@@ -51,6 +53,7 @@ settings_of d = do
   start_at ← may [] (codes "start_at") (name start_named) End d
   fingerprint_size ← may [] (codes "fingerprint_size") (whole 16 4096) 1000 d
   max_log_size ← may [] (codes "max_log_size") (whole 64 4194304) 1048576 d
+  multiline ← may [] (codes "multiline") multiline Lines d
   flags ← flags_of d
   attributes ← may [] (codes "attributes") fields no_members d
   resource ← may [] (codes "resource") fields no_members d
@@ -61,6 +64,7 @@ settings_of d = do
     start_at = start_at;
     fingerprint_size = fingerprint_size;
     max_log_size = max_log_size;
+    multiline = multiline;
     preserve_leading_whitespaces = flags.preserve_leading_whitespaces;
     preserve_trailing_whitespaces = flags.preserve_trailing_whitespaces;
     include_file_name = flags.include_file_name;

@@ -6,6 +6,7 @@ pub mod Kinds
 pub mod Times
 pub mod Rules
 pub mod Mappings
+pub mod Multilines
 pub mod Severities
 pub mod Parsers
 pub mod Types

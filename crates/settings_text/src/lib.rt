@@ -31,6 +31,7 @@ mod lists;
 mod literal;
 mod mapping;
 mod mappings;
+mod multilines;
 #[cfg(test)]
 mod operator_tests;
 mod operators;
@@ -53,11 +54,12 @@ use kinds::{Keys, check_known, fields, flag, name, some_texts, texts, whole};
 pub use lists::{Operators, Routes};
 pub use literal::Literal;
 pub use mapping::{MapRule, MapRules, MapWant};
+use multilines::multiline;
 use operators::operators;
 pub use parsing::{LayoutType, ParserKeys, SeveritySpec, TimeSpec};
 use place::place;
 use serde_json::Value;
-pub use settings::{OnError, OpKind, OpSpec, RouteSpec, Settings, StartAt};
+pub use settings::{Multiline, OnError, OpKind, OpSpec, RouteSpec, Settings, StartAt};
 use std::alloc::Global;
 pub use texts::{NamedTexts, Texts};
 
@@ -97,6 +99,7 @@ impl Keys for TopKeys {
             || name == "start_at"
             || name == "fingerprint_size"
             || name == "max_log_size"
+            || name == "multiline"
             || name == "preserve_leading_whitespaces"
             || name == "preserve_trailing_whitespaces"
             || name == "include_file_name"
@@ -154,6 +157,7 @@ fn settings_of(alloc: Global, object: &Value) -> Result<Settings, SettingsFault>
     let start_at = start_at(alloc, object)?;
     let fingerprint_size = whole(alloc, object, "", "fingerprint_size", 16, 4_096, 1_000)?;
     let max_log_size = whole(alloc, object, "", "max_log_size", 64, 4_194_304, 1_048_576)?;
+    let multiline = multiline(alloc, object)?;
     let flags = flags_of(alloc, object)?;
     let attributes = fields(alloc, object, "", "attributes")?;
     let resource = fields(alloc, object, "", "resource")?;
@@ -164,6 +168,7 @@ fn settings_of(alloc: Global, object: &Value) -> Result<Settings, SettingsFault>
         start_at,
         fingerprint_size,
         max_log_size,
+        multiline,
         preserve_leading_whitespaces: flags.preserve_leading_whitespaces,
         preserve_trailing_whitespaces: flags.preserve_trailing_whitespaces,
         include_file_name: flags.include_file_name,

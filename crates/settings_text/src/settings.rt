@@ -12,6 +12,17 @@ pub enum StartAt {
     End,
 }
 
+/// Which lines of a file are taken together as one token. Patterns are as they were written.
+#[derive(Drop)]
+pub enum Multiline {
+    /// Each line is a token.
+    Lines,
+    /// A line in which the pattern is found begins a token.
+    Start(Text),
+    /// A line in which the pattern is found ends a token.
+    End(Text),
+}
+
 /// What becomes of an entry that an operator cannot work on.
 #[derive(Clone, Copy, Debug, PartialEq, Eq)]
 pub enum OnError {
@@ -32,6 +43,7 @@ pub struct Settings {
     pub fingerprint_size: u32,
     /// In bytes, 64 to 4,194,304.
     pub max_log_size: u32,
+    pub multiline: Multiline,
     pub preserve_leading_whitespaces: bool,
     pub preserve_trailing_whitespaces: bool,
     pub include_file_name: bool,

@@ -1,6 +1,8 @@
 // Texts with their answers, each worked out by hand from the tables of keys.
 use crate::parser_tests::show_parser;
-use crate::{OnError, OpKind, OpSpec, Routes, Settings, SettingsFault, StartAt, Texts, read};
+use crate::{
+    Multiline, OnError, OpKind, OpSpec, Routes, Settings, SettingsFault, StartAt, Texts, read,
+};
 use entry_model::{Fields, Text, Value};
 use std::alloc::{AllocError, Global};
 use std::test::Fail;
@@ -27,7 +29,27 @@ const REFUSED: &[(&str, &str)] = &[
     ("{\"\":1}", "unknown "),
     (
         "{\"include\":[\"a\"],\"multiline\":{}}",
-        "unknown multiline",
+        "missing multiline.line_start_pattern",
+    ),
+    (
+        "{\"include\":[\"a\"],\"multiline\":{\"line_start_pattern\":\"a\",\"line_end_pattern\":1}}",
+        "out-of-range multiline",
+    ),
+    (
+        "{\"include\":[\"a\"],\"multiline\":{\"line_start_pattern\":1,\"line_end\":2}}",
+        "unknown multiline.line_end",
+    ),
+    (
+        "{\"include\":[\"a\"],\"multiline\":{\"line_end_pattern\":null},\"attributes\":1}",
+        "wrong-kind multiline.line_end_pattern",
+    ),
+    (
+        "{\"include\":[\"a\"],\"multiline\":\"^a\",\"max_log_size\":1}",
+        "out-of-range max_log_size",
+    ),
+    (
+        "{\"include\":[\"a\"],\"multiline\":[],\"include_file_name\":1}",
+        "wrong-kind multiline",
     ),
     (
         "{\"include\":[\"a\"],\"exclude\":\"b\"}",
@@ -264,6 +286,14 @@ const ACCEPTED: &[(&str, &str)] = &[
         "a, - end 4096 4194304 00100 - - -",
     ),
     (
+        "{\"include\":[\"a\"],\"multiline\":{\"line_start_pattern\":\"(\"}}",
+        "a, - end 1000 1048576 start ( 00100 - - -",
+    ),
+    (
+        "{\"include\":[\"a\"],\"multiline\":{\"line_end_pattern\":\"\"}}",
+        "a, - end 1000 1048576 end  00100 - - -",
+    ),
+    (
         "{\"include\":[\"a\"],\"preserve_leading_whitespaces\":true,\"include_file_name\":false,\"include_file_path\":true}",
         "a, - end 1000 1048576 10010 - - -",
     ),
@@ -431,6 +461,11 @@ fn show(alloc: Global, settings: &Settings) -> Result<String, AllocError> {
         " {} {} ",
         settings.fingerprint_size, settings.max_log_size
     )?;
+    match &settings.multiline {
+        Multiline::Lines => {}
+        Multiline::Start(pattern) => write!(out, "start {pattern} ")?,
+        Multiline::End(pattern) => write!(out, "end {pattern} ")?,
+    }
     out.push_str(bit(settings.preserve_leading_whitespaces))?;
     out.push_str(bit(settings.preserve_trailing_whitespaces))?;
     out.push_str(bit(settings.include_file_name))?;

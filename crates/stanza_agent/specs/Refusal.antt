@@ -38,6 +38,7 @@ graph_words graph.Memory = codes "graph memory"
 abbrev pub build_words : BuildFault → List ℕ
 build_words (build.Glob false place) = codes "include " ++ decimal place ++ codes " glob"
 build_words (build.Glob true place) = codes "exclude " ++ decimal place ++ codes " glob"
+build_words build.Multiline = codes "multiline pattern"
 build_words (build.SameId place) = codes "same-id " ++ decimal place
 build_words (build.Operator place found) = codes "operator " ++ decimal place ++ codes " " ++ cause_words found
 build_words (build.Graph fault) = graph_words fault

@@ -93,6 +93,7 @@ fn build_line(alloc: Global, refused: &BuildFault) -> Result<String, AllocError>
             exclude: true,
             place,
         } => exclude_line(alloc, *place),
+        BuildFault::Multiline => String::from_str(alloc, "fault 3 multiline pattern\n"),
         BuildFault::SameId { place } => format!(in alloc; "fault 3 same-id {place}\n"),
         BuildFault::Operator { place, cause } => operator_line(alloc, *place, *cause),
         BuildFault::Graph(fault) => graph_line(alloc, *fault),

@@ -45,34 +45,41 @@ returns-in_err-max_log_size c =
     let p = err_from_is_err_and r.result r.ensures.1 in
     rw (p.1, p.2) (λ some. rw (← c.in-Some.ensures, c.in_ok-check_known.ensures, c.in_ok-include.ensures, c.in_ok-exclude.ensures, c.in_ok-start_at.ensures, c.in_ok-fingerprint_size.ensures, c.in_err-max_log_size.ensures some) refl)
 
+pub returns-in_err-multiline : goal.returns-in_err-multiline
+unfolding settings_of
+returns-in_err-multiline c =
+    let r = c.from_residual-in_err-multiline in
+    let p = err_from_is_err_and r.result r.ensures.1 in
+    rw (p.1, p.2) (λ some. rw (← c.in-Some.ensures, c.in_ok-check_known.ensures, c.in_ok-include.ensures, c.in_ok-exclude.ensures, c.in_ok-start_at.ensures, c.in_ok-fingerprint_size.ensures, c.in_ok-max_log_size.ensures, c.in_err-multiline.ensures some) refl)
+
 pub returns-in_err-flags : goal.returns-in_err-flags
 unfolding settings_of
 returns-in_err-flags c =
     let r = c.from_residual-in_err-flags in
     let p = err_from_is_err_and r.result r.ensures.1 in
-    rw (p.1, p.2) (λ some. rw (← c.in-Some.ensures, c.in_ok-check_known.ensures, c.in_ok-include.ensures, c.in_ok-exclude.ensures, c.in_ok-start_at.ensures, c.in_ok-fingerprint_size.ensures, c.in_ok-max_log_size.ensures, c.in_err-flags.ensures some) refl)
+    rw (p.1, p.2) (λ some. rw (← c.in-Some.ensures, c.in_ok-check_known.ensures, c.in_ok-include.ensures, c.in_ok-exclude.ensures, c.in_ok-start_at.ensures, c.in_ok-fingerprint_size.ensures, c.in_ok-max_log_size.ensures, c.in_ok-multiline.ensures, c.in_err-flags.ensures some) refl)
 
 pub returns-in_err-attributes : goal.returns-in_err-attributes
 unfolding settings_of
 returns-in_err-attributes c =
     let r = c.from_residual-in_err-attributes in
     let p = err_from_is_err_and r.result r.ensures.1 in
-    rw (p.1, p.2) (λ some. rw (← c.in-Some.ensures, c.in_ok-check_known.ensures, c.in_ok-include.ensures, c.in_ok-exclude.ensures, c.in_ok-start_at.ensures, c.in_ok-fingerprint_size.ensures, c.in_ok-max_log_size.ensures, c.in_ok-flags.ensures, c.in_err-attributes.ensures some) refl)
+    rw (p.1, p.2) (λ some. rw (← c.in-Some.ensures, c.in_ok-check_known.ensures, c.in_ok-include.ensures, c.in_ok-exclude.ensures, c.in_ok-start_at.ensures, c.in_ok-fingerprint_size.ensures, c.in_ok-max_log_size.ensures, c.in_ok-multiline.ensures, c.in_ok-flags.ensures, c.in_err-attributes.ensures some) refl)
 
 pub returns-in_err-resource : goal.returns-in_err-resource
 unfolding settings_of
 returns-in_err-resource c =
     let r = c.from_residual-in_err-resource in
     let p = err_from_is_err_and r.result r.ensures.1 in
-    rw (p.1, p.2) (λ some. rw (← c.in-Some.ensures, c.in_ok-check_known.ensures, c.in_ok-include.ensures, c.in_ok-exclude.ensures, c.in_ok-start_at.ensures, c.in_ok-fingerprint_size.ensures, c.in_ok-max_log_size.ensures, c.in_ok-flags.ensures, c.in_ok-attributes.ensures, c.in_err-resource.ensures some) refl)
+    rw (p.1, p.2) (λ some. rw (← c.in-Some.ensures, c.in_ok-check_known.ensures, c.in_ok-include.ensures, c.in_ok-exclude.ensures, c.in_ok-start_at.ensures, c.in_ok-fingerprint_size.ensures, c.in_ok-max_log_size.ensures, c.in_ok-multiline.ensures, c.in_ok-flags.ensures, c.in_ok-attributes.ensures, c.in_err-resource.ensures some) refl)
 
 pub returns-in_err-operators : goal.returns-in_err-operators
 unfolding settings_of
 returns-in_err-operators c =
     let r = c.from_residual-in_err-operators in
     let p = err_from_is_err_and r.result r.ensures.1 in
-    rw (p.1, p.2) (λ some. rw (← c.in-Some.ensures, c.in_ok-check_known.ensures, c.in_ok-include.ensures, c.in_ok-exclude.ensures, c.in_ok-start_at.ensures, c.in_ok-fingerprint_size.ensures, c.in_ok-max_log_size.ensures, c.in_ok-flags.ensures, c.in_ok-attributes.ensures, c.in_ok-resource.ensures, c.in_err-operators.ensures some) refl)
+    rw (p.1, p.2) (λ some. rw (← c.in-Some.ensures, c.in_ok-check_known.ensures, c.in_ok-include.ensures, c.in_ok-exclude.ensures, c.in_ok-start_at.ensures, c.in_ok-fingerprint_size.ensures, c.in_ok-max_log_size.ensures, c.in_ok-multiline.ensures, c.in_ok-flags.ensures, c.in_ok-attributes.ensures, c.in_ok-resource.ensures, c.in_err-operators.ensures some) refl)
 
 pub returns : goal.returns
 unfolding settings_of
-returns c = rw (← c.in-Some.ensures, c.in_ok-check_known.ensures, c.in_ok-include.ensures, c.in_ok-exclude.ensures, c.in_ok-start_at.ensures, c.in_ok-fingerprint_size.ensures, c.in_ok-max_log_size.ensures, c.in_ok-flags.ensures, c.in_ok-attributes.ensures, c.in_ok-resource.ensures, c.in_ok-operators.ensures) refl
+returns c = rw (← c.in-Some.ensures, c.in_ok-check_known.ensures, c.in_ok-include.ensures, c.in_ok-exclude.ensures, c.in_ok-start_at.ensures, c.in_ok-fingerprint_size.ensures, c.in_ok-max_log_size.ensures, c.in_ok-multiline.ensures, c.in_ok-flags.ensures, c.in_ok-attributes.ensures, c.in_ok-resource.ensures, c.in_ok-operators.ensures) refl

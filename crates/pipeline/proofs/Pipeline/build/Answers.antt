@@ -1,20 +1,17 @@
-use Rattle.std.proofs.Common.{ap, List, length, subst, ℕ, ◌<◌}
-use Rattle.graph_core.specs.Traces.{network_of}
-use Rattle.op_kinds.specs.Operator.{behavior_of}
+use Rattle.std.proofs.Common.{List, ℕ, subst}
+use Rattle.std.proofs.lemmas.Result.{err_from_is_err_and}
+use Rattle.pipeline.proofs.Building.{operators_refused}
+use Rattle.pipeline.specs.BuildFaults.{IsOperatorFault}
+use Rattle.pipeline.specs.Globs.{ArePatterns}
 use Rattle.settings_text.specs.declared.settings.OpSpec.{OpSpec}
-use Rattle.pipeline.specs.BuildFaults.{IsFineAt}
-use Rattle.pipeline.specs.Wired.{AreNodes}
-use Rattle.pipeline.proofs.Building.{own_ids}
 use Rattle.pipeline.proofs.Pipeline.build.Goals as goal
 
-pub returns-in-Ok-clause-network : goal.returns-in-Ok-clause-network
-returns-in-Ok-clause-network c =
-    let fine = subst (λ (specs : List OpSpec). (k : ℕ) → k < length specs → IsFineAt specs k) c.as_slice-3.ensures c.in_ok-nodes.ensures.fine in
-    let are = subst (λ (specs : List OpSpec). AreNodes specs c.in_ok-nodes.nodes.items) c.as_slice-3.ensures c.in_ok-nodes.ensures.nodes in
-    record {
-      differ = own_ids c.args.settings.operators fine;
-      nodes = c.in_ok-nodes.nodes.items;
-      are = are;
-      accepted = c.in-Ok.ensures.accepted.1;
-      is = ap (network_of behavior_of) c.in-Ok.ensures.accepted.0;
-    }
+pub returns-in_err-graph-clause-fault : goal.returns-in_err-graph-clause-fault
+returns-in_err-graph-clause-fault c =
+    let r = c.from_residual-in_err-graph in
+    let p = err_from_is_err_and r.result r.ensures.1 in
+    rw (p.1, p.2) (operators_refused c.args.settings c.in_err-graph.field-0.0
+    (c.in_ok-include.include.items, subst (λ (texts : List (List ℕ)). ArePatterns texts c.in_ok-include.include.items) c.as_slice.ensures c.in_ok-include.ensures.ok)
+    (c.in_ok-exclude.exclude.items, subst (λ (texts : List (List ℕ)). ArePatterns texts c.in_ok-exclude.exclude.items) c.as_slice-2.ensures c.in_ok-exclude.ensures.ok)
+    c.in_ok-splitter.ensures.pattern
+    (subst (λ (specs : List OpSpec). IsOperatorFault specs c.in_err-graph.field-0.0) c.as_slice-3.ensures c.in_err-graph.ensures.fault))

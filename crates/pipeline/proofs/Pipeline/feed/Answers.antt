@@ -4,8 +4,8 @@ use Rattle.pipeline.specs.Parts.{settings_of, network}
 use Rattle.pipeline.proofs.Feeding.{GraphLaws, LineLaws, FeedsOn, feeds_from_start, feeds_token, feeds_all, goes_on}
 use Rattle.pipeline.proofs.Pipeline.feed.Goals as goal
 
-pub loop-token-init : goal.loop-token-init
-loop-token-init c =
+pub loop-shared-init : goal.loop-shared-init
+loop-shared-init c =
     let graph : GraphLaws (network c.args.self.now) = record { begin = c.begin.ensures; states = c.go_on.ensures.states; items = c.go_on.ensures.items } in
     let lines : LineLaws = record { none = c.lines_append.ensures.none; append = c.lines_append.ensures.append } in
     record {
@@ -17,17 +17,17 @@ loop-token-init c =
       states = refl;
     }
 
-pub loop-token-preserved : goal.loop-token-preserved
-loop-token-preserved c =
+pub loop-shared-preserved : goal.loop-shared-preserved
+loop-shared-preserved c =
     let graph : GraphLaws (network c.args.self.now) = record { begin = c.begin.ensures; states = c.go_on.ensures.states; items = c.go_on.ensures.items } in
     let lines : LineLaws = record { none = c.lines_append.ensures.none; append = c.lines_append.ensures.append } in
-    let so_far = c.loop-token.invariant in
-    let begins = rw (take_rest c.args.bytes.now c.loop-token.at) at c.in-Some.ensures.begins in
-    let fed = rw (take_rest c.args.bytes.now c.loop-token.at) at (c.in_ok-feed_token.ensures.fed c.args.path.now c.in_ok-shared.ensures) in
+    let so_far = c.loop-shared.invariant in
+    let begins = rw (take_rest c.args.bytes.now c.loop-shared.at) at (rw c.in-Some.is at c.in_ok-token.ensures).begins in
+    let fed = rw (take_rest c.args.bytes.now c.loop-shared.at) at (c.in_ok-feed_token.ensures.fed c.args.path.now c.in_ok-shared.ensures) in
     record {
-      within = omega (arith, begins.within, length-drop c.loop-token.at c.args.bytes.now);
-      feeds = subst (λ rest. FeedsOn (settings_of c.args.self.now) (network c.args.self.now) c.args.id c.args.path.now c.args.bytes.now rest (c.loop-token.at + c.in-Some.token.after) c.args.state.now c.feed_token.new.state c.args.out.now.items c.feed_token.new.out.items) (drop-drop c.in-Some.token.after c.loop-token.at c.args.bytes.now)
-          (feeds_token (settings_of c.args.self.now) (network c.args.self.now) c.args.id c.args.path.now graph lines c.args.bytes.now c.args.state.now c.args.out.now.items (drop c.loop-token.at c.args.bytes.now) c.loop-token.at _ c.loop-token.state c.feed_token.new.state c.loop-token.out.items c.feed_token.new.out.items begins so_far.feeds fed);
+      within = omega (arith, begins.within, length-drop c.loop-shared.at c.args.bytes.now);
+      feeds = subst (λ rest. FeedsOn (settings_of c.args.self.now) (network c.args.self.now) c.args.id c.args.path.now c.args.bytes.now rest (c.loop-shared.at + c.in-Some.token.after) c.args.state.now c.feed_token.new.state c.args.out.now.items c.feed_token.new.out.items) (drop-drop c.in-Some.token.after c.loop-shared.at c.args.bytes.now)
+          (feeds_token (settings_of c.args.self.now) (network c.args.self.now) c.args.id c.args.path.now graph lines c.args.bytes.now c.args.state.now c.args.out.now.items (drop c.loop-shared.at c.args.bytes.now) c.loop-shared.at _ c.loop-shared.state c.feed_token.new.state c.loop-shared.out.items c.feed_token.new.out.items begins so_far.feeds fed);
       records = omega (arith, c.in_ok-feed_token.ensures.records, so_far.records, begins.some_used);
       lines = omega (arith, c.in_ok-feed_token.ensures.lines, so_far.lines);
       kinds = c.in_ok-feed_token.ensures.states;
@@ -38,5 +38,5 @@ pub returns-clause-goes_on : goal.returns-clause-goes_on
 returns-clause-goes_on c = λ earlier stands.
     let graph : GraphLaws (network c.args.self.now) = record { begin = c.begin.ensures; states = c.go_on.ensures.states; items = c.go_on.ensures.items } in
     let lines : LineLaws = record { none = c.lines_append.ensures.none; append = c.lines_append.ensures.append } in
-    let all = feeds_all (settings_of c.args.self.now) (network c.args.self.now) c.args.id c.args.path.now graph lines c.args.bytes.now c.args.state.now c.args.out.now.items (drop c.loop-token.at c.args.bytes.now) c.loop-token.at c.loop-token.state c.loop-token.out.items (rw (take_rest c.args.bytes.now c.loop-token.at) at c.in_default.ensures.ends) c.loop-token.invariant.feeds in
-    goes_on (settings_of c.args.self.now) (network c.args.self.now) c.args.path.now graph c.args.id earlier _ c.args.state.now c.loop-token.state c.args.out.now.items c.loop-token.out.items stands all.1
+    let all = feeds_all (settings_of c.args.self.now) (network c.args.self.now) c.args.id c.args.path.now graph lines c.args.bytes.now c.args.state.now c.args.out.now.items (drop c.loop-shared.at c.args.bytes.now) c.loop-shared.at c.loop-shared.state c.loop-shared.out.items (rw (take_rest c.args.bytes.now c.loop-shared.at) at (rw c.in_default.is at c.in_ok-token.ensures)) c.loop-shared.invariant.feeds in
+    goes_on (settings_of c.args.self.now) (network c.args.self.now) c.args.path.now graph c.args.id earlier _ c.args.state.now c.loop-shared.state c.args.out.now.items c.loop-shared.out.items stands all.1

@@ -4,8 +4,8 @@ use Rattle.pipeline.proofs.Feeding.{FeedsOn}
 use Rattle.pipeline.proofs.Pipeline.feed.Given as goal
 
 -- what was fed, and what is left
-abbrev pub invariant-loop-token : goal.invariant-loop-token
-invariant-loop-token l = record {
+abbrev pub invariant-loop-shared : goal.invariant-loop-shared
+invariant-loop-shared l = record {
   within : l.at ≤ length l.bytes;
   feeds : FeedsOn (settings_of l.self) (network l.self) l.id l.path l.bytes (drop l.at l.bytes) l.at l.fn.state l.state l.fn.out.items l.out.items;
   records : l.state.records ≤ l.fn.state.records + l.at;
@@ -14,5 +14,5 @@ invariant-loop-token l = record {
   states : length l.state.states.items ≡ length l.fn.state.states.items;
 }
 
-abbrev pub decreases-loop-token : goal.decreases-loop-token
-decreases-loop-token l = length l.bytes - l.at
+abbrev pub decreases-loop-shared : goal.decreases-loop-shared
+decreases-loop-shared l = length l.bytes - l.at

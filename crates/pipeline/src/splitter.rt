@@ -1,0 +1,54 @@
+// What cuts the bytes of files into tokens.
+ghost use Rattle.std.specs.Prelude.{◌≡◌, ◌≤◌, OnOk, IfOk, IfErr};
+ghost use Rattle.pipeline.specs.NextToken.{IsNext};
+ghost use Rattle.pipeline.specs.Splitters.{multiline_of, HasPattern, IsMultilineFault};
+ghost use Rattle.pipeline.specs.Tokens.{first_cut_by};
+
+use crate::BuildFault;
+use line_splitter::{Token, next};
+use multiline::{Cutter, PatternFault};
+use settings_text::Multiline;
+use std::alloc::{AllocError, Global};
+
+/// Which lines make a token.
+#[derive(Drop)]
+pub(crate) enum Splitter {
+    Lines,
+    Several(Cutter),
+}
+
+impl Splitter {
+    pub(crate) fn new(alloc: Global, multiline: &Multiline) -> Result<Splitter, BuildFault>
+        ensures made { IfOk result (λ splitter. multiline_of splitter ≡ multiline.now) }
+        ensures pattern { OnOk result (HasPattern multiline.now) }
+        ensures fault { IfErr result (IsMultilineFault multiline.now) }
+    {
+        let made = match multiline {
+            Multiline::Lines => return Ok(Splitter::Lines),
+            Multiline::Start(pattern) => Cutter::start(alloc, pattern.as_str()),
+            Multiline::End(pattern) => Cutter::end(alloc, pattern.as_str()),
+        };
+        match made {
+            Ok(cutter) => Ok(Splitter::Several(cutter)),
+            Err(PatternFault::Refused) => Err(BuildFault::Multiline),
+            Err(PatternFault::Memory) => Err(BuildFault::Memory),
+        }
+    }
+
+    /// The first token of the bytes, where entries are cut after `max` bytes; `None` where more bytes are needed to decide
+    /// it.
+    pub(crate) fn next(
+        &self,
+        alloc: Global,
+        max: usize,
+        bytes: &[u8],
+    ) -> Result<Option<Token>, AllocError>
+        requires { 1 ≤ max }
+        ensures { IfOk result (IsNext (first_cut_by (multiline_of self.now) max) bytes.now) }
+    {
+        match self {
+            Splitter::Lines => Ok(next(max, bytes)),
+            Splitter::Several(cutter) => cutter.next(alloc, max, bytes),
+        }
+    }
+}
