@@ -108,6 +108,17 @@ for line in open("output.jsonl"):
 PY
 }
 
+# stamps: the output, as `[attributes, severity, its text, time]` in JSON, a line each, with null for what isn't told.
+stamps() {
+    python3 - <<'PY'
+import json
+for line in open("output.jsonl"):
+    record = json.loads(line)["resourceLogs"][0]["scopeLogs"][0]["logRecords"][0]
+    attributes = {a["key"]: next(iter(a["value"].values())) for a in record["attributes"]}
+    print(json.dumps([attributes, *map(record.get, ["severityNumber", "severityText", "timeUnixNano"])]))
+PY
+}
+
 # told: the output, a line each: agent.file, agent.line, log.file.name and the body.
 told() {
     python3 - <<'PY'
@@ -148,19 +159,29 @@ untouched() {
     }
 }
 
-# makes KEYS LOG: the entries that the settings with these keys make of the log.
-makes() {
+# takes KEYS LOG: the settings with these keys take the log.
+takes() {
     printf '{"include":["app.log"],"start_at":"beginning"%s}' "${1:+,$1}" >settings.json
     printf "$2" >app.log
     anew
-    quietly && entries
+    quietly
 }
+
+# makes KEYS LOG: the entries that the settings with these keys make of the log.
+makes() { takes "$1" "$2" && entries; }
 
 # gives KEYS LOG ENTRY..: the settings with these keys make exactly these entries of the log.
 gives() {
     local keys=$1 log=$2
     shift 2
     diff <(makes "$keys" "$log") <([ $# = 0 ] || printf '%s\n' "$@")
+}
+
+# stamped KEYS LOG LINE..: the settings with these keys make exactly these of the log, as `stamps` prints them.
+stamped() {
+    local keys=$1 log=$2
+    shift 2
+    diff <(takes "$keys" "$log" && stamps) <(printf '%s\n' "$@")
 }
 
 # ends STATUS WORDS SETTINGS: these settings end `once` so, and nothing is written.

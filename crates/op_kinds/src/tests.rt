@@ -10,46 +10,64 @@ use state_codec::CodecFault;
 use std::alloc::{AllocError, Global};
 use std::test::Fail;
 
-fn spec(alloc: Global, on_error: OnError, kind: OpKind) -> Result<OpSpec, AllocError> {
-    Ok(OpSpec {
-        id: Text::from_str(alloc, "id")?,
-        condition: None,
-        on_error,
-        output: None,
-        kind,
-    })
+// Kinds, settings and operators are held in lists, each of which is dropped by one call, whatever is in it.
+
+fn listed(alloc: Global, kind: OpKind) -> Result<Vec<OpKind>, AllocError> {
+    let mut kinds = Vec::new(alloc);
+    kinds.push(kind)?;
+    Ok(kinds)
 }
 
-fn remove(alloc: Global, field: &str) -> Result<OpKind, AllocError> {
-    Ok(OpKind::Remove {
-        field: Text::from_str(alloc, field)?,
-    })
+fn spec(
+    alloc: Global,
+    condition: Option<&str>,
+    on_error: OnError,
+    mut kinds: Vec<OpKind>,
+) -> Result<Vec<OpSpec>, AllocError> {
+    let id = Text::from_str(alloc, "id")?;
+    let condition = match condition {
+        Some(text) => Some(Text::from_str(alloc, text)?),
+        None => None,
+    };
+    let mut specs = Vec::new(alloc);
+    if let Some(kind) = kinds.pop() {
+        specs.push(OpSpec {
+            id,
+            condition,
+            on_error,
+            output: None,
+            kind,
+        })?;
+    }
+    Ok(specs)
 }
 
-fn flatten(alloc: Global, field: &str) -> Result<OpKind, AllocError> {
-    Ok(OpKind::Flatten {
-        field: Text::from_str(alloc, field)?,
-    })
+fn remove(alloc: Global, field: &str) -> Result<Vec<OpKind>, AllocError> {
+    let field = Text::from_str(alloc, field)?;
+    listed(alloc, OpKind::Remove { field })
 }
 
-fn filter(alloc: Global, expr: &str) -> Result<OpKind, AllocError> {
-    Ok(OpKind::Filter {
-        expr: Text::from_str(alloc, expr)?,
-    })
+fn flatten(alloc: Global, field: &str) -> Result<Vec<OpKind>, AllocError> {
+    let field = Text::from_str(alloc, field)?;
+    listed(alloc, OpKind::Flatten { field })
 }
 
-fn retain(alloc: Global, fields: [&str; 2]) -> Result<OpKind, AllocError> {
+fn filter(alloc: Global, expr: &str) -> Result<Vec<OpKind>, AllocError> {
+    let expr = Text::from_str(alloc, expr)?;
+    listed(alloc, OpKind::Filter { expr })
+}
+
+fn retain(alloc: Global, fields: [&str; 2]) -> Result<Vec<OpKind>, AllocError> {
     let mut texts = Vec::new(alloc);
     for field in fields {
         texts.push(Text::from_str(alloc, field)?)?;
     }
-    Ok(OpKind::Retain {
-        fields: Texts::new(texts),
-    })
+    let fields = Texts::new(texts);
+    listed(alloc, OpKind::Retain { fields })
 }
 
 // A router with these routes, all to one operator, and a default or none.
-fn router(alloc: Global, exprs: &[&str], has_default: bool) -> Result<OpKind, AllocError> {
+fn router(alloc: Global, exprs: &[&str], has_default: bool) -> Result<Vec<OpKind>, AllocError> {
     let mut routes = Vec::new(alloc);
     for expr in exprs {
         routes.push(RouteSpec {
@@ -62,10 +80,8 @@ fn router(alloc: Global, exprs: &[&str], has_default: bool) -> Result<OpKind, Al
     } else {
         None
     };
-    Ok(OpKind::Router {
-        routes: Routes::new(routes),
-        default,
-    })
+    let routes = Routes::new(routes);
+    listed(alloc, OpKind::Router { routes, default })
 }
 
 fn has_few_routes(spec: &OpSpec) -> bool
@@ -77,12 +93,19 @@ fn has_few_routes(spec: &OpSpec) -> bool
     }
 }
 
-fn compiled(alloc: Global, spec: &OpSpec) -> Result<AnyOp, OpCause> {
-    if has_few_routes(spec) {
-        compile(alloc, spec)
-    } else {
-        Err(OpCause::Memory)
+// The operators of these settings, or why there is none of the first of them that has none.
+fn compiled(alloc: Global, specs: &[OpSpec]) -> Result<Result<Vec<AnyOp>, OpCause>, AllocError> {
+    let mut ops = Vec::new(alloc);
+    for spec in specs {
+        if !has_few_routes(spec) {
+            return Ok(Err(OpCause::Memory));
+        }
+        match compile(alloc, spec) {
+            Ok(op) => ops.push(op)?,
+            Err(cause) => return Ok(Err(cause)),
+        }
     }
+    Ok(Ok(ops))
 }
 
 // The ports on which an entry comes out whose body is `hello`, and whether it is as it was.
@@ -110,14 +133,20 @@ fn counted(
     alloc: Global,
     condition: Option<&str>,
     on_error: OnError,
-    kind: OpKind,
+    kinds: Vec<OpKind>,
 ) -> Result<(usize, bool), Fail> {
-    let mut spec = spec(alloc, on_error, kind)?;
-    if let Some(text) = condition {
-        spec.condition = Some(Text::from_str(alloc, text)?);
+    let specs = spec(alloc, condition, on_error, kinds)?;
+    let Ok(ops) = compiled(alloc, &specs)? else {
+        return Err(Fail::from("there is no operator"));
+    };
+    let mut count = 0;
+    let mut all_same = true;
+    for op in &ops {
+        let (ports, same) = sent(alloc, op)?;
+        count = ports.len();
+        all_same = same;
     }
-    let (ports, same) = sent(alloc, &compiled(alloc, &spec)?)?;
-    Ok((ports.len(), same))
+    Ok((count, all_same))
 }
 
 #[test]
@@ -152,7 +181,14 @@ fn conditions_choose_entries(rt: HostRuntime) -> Result<(), Fail> {
         );
     }
     // Without effect on noop.
-    assert!(rt; counted(alloc, Some("body > 1"), OnError::Drop, OpKind::Noop)? == (1, true));
+    assert!(rt;
+        counted(
+            alloc,
+            Some("body > 1"),
+            OnError::Drop,
+            listed(alloc, OpKind::Noop)?
+        )? == (1, true)
+    );
     Ok(())
 }
 
@@ -177,9 +213,22 @@ fn filters_drop_entries(rt: HostRuntime) -> Result<(), Fail> {
 
 // The port count of a router, and the ports of an entry.
 fn routed(alloc: Global, exprs: &[&str], has_default: bool) -> Result<(u16, Vec<u16>), Fail> {
-    let kind = router(alloc, exprs, has_default)?;
-    let op = compiled(alloc, &spec(alloc, OnError::Drop, kind)?)?;
-    Ok((op.ports(), sent(alloc, &op)?.0))
+    let specs = spec(
+        alloc,
+        None,
+        OnError::Drop,
+        router(alloc, exprs, has_default)?,
+    )?;
+    let Ok(ops) = compiled(alloc, &specs)? else {
+        return Err(Fail::from("there is no router"));
+    };
+    let mut count = 0;
+    let mut ports = Vec::new(alloc);
+    for op in &ops {
+        count = op.ports();
+        ports = sent(alloc, op)?.0;
+    }
+    Ok((count, ports))
 }
 
 #[test]
@@ -198,10 +247,13 @@ fn routers_take_the_first_true_route(rt: HostRuntime) -> Result<(), Fail> {
     Ok(())
 }
 
-fn cause(alloc: Global, condition: &str, kind: OpKind) -> Result<Option<OpCause>, AllocError> {
-    let mut spec = spec(alloc, OnError::Send, kind)?;
-    spec.condition = Some(Text::from_str(alloc, condition)?);
-    Ok(compiled(alloc, &spec).err())
+fn cause(
+    alloc: Global,
+    condition: &str,
+    kinds: Vec<OpKind>,
+) -> Result<Option<OpCause>, AllocError> {
+    let specs = spec(alloc, Some(condition), OnError::Send, kinds)?;
+    Ok(compiled(alloc, &specs)?.err())
 }
 
 #[test]
@@ -213,7 +265,7 @@ fn paths_that_cannot_be_read_are_refused(rt: HostRuntime) -> Result<(), Fail> {
     assert!(rt; cause(alloc, "true", flatten(alloc, "body")?)? == path);
     assert!(rt; cause(alloc, "true", flatten(alloc, "body.a")?)?.is_none());
     assert!(rt; cause(alloc, "true", retain(alloc, ["body", "x"])?)? == path);
-    assert!(rt; cause(alloc, "true", OpKind::Noop)?.is_none());
+    assert!(rt; cause(alloc, "true", listed(alloc, OpKind::Noop)?)?.is_none());
     Ok(())
 }
 
@@ -221,8 +273,8 @@ fn paths_that_cannot_be_read_are_refused(rt: HostRuntime) -> Result<(), Fail> {
 fn expressions_that_cannot_be_read_are_refused(rt: HostRuntime) -> Result<(), Fail> {
     let alloc = rt.alloc();
     let expr = Some(OpCause::Expr);
-    assert!(rt; cause(alloc, "1 ==", OpKind::Noop)? == expr);
-    assert!(rt; cause(alloc, "body matches '('", OpKind::Noop)? == expr);
+    assert!(rt; cause(alloc, "1 ==", listed(alloc, OpKind::Noop)?)? == expr);
+    assert!(rt; cause(alloc, "body matches '('", listed(alloc, OpKind::Noop)?)? == expr);
     assert!(rt; cause(alloc, "true", filter(alloc, "1 ==")?)? == expr);
     assert!(rt; cause(alloc, "true", router(alloc, &["true", "("], false)?)? == expr);
     // A path comes first.
@@ -234,10 +286,15 @@ fn expressions_that_cannot_be_read_are_refused(rt: HostRuntime) -> Result<(), Fa
 fn states_without_groups_are_no_bytes(rt: HostRuntime) -> Result<(), Fail> {
     let alloc = rt.alloc();
     let mut nodes = Vec::new(alloc);
-    for kind in [OpKind::Noop, remove(alloc, "body")?] {
-        let op = compiled(alloc, &spec(alloc, OnError::Send, kind)?)?;
-        let ports = Vec::new(alloc);
-        nodes.push(NodeSpec { op, ports })?;
+    for kinds in [listed(alloc, OpKind::Noop)?, remove(alloc, "body")?] {
+        let specs = spec(alloc, None, OnError::Send, kinds)?;
+        let Ok(ops) = compiled(alloc, &specs)? else {
+            return Err(Fail::from("there is no operator"));
+        };
+        for op in ops {
+            let ports = Vec::new(alloc);
+            nodes.push(NodeSpec { op, ports })?;
+        }
     }
     let states = restore_state(alloc, &nodes, b"")?;
     assert!(rt; states.len() == 2 && !states.iter().any(|state| state.keeps_groups()));

@@ -39,7 +39,6 @@ use splitter::Splitter;
 pub use state::FileState;
 
 /// The operators of some settings, ready for any file.
-#[derive(Drop)]
 pub struct Pipeline {
     settings: Settings,
     include: Vec<Glob>,
@@ -48,4 +47,17 @@ pub struct Pipeline {
     graph: Graph<AnyOp>,
     ghost some_bytes: { 1 ≤ settings.max_log_size },
     ghost cut_so: { multiline_of splitter ≡ settings.multiline },
+}
+
+// By hand, so that the functions of the layers above that drop one go by this call, and not by what each field may hold.
+impl Drop for Pipeline {
+    fn drop(self) {
+        let Pipeline {
+            settings: _settings,
+            include: _include,
+            exclude: _exclude,
+            splitter: _splitter,
+            graph: _graph,
+        } = self;
+    }
 }
