@@ -1,3 +1,5 @@
 pub mod Data
 pub mod Ends
+pub mod Equality
 pub mod Nesting
+pub mod RecordEquality

@@ -9,6 +9,7 @@
 mod copy;
 mod depth;
 mod entry;
+pub mod laws;
 #[cfg(test)]
 mod tests;
 mod text;

@@ -1,4 +1,6 @@
 pub mod Held
+pub mod Moved
 pub mod Taken
 pub mod Retained
 pub mod Listed
+pub mod Rooted

@@ -139,7 +139,7 @@ same_root Resource Body = inr (λ (e : Resource ≡ Body). cc e)
 same_root Resource Attributes = inr (λ (e : Resource ≡ Attributes). cc e)
 same_root Resource Resource = inl refl
 
-other_root : (root other : Root) (names : List (List ℕ)) (entry : LogRecord) → root ≢ other → root_value other (taken root names entry) ≡ root_value other entry
+pub other_root : (root other : Root) (names : List (List ℕ)) (entry : LogRecord) → root ≢ other → root_value other (taken root names entry) ≡ root_value other entry
 other_root Body Body names entry apart = absurd (apart refl)
 other_root Body Attributes [] entry apart = refl
 other_root Body Attributes (name ∷ names) entry apart = refl

@@ -11,6 +11,7 @@ mod flattening;
 pub mod laws;
 mod merging;
 mod retaining;
+mod root;
 mod single;
 #[cfg(test)]
 mod tests;

@@ -1,13 +1,17 @@
 // Keeping some fields alone.
-ghost use Rattle.std.specs.Prelude.{◌≡◌, OnOk, IfErr, OnErr};
-ghost use Rattle.entry_model.specs.LogRecord.{log_record};
-ghost use Rattle.field_ops.specs.Rows.{retained, emptied, with_listed, with_found};
+ghost use Rattle.std.specs.Prelude.{◌≡◌, OnOk, IfErr, OnErr, IsTrue, cond};
+ghost use Rattle.entry_model.specs.Datum.{datum, is_map};
+ghost use Rattle.entry_model.specs.LogRecord.{log_record, members_in};
+ghost use Rattle.field_ops.specs.Rows.{retained, with_listed, with_found};
+ghost use Rattle.field_ops.specs.Roots.{no_fields, same_root, any_root, with_roots};
+ghost use Rattle.field_paths.specs.declared.path.Root.TheVariants.{Body, Attributes, Resource};
 ghost use Rattle.field_paths.specs.ValueAt.{datum_at};
 ghost use Rattle.field_ops.specs.declared.fault.FieldFault.TheVariants.{Memory};
 
 use crate::FieldFault;
-use entry_model::Entry;
-use field_paths::{FieldPath, SetFault};
+use crate::root::begins_any;
+use entry_model::{Entry, Fields, Severity, Text, Value};
+use field_paths::{FieldPath, Root, SetFault};
 use std::alloc::{AllocError, Global};
 
 /// Keeps the listed fields of the roots that they are of, and the other roots whole.
@@ -29,19 +33,72 @@ impl Retain {
         ensures fault { IfErr result (λ fault. fault ≡ Memory) }
         ensures err { OnErr result (log_record entry.new ≡ log_record entry.old) }
     {
-        let mut kept = entry.copy(alloc)?;
-        empty_roots(alloc, &self.fields, &mut kept);
+        let mut kept = with_empty_maps(alloc);
         keep_listed(alloc, &self.fields, entry, &mut kept)?;
-        *entry = kept;
+        move_roots(&self.fields, kept, entry);
         Ok(())
     }
 }
 
-fn empty_roots(alloc: Global, fields: &[FieldPath], entry: &mut Entry)
-    ensures { log_record entry.new ≡ emptied fields.now (log_record entry.old) }
+/// An entry with an empty map as each root.
+fn with_empty_maps(alloc: Global) -> Entry
+    ensures { log_record result ≡ no_fields }
 {
-    for field in fields {
-        field.empty_root(alloc, entry);
+    Entry {
+        body: Value::Map(Fields::new(alloc)),
+        attributes: Value::Map(Fields::new(alloc)),
+        resource: Value::Map(Fields::new(alloc)),
+        timestamp: None,
+        severity: Severity { number: 0 },
+        severity_text: Text::empty(),
+    }
+}
+
+/// Moves the roots of the listed fields from `kept` to the entry.
+fn move_roots(fields: &[FieldPath], kept: Entry, entry: &mut Entry)
+    ensures { log_record entry.new ≡ with_roots (any_root (same_root Body) fields.now) (any_root (same_root Attributes) fields.now)
+        (any_root (same_root Resource) fields.now) (log_record kept) (log_record entry.old) }
+{
+    let Entry {
+        body,
+        attributes,
+        resource,
+        ..
+    } = kept;
+    move_body(begins_any(Root::Body, fields), body, entry);
+    move_attributes(begins_any(Root::Attributes, fields), attributes, entry);
+    move_resource(begins_any(Root::Resource, fields), resource, entry);
+}
+
+fn move_body(listed: bool, body: Value, entry: &mut Entry)
+    ensures { log_record entry.new ≡ record (log_record entry.old) {
+      body = cond listed (datum body) (log_record entry.old).body;
+    } }
+{
+    if listed {
+        entry.body = body;
+    }
+}
+
+fn move_attributes(listed: bool, attributes: Value, entry: &mut Entry)
+    requires { IsTrue (is_map attributes) }
+    ensures { log_record entry.new ≡ record (log_record entry.old) {
+      attributes = cond listed (members_in (datum attributes)) (log_record entry.old).attributes;
+    } }
+{
+    if listed {
+        entry.attributes = attributes;
+    }
+}
+
+fn move_resource(listed: bool, resource: Value, entry: &mut Entry)
+    requires { IsTrue (is_map resource) }
+    ensures { log_record entry.new ≡ record (log_record entry.old) {
+      resource = cond listed (members_in (datum resource)) (log_record entry.old).resource;
+    } }
+{
+    if listed {
+        entry.resource = resource;
     }
 }
 

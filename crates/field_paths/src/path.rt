@@ -30,6 +30,13 @@ impl Model for FieldPath {
 impl FieldPath {
     ghost use Rattle.std.specs.Prelude.{◌≡◌, ◌≢◌, ◌∷◌, ◌++◌, [], IsTrue, ◌↔◌};
 
+    /// The root in which the path begins.
+    pub fn root(&self) -> Root
+        ensures { result ≡ self.now.root }
+    {
+        self.root
+    }
+
     /// Whether the path has no member.
     pub fn is_root(&self) -> bool
         ensures { IsTrue result ↔ (self.now.names ≡ []) }

@@ -142,12 +142,12 @@ module _ (rules : Rules) (here : Look) (before : List tracked.Row) (read : here.
   cost_new none room offset few = subst (λ (o : Outcome). count ≤ cost_on here o) (sym (is_fresh rules true here before read some plain none room)) (omega (arith, few))
 
 -- a row that is made
-pub new_is : (setup : Setup) (unspelled : (rules_in setup).fresh ≡ []) (path seen_front : List ℕ) (all id : ℕ) (here : Look) → here.path ≡ path → all ≡ size here → seen_front ≡ front (rules_in setup) here
+pub new_is : (setup : Setup) (path seen_front : List ℕ) (all id : ℕ) (here : Look) → here.path ≡ path → all ≡ size here → seen_front ≡ front (rules_in setup) here
     → row_of (admitted setup all path seen_front id) ≡ new_row (rules_in setup) setup.first here id
-new_is setup unspelled path seen_front all id here same_path full is_front = rw (sym same_path, is_front, full, unspelled) refl
+new_is setup path seen_front all id here same_path full is_front = rw (sym same_path, is_front, full) refl
 
 -- a row that is found, or made, and then read on
-module _ (setup : Setup) (unspelled : (rules_in setup).fresh ≡ []) (path : List ℕ) (file : OpenFile) (seen_front : List ℕ) (plain : is_compressed seen_front ≡ false) (some : 0 < file.size)
+module _ (setup : Setup) (path : List ℕ) (file : OpenFile) (seen_front : List ℕ) (plain : is_compressed seen_front ≡ false) (some : 0 < file.size)
     (before mid after : List tracked.Row) (place : ℕ) (added : List Mark) (found : Found) (count : ℕ) (old new : World) where
   known_short : (row : tracked.Row) → slice_get mid place ≡ Some row → IsShorter file row mid after added found old new → count ≤ min most_taken (file.size - row.offset) → IsKnown seen_front before place mid
       → SeenTaken (rules_in setup) setup.first path file seen_front before after (with_taken count (gain_of found)) added old new
@@ -226,7 +226,7 @@ module _ (setup : Setup) (unspelled : (rules_in setup).fresh ≡ []) (path : Lis
         let added_row : tracked.Row = admitted setup file.size path seen_front (length before + 1) in
         let same_row : row ≡ added_row = row_there row added_row (sym at ∙ ap (λ (l : List tracked.Row). slice_get l place) fresh.added ∙ ap (slice_get (before ++ added_row ∷ [])) fresh.last ∙ push_there before added_row) in
         let far = reaches_for (rules_in setup) setup.first path file place row mid after added found old new on seen moment seen_at.open_at some on.ending refl in
-        let is : row_of row ≡ new_row (rules_in setup) setup.first here (length before + 1) = ap row_of same_row ∙ new_is setup unspelled path seen_front file.size (length before + 1) here refl full is_front in
+        let is : row_of row ≡ new_row (rules_in setup) setup.first here (length before + 1) = ap row_of same_row ∙ new_is setup path seen_front file.size (length before + 1) here refl full is_front in
         look_with (rules_in setup) setup.first here before after added (gain_of found) count
         (takes_new (rules_in setup) setup.first here before refl (omega (arith, some, full)) (subst (λ (f : List ℕ). is_compressed f ≡ false) is_front plain)
         row on.given after added (gain_of found) is (subst (λ (f : List ℕ). place_of f before ≡ None) is_front fresh.none) fresh.room (omega (arith, on.begins, full)) far.within far.reaches far.are

@@ -68,7 +68,7 @@ row_fills rules laws here row given limit end full good all stood within crosses
     let begins = ap (λ (p : List ℕ). lines_of rules p row) (piece_begins here row.offset given all stood within) in
     subst (λ (l : List Mark). Crosses limit end l full) (sym (begins ∙ lines_on rules laws given rest row good)) (crosses_more limit end (lines_of rules given row) _ full crosses)
 
-module _ (setup : Setup) (laws : AreRules (rules_in setup)) (unspelled : (rules_in setup).fresh ≡ []) (path : List ℕ) (file : OpenFile) (seen_front : List ℕ) (plain : is_compressed seen_front ≡ false) (some : 0 < file.size)
+module _ (setup : Setup) (laws : AreRules (rules_in setup)) (path : List ℕ) (file : OpenFile) (seen_front : List ℕ) (plain : is_compressed seen_front ≡ false) (some : 0 < file.size)
     (before mid : List tracked.Row) (place end full : ℕ) (old new : World) (good : (row : tracked.Row) → slice_get mid place ≡ Some row → IsTrue ((rules_in setup).is_state row.state)) where
   pub seen_fills : Settles setup file.size path seen_front before (Some place) mid → RowFills (rules_in setup) setup.limit file place mid end full old new
       → SeenFills (rules_in setup) setup.first setup.limit path file seen_front before end full old new
@@ -94,7 +94,7 @@ module _ (setup : Setup) (laws : AreRules (rules_in setup)) (unspelled : (rules_
           | inr fresh ↦
               (let added_row : tracked.Row = admitted setup file.size path seen_front (length before + 1) in
               let same_row : fills.row ≡ added_row = row_there fills.row added_row (sym fills.at ∙ ap (λ (l : List tracked.Row). slice_get l place) fresh.added ∙ ap (slice_get (before ++ added_row ∷ [])) fresh.last ∙ push_there before added_row) in
-              added_new (rules_in setup) setup.first here before refl (omega (arith, some, all)) here_plain fills.row (ap row_of same_row ∙ new_is setup unspelled path seen_front file.size (length before + 1) here refl all is_front)
+              added_new (rules_in setup) setup.first here before refl (omega (arith, some, all)) here_plain fills.row (ap row_of same_row ∙ new_is setup path seen_front file.size (length before + 1) here refl all is_front)
               (subst (λ (f : List ℕ). place_of f before ≡ None) is_front fresh.none) fresh.room (omega (arith, fills.begins, all)))
         ] in
         subst (λ (l : List Mark). Crosses setup.limit end l full) (sym same) crosses;

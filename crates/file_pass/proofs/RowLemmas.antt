@@ -2,12 +2,11 @@
 use Rattle.std.proofs.Common.{◌≡◌, ℕ, ◌+◌, ◌-◌, ◌<◌, ◌≤◌, ◌^◌, List, [], ◌∷◌, length, min, Bool, true, false, nat_lt, refl, sym, ap, subst, ◌∙◌, inl, inr, arith}
 use Rattle.std.proofs.lemmas.List.{map-set, length-set}
 use Rattle.std.proofs.lemmas.Bool.Decides.{nat_tests}
-use Rattle.pipeline.specs.AsRules.{is_nothing}
 use Rattle.std.specs.Prelude.{Some, slice_get, slice_set, IsTrue}
 use Rattle.entry_model.specs.LogRecord.{LogRecord}
 use Rattle.file_tracker.specs.Places.{with_progress, HasGone}
 use Rattle.file_tracker.specs.declared.row.Row as tracked
-use Rattle.op_kinds.specs.States.{states_spelling}
+use Rattle.op_kinds.specs.StateTexts.{state_text}
 use Rattle.outside.proofs.Telling.{told_same, told_weaker}
 use Rattle.outside.specs.Count.{raised}
 use Rattle.outside.specs.DiskMeaning.{DiskMeaning}
@@ -45,10 +44,6 @@ use Rattle.file_pass.proofs.Bridging.{row_there}
 abbrev pub begins_of : tracked.Row → Row
 begins_of row = record (row_of row) { front = []; start = 0 }
 
-no_bytes : (state : List ℕ) → is_nothing state ≡ true → state ≡ []
-no_bytes [] is = refl
-no_bytes (byte ∷ rest) is = absurd (let never : false ≡ true = is in cc)
-
 raised_by : (ending : Ending) (before after : ℕ) → HasEnding ending before after → raised before (failures ending) ≤ after
 raised_by Whole before after same = omega (arith, same)
 raised_by Failed before after rose = rose.1
@@ -56,7 +51,7 @@ raised_by Shrunk before after same = omega (arith, same)
 
 -- a state that was restored of the row
 pub restored_row : (row : tracked.Row) (feeding : Feeding) → feeding.id ≡ row.id → feeding.path ≡ row.path → feeding.offset ≡ row.offset → feeding.state.records ≡ row.records → feeding.state.lines ≡ row.lines
-    → row.state ≡ states_spelling feeding.state.states.items → feeding_row feeding ≡ begins_of row
+    → row.state ≡ state_text feeding.state.states.items → feeding_row feeding ≡ begins_of row
 restored_row row feeding id path offset records lines state = cc
 
 module _ (setup : Setup) (laws : AreRules (rules_in setup)) (row : tracked.Row) (before after : Feeding) (given : List ℕ)
@@ -76,19 +71,26 @@ module _ (setup : Setup) (laws : AreRules (rules_in setup)) (row : tracked.Row) 
   lines_then : after.state.lines ≡ row.lines + length made_then
   lines_then = ap (λ (r : Row). r.lines) on_row
 
-  state_then : (rules_in setup).state_after row.path row.records row.state (tokens_of (rules_in setup) given) ≡ []
-  state_then = no_bytes _ (laws.operators.state_goes_on row.path row.records row.state (tokens_of (rules_in setup) given) good)
+  -- what is kept then
+  abbrev pub kept_then : List ℕ
+  kept_then = state_text after.state.states.items
+
+  state_then : kept_then ≡ (rules_in setup).state_after row.path row.records row.state (tokens_of (rules_in setup) given)
+  state_then = ap (λ (r : Row). r.state) on_row
+
+  pub good_then : IsTrue ((rules_in setup).is_state kept_then)
+  good_then = subst (λ (state : List ℕ). IsTrue ((rules_in setup).is_state state)) (sym state_then) (laws.operators.state_goes_on row.path row.records row.state (tokens_of (rules_in setup) given) good)
 
   -- the row that is noted
   abbrev noted : tracked.Row
-  noted = with_progress after.offset after.state.records after.state.lines row.state row
+  noted = with_progress after.offset after.state.records after.state.lines kept_then row
 
   same_row : {offset other_offset records other_records lines other_lines : ℕ} {state other_state : List ℕ} → offset ≡ other_offset → records ≡ other_records → lines ≡ other_lines → state ≡ other_state
       → ◌≡◌ {A = Row} (record (row_of row) { offset = offset; records = records; lines = lines; state = state }) (record (row_of row) { offset = other_offset; records = other_records; lines = other_lines; state = other_state })
   same_row a b c d = cc
 
   pub noted_is : row_of noted ≡ fed (rules_in setup) given (row_of row)
-  noted_is = same_row offset_then records_then lines_then (no_bytes row.state good ∙ sym state_then)
+  noted_is = same_row offset_then records_then lines_then state_then
 
   pub rises : HasGone row after.offset after.state.records after.state.lines
   rises = record { offset_rises = omega (arith, offset_then); records_rise = omega (arith, records_then); lines_rise = omega (arith, lines_then) }
@@ -97,15 +99,16 @@ module _ (setup : Setup) (laws : AreRules (rules_in setup)) (row : tracked.Row) 
   no_tokens [] none = refl
   no_tokens (token ∷ tokens) none = absurd (omega (arith, none))
 
-  same_numbers : (offset records lines : ℕ) → offset ≡ row.offset → records ≡ row.records → lines ≡ row.lines → with_progress offset records lines row.state row ≡ row
-  same_numbers offset records lines a b c = rw (a, b, c) refl
+  same_numbers : (offset records lines : ℕ) (state : List ℕ) → offset ≡ row.offset → records ≡ row.records → lines ≡ row.lines → state ≡ row.state → with_progress offset records lines state row ≡ row
+  same_numbers offset records lines state a b c d = rw (a, b, c, d) refl
 
   -- where it came no further nothing is noted
   pub stays : after.offset ≤ row.offset → noted ≡ row
   stays no_further =
       let none : tokens_of (rules_in setup) given ≡ [] = no_tokens (tokens_of (rules_in setup) given) (omega (arith, offset_then, no_further, few_tokens (rules_in setup) laws given)) in
       let none_made : made_then ≡ [] = ap ((rules_in setup).made row.path row.records row.state) none ∙ laws.operators.none_made row.path row.records row.state good in
-      same_numbers after.offset after.state.records after.state.lines (omega (arith, offset_then, no_further)) (omega (arith, records_then, ap length none)) (omega (arith, lines_then, ap length none_made))
+      let same_state : kept_then ≡ row.state = state_then ∙ ap ((rules_in setup).state_after row.path row.records row.state) none ∙ laws.operators.state_stays row.path row.records row.state good in
+      same_numbers after.offset after.state.records after.state.lines kept_then (omega (arith, offset_then, no_further)) (omega (arith, records_then, ap length none)) (omega (arith, lines_then, ap length none_made)) same_state
 
   pub lines_are : lines_of (rules_in setup) given (feeding_row before) ≡ lines_of (rules_in setup) given (row_of row)
   lines_are = ap (lines_of (rules_in setup) given) begins
@@ -122,13 +125,6 @@ module _ (setup : Setup) (laws : AreRules (rules_in setup)) (row : tracked.Row) 
 
   pub few_records : row.start + row.records ≤ row.offset → row.start + after.state.records ≤ after.offset
   few_records few = omega (arith, offset_then, records_then, few, few_tokens (rules_in setup) laws given)
-
--- nothing spells the first states
-pub fresh_none : (setup : Setup) → AreRules (rules_in setup) → (rules_in setup).fresh ≡ []
-fresh_none setup laws = no_bytes (rules_in setup).fresh laws.operators.fresh_is_state
-
-pub stateless : (setup : Setup) (row : tracked.Row) → IsTrue ((rules_in setup).is_state row.state) → row.state ≡ []
-stateless setup row good = no_bytes row.state good
 
 module _ {T D : Type 0} (trees : TreeMeaning T) (disks : DiskMeaning D) (setup : Setup) (file : OpenFile) (place : ℕ) (row : tracked.Row) (rows : List tracked.Row) (at : slice_get rows place ≡ Some row) where
   -- the file is shorter than the row's offset
@@ -165,7 +161,7 @@ module _ {T D : Type 0} (trees : TreeMeaning T) (disks : DiskMeaning D) (setup :
     -- it was read on
     pub takes_on_row : (after : Feeding) (end_after : ℕ) (ending : Ending) (more : Bool) (lines : ℕ) (rows_after : List tracked.Row) (disk disk_after : D) (on : ReadsOn trees disks setup file before after end end_after ending tree tree_after disk disk_after)
         → (ending ≡ Whole → more ≡ nat_lt most_taken (file.size - row.offset)) → ((ending ≡ Whole → ⊥) → more ≡ false) → row.lines + lines ≡ after.state.lines
-        → rows_after ≡ slice_set rows place (with_progress after.offset after.state.records after.state.lines row.state row)
+        → rows_after ≡ slice_set rows place (with_progress after.offset after.state.records after.state.lines (state_text after.state.states.items) row)
         → trees.taken tree_after ≤ trees.taken tree + (last_of file.size before.offset - before.offset)
         → Finds trees disks (RowTaken (rules_in setup) file place rows rows_after (Read ending more lines)) (Read ending more lines) end end_after tree tree_after disk disk_after
     takes_on_row after end_after ending more lines rows_after disk disk_after on left not_left many noted read =
@@ -191,7 +187,7 @@ module _ {T D : Type 0} (trees : TreeMeaning T) (disks : DiskMeaning D) (setup :
                 within = omega (arith, on.within, same_begin);
                 whole = λ is. omega (arith, on.whole is, same_begin);
                 partly = λ not. omega (arith, on.partly not, same_begin);
-                fed_row = ap rows_of noted ∙ map-set row_of rows place (with_progress after.offset after.state.records after.state.lines row.state row) ∙ ap (slice_set (rows_of rows) place) (noted_is setup laws row before after on.given good begins on.row);
+                fed_row = ap rows_of noted ∙ map-set row_of rows place (with_progress after.offset after.state.records after.state.lines (state_text after.state.states.items) row) ∙ ap (slice_set (rows_of rows) place) (noted_is setup laws row before after on.given good begins on.row);
                 lines = refl;
                 is = ap (Read ending more) count;
                 left = λ is. left is ∙ past row.offset file.size inside;
@@ -212,26 +208,26 @@ module _ {T D : Type 0} (trees : TreeMeaning T) (disks : DiskMeaning D) (setup :
   good : IsTrue ((rules_in setup).is_state row.state)
   good = (sane.rows place row at).state
 
-  pub note_same : (other : tracked.Row) → slice_get taking.tracker place ≡ Some other → after.offset ≤ other.offset → with_progress after.offset after.state.records after.state.lines other.state other ≡ other
+  pub note_same : (other : tracked.Row) → slice_get taking.tracker place ≡ Some other → after.offset ≤ other.offset → with_progress after.offset after.state.records after.state.lines (state_text after.state.states.items) other ≡ other
   note_same other there no_further =
       let is : row ≡ other = row_there row other (sym at ∙ there) in
-      subst (λ (r : tracked.Row). with_progress after.offset after.state.records after.state.lines r.state r ≡ r) is
+      subst (λ (r : tracked.Row). with_progress after.offset after.state.records after.state.lines (state_text after.state.states.items) r ≡ r) is
       (stays setup laws row before after on.given good begins on.row (omega (arith, no_further, ap (λ (r : tracked.Row). r.offset) is)))
 
-  pub sane_on_row : IsSane setup after end_now → next.tracker ≡ slice_set taking.tracker place (with_progress after.offset after.state.records after.state.lines row.state row)
+  pub sane_on_row : IsSane setup after end_now → (length row.state < 2 ^ 32 → length (state_text after.state.states.items) < 2 ^ 32) → next.tracker ≡ slice_set taking.tracker place (with_progress after.offset after.state.records after.state.lines (state_text after.state.states.items) row)
       → length next.changed.items ≡ length taking.changed.items → next.end ≡ end_now → next.counts ≡ taking.counts → IsSaneTaking setup next
-  sane_on_row fed_sane noted flags end counts =
+  sane_on_row fed_sane short noted flags end counts =
       let was = sane.rows place row at in
       let later : taking.end ≤ next.end = omega (arith, end, on.appends.end_is) in
       let started : before.offset ≡ row.offset = ap (λ (r : Row). r.offset) begins in
       let far : row.offset ≤ after.offset = (rises setup laws row before after on.given good begins on.row).offset_rises in
       record {
-        rows = sane_progress (rules_in setup) taking.end next.end taking.tracker next.tracker place row after.offset after.state.records after.state.lines sane.rows later at noted far
+        rows = sane_progress (rules_in setup) taking.end next.end taking.tracker next.tracker place row after.offset after.state.records after.state.lines (state_text after.state.states.items) sane.rows later at noted far
             (far_within setup laws row before after on.given good begins on.row file small (omega (arith, on.within, started)))
             (few_records setup laws row before after on.given good begins on.row was.records)
-            (omega (arith, fed_sane.lines, end));
-        few = omega (arith, sane.few, ap (λ (rows : List tracked.Row). length rows) noted, length-set taking.tracker place (with_progress after.offset after.state.records after.state.lines row.state row));
-        flags = flags ∙ sane.flags ∙ sym (ap (λ (rows : List tracked.Row). length rows) noted ∙ length-set taking.tracker place (with_progress after.offset after.state.records after.state.lines row.state row));
+            (omega (arith, fed_sane.lines, end)) (good_then setup laws row before after on.given good begins on.row) (short was.short);
+        few = omega (arith, sane.few, ap (λ (rows : List tracked.Row). length rows) noted, length-set taking.tracker place (with_progress after.offset after.state.records after.state.lines (state_text after.state.states.items) row));
+        flags = flags ∙ sane.flags ∙ sym (ap (λ (rows : List tracked.Row). length rows) noted ∙ length-set taking.tracker place (with_progress after.offset after.state.records after.state.lines (state_text after.state.states.items) row));
         end_within = omega (arith, fed_sane.end_within, end);
         lines = omega (arith, sane.lines, later, ap (λ (c : Counts). c.lines) counts);
       }

@@ -5,7 +5,7 @@ use Rattle.std.proofs.lemmas.List.Sums.{sum_by-cons}
 use Rattle.file_tracker.specs.declared.tracker.TheConstants.{ROW_LIMIT}
 use Rattle.file_pass.specs.declared.counts.Counts.{Counts}
 use Rattle.file_pass.specs.declared.taking.Taking.{Taking}
-use Rattle.std.specs.Prelude.{Option, None, Some, All, slice_get, slice_set, ◌&&◌}
+use Rattle.std.specs.Prelude.{Option, None, Some, IfSome, IsTrue, All, slice_get, slice_set, ◌&&◌}
 use Rattle.file_tracker.specs.Places.{with_front, with_progress}
 use Rattle.file_tracker.specs.declared.row.Row.{Row}
 use Rattle.line_splitter.specs.Cuts.{Cut}
@@ -17,7 +17,7 @@ use Rattle.entry_model.specs.LogRecord.{LogRecord}
 use Rattle.state_codec.specs.Rules.{IsShortText}
 use Rattle.file_pass.specs.Fed.{rules_in}
 use Rattle.file_pass.specs.Full.{line_of, lines_text}
-use Rattle.file_pass.specs.Sane.{IsSaneRow, AreSaneRows, IsSaneTaking}
+use Rattle.file_pass.specs.Sane.{IsSaneRow, FreshFits, AreSaneRows, IsSaneTaking}
 use Rattle.file_pass.specs.Settled.{IsKnown, IsAdmitted, Settles, admitted}
 use Rattle.file_pass.specs.declared.setup.Setup.{Setup}
 use Rattle.file_pass.proofs.Bridging.{start_within}
@@ -40,13 +40,14 @@ module _ (setup : Setup) (end size : ℕ) (path front : List ℕ) (before after 
               records = was.records;
               lines = was.lines;
               state = was.state;
+              short = was.short;
             } in
             rw (here.0, here.1) grown)
         | inr other ↦ sane k row other.1
       ]
 
-  pub sane_admitted : IsAdmitted setup size path front before place after → AreSaneRows (rules_in setup) end after
-  sane_admitted fresh k row at =
+  pub sane_admitted : FreshFits setup → IsAdmitted setup size path front before place after → AreSaneRows (rules_in setup) end after
+  sane_admitted fits fresh k row at =
       let new : Row = admitted setup size path front (length before + 1) in
       elim (push_cases before k new row (sym (ap (λ (l : List Row). slice_get l k) fresh.added) ∙ at)) [
         | inl here ↦ (
@@ -59,7 +60,8 @@ module _ (setup : Setup) (end size : ℕ) (path front : List ℕ) (before after 
               offset = omega (arith, le, size_within);
               records = omega arith;
               lines = omega arith;
-              state = refl;
+              state = fits.good;
+              short = fits.short;
             } in
             rw (here.0, here.1) made)
         | inr other ↦ sane k row other
@@ -76,23 +78,26 @@ module _ (setup : Setup) (size : ℕ) (path front : List ℕ) (before after : Ta
     lines = omega (arith, end, sane.lines, ap (λ (c : Counts). c.lines) counts);
   }
 
-  pub sane_settled : (place : Option ℕ) → Settles setup size path front before.tracker place after.tracker → IsSaneTaking setup after
-  sane_settled None left_out = settled_by (subst (λ (rows : List Row). AreSaneRows (rules_in setup) before.end rows) (sym left_out.same) sane.rows) (omega (arith, ap (λ (rows : List Row). length rows) left_out.same, sane.few))
-  sane_settled (Some place) (inl known) =
+  pub sane_found : (place : ℕ) → IsKnown front before.tracker place after.tracker → IsSaneTaking setup after
+  sane_found place known =
       settled_by (sane_known setup before.end size path front before.tracker after.tracker place sane.rows size_within short some known)
       (omega (arith, ap (λ (rows : List Row). length rows) known.grown, length-set before.tracker place (with_front front known.row), sane.few))
-  sane_settled (Some place) (inr fresh) =
-      settled_by (sane_admitted setup before.end size path front before.tracker after.tracker place sane.rows size_within short some fresh)
+
+  pub sane_settled : (place : Option ℕ) → IfSome place (λ _. FreshFits setup) → Settles setup size path front before.tracker place after.tracker → IsSaneTaking setup after
+  sane_settled None fits left_out = settled_by (subst (λ (rows : List Row). AreSaneRows (rules_in setup) before.end rows) (sym left_out.same) sane.rows) (omega (arith, ap (λ (rows : List Row). length rows) left_out.same, sane.few))
+  sane_settled (Some place) fits (inl known) = sane_found place known
+  sane_settled (Some place) fits (inr fresh) =
+      settled_by (sane_admitted setup before.end size path front before.tracker after.tracker place sane.rows size_within short some fits fresh)
       (omega (arith, ap (λ (rows : List Row). length rows) fresh.added, length_push before.tracker (admitted setup size path front (length before.tracker + 1)), fresh.room))
 
 -- a row that was read on
-pub sane_progress : (rules : Rules) (end end_after : ℕ) (rows after : List Row) (place : ℕ) (row : Row) (far cut made : ℕ) → AreSaneRows rules end rows → end ≤ end_after → slice_get rows place ≡ Some row
-    → after ≡ slice_set rows place (with_progress far cut made row.state row) → row.offset ≤ far → far ≤ 2 ^ 62 → row.start + cut ≤ far → made ≤ end_after → AreSaneRows rules end_after after
-sane_progress rules end end_after rows after place row far cut made sane later at is gone far_within few lines k other there =
-    elim (set_cases rows place k (with_progress far cut made row.state row) other (sym (ap (λ (l : List Row). slice_get l k) is) ∙ there)) [
+pub sane_progress : (rules : Rules) (end end_after : ℕ) (rows after : List Row) (place : ℕ) (row : Row) (far cut made : ℕ) (state : List ℕ) → AreSaneRows rules end rows → end ≤ end_after → slice_get rows place ≡ Some row
+    → after ≡ slice_set rows place (with_progress far cut made state row) → row.offset ≤ far → far ≤ 2 ^ 62 → row.start + cut ≤ far → made ≤ end_after → IsTrue (rules.is_state state) → length state < 2 ^ 32 → AreSaneRows rules end_after after
+sane_progress rules end end_after rows after place row far cut made state sane later at is gone far_within few lines good short k other there =
+    elim (set_cases rows place k (with_progress far cut made state row) other (sym (ap (λ (l : List Row). slice_get l k) is) ∙ there)) [
       | inl here ↦ (
           let was = sane place row at in
-          let on : IsSaneRow rules end_after place (with_progress far cut made row.state row) = record {
+          let on : IsSaneRow rules end_after place (with_progress far cut made state row) = record {
             id = was.id;
             path = was.path;
             front = was.front;
@@ -100,18 +105,19 @@ sane_progress rules end end_after rows after place row far cut made sane later a
             offset = far_within;
             records = few;
             lines = lines;
-            state = was.state;
+            state = good;
+            short = short;
           } in
           rw (here.0, here.1) on)
       | inr another ↦ (
           let was = sane k other another.1 in
-          record { id = was.id; path = was.path; front = was.front; start = was.start; offset = was.offset; records = was.records; lines = omega (arith, was.lines, later); state = was.state })
+          record { id = was.id; path = was.path; front = was.front; start = was.start; offset = was.offset; records = was.records; lines = omega (arith, was.lines, later); state = was.state; short = was.short })
     ]
 
 pub sane_later : (rules : Rules) (end end_after : ℕ) (rows : List Row) → AreSaneRows rules end rows → end ≤ end_after → AreSaneRows rules end_after rows
 sane_later rules end end_after rows sane later k row at =
     let was = sane k row at in
-    record { id = was.id; path = was.path; front = was.front; start = was.start; offset = was.offset; records = was.records; lines = omega (arith, was.lines, later); state = was.state }
+    record { id = was.id; path = was.path; front = was.front; start = was.start; offset = was.offset; records = was.records; lines = omega (arith, was.lines, later); state = was.state; short = was.short }
 
 -- each token uses a byte or more
 few_cuts : (cuts : List Cut) → All (λ (c : Cut). 1 ≤ c.used) cuts → length (texts cuts) ≤ used_by cuts

@@ -3,7 +3,7 @@ use Rattle.std.specs.Prelude.{◌≡◌, ℕ, ◌+◌, ◌<◌, ◌≤◌, min, 
 use Rattle.outside.specs.DiskMeaning.{DiskMeaning}
 use Rattle.outside.specs.TreeMeaning.{TreeMeaning}
 use Rattle.outside.specs.World.{Told}
-use Rattle.op_kinds.specs.States.{states_spelling}
+use Rattle.op_kinds.specs.StateTexts.{state_text}
 use Rattle.pipeline.specs.AsRules.{rules_of}
 use Rattle.pipeline.specs.Parts.{HaveKinds}
 use Rattle.standing.specs.Limits.{most_taken}
@@ -35,7 +35,7 @@ feeding_row feeding = record {
   offset = feeding.offset;
   records = feeding.state.records;
   lines = feeding.state.lines;
-  state = states_spelling feeding.state.states.items;
+  state = state_text feeding.state.states.items;
 }
 
 -- The numbers keep to each other, and there is a state for each operator.

@@ -1,5 +1,5 @@
 -- What holds of the numbers of a pass, whatever is read.
-use Rattle.std.specs.Prelude.{◌≡◌, ℕ, ◌+◌, ◌≤◌, ◌^◌, List, length, Some, slice_get, IsTrue}
+use Rattle.std.specs.Prelude.{◌≡◌, ℕ, ◌+◌, ◌<◌, ◌≤◌, ◌^◌, List, length, Some, slice_get, IsTrue}
 use Rattle.file_tracker.specs.declared.row.Row.{Row}
 use Rattle.file_tracker.specs.declared.tracker.TheConstants.{ROW_LIMIT}
 use Rattle.state_codec.specs.Rules.{IsShortText}
@@ -18,6 +18,12 @@ pub record IsSaneRow (rules : Rules) (end place : ℕ) (row : Row) : Type 0 wher
   pub records : row.start + row.records ≤ row.offset
   pub lines : row.lines ≤ end
   pub state : IsTrue (rules.is_state row.state)
+  pub short : length row.state < 2 ^ 32
+
+-- the first states have a spelling that a row can have
+pub record FreshFits (setup : Setup) : Type 0 where
+  pub good : IsTrue ((rules_in setup).is_state (rules_in setup).fresh)
+  pub short : length (rules_in setup).fresh < 2 ^ 32
 
 abbrev pub AreSaneRows : Rules → ℕ → List Row → Type 0
 AreSaneRows rules end rows = (place : ℕ) (row : Row) → slice_get rows place ≡ Some row → IsSaneRow rules end place row

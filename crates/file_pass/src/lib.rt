@@ -19,6 +19,7 @@ mod output;
 mod reading;
 mod settling;
 mod setup;
+mod spelled;
 mod taking;
 
 pub use counts::Counts;

@@ -1,7 +1,7 @@
 // Which row is a file's.
-ghost use Rattle.std.specs.Prelude.{◌≡◌, ◌+◌, ◌<◌, ◌≤◌, ◌^◌, ◌&&◌, if◌then◌else◌, length, None, Some, IfOk, OnOk};
+ghost use Rattle.std.specs.Prelude.{◌≡◌, ◌+◌, ◌<◌, ◌≤◌, ◌^◌, ◌&&◌, if◌then◌else◌, length, None, Some, IfOk, IfSome, OnOk};
 ghost use Rattle.file_pass.specs.Fed.{rules_in};
-ghost use Rattle.file_pass.specs.Sane.{IsSaneTaking};
+ghost use Rattle.file_pass.specs.Sane.{FreshFits, IsSaneTaking};
 ghost use Rattle.file_pass.specs.Settled.{IsKnown, Settles, admitted};
 ghost use Rattle.file_pass.specs.Unchanged.{FlagsChanges};
 ghost use Rattle.file_tracker.specs.Places.{place_of};
@@ -10,6 +10,7 @@ ghost use Rattle.settings_text.specs.Limits.{KeepsLimits};
 ghost use Rattle.state_codec.specs.Rules.{IsShortText};
 
 use crate::setup::Setup;
+use crate::spelled::first_spelled;
 use crate::taking::Taking;
 use entry_model::Text;
 use file_tracker::{Bytes, ROW_LIMIT, Row};
@@ -77,6 +78,7 @@ fn admit(
     requires unknown { place_of front.now taking.old.tracker ≡ None }
     requires flags { length taking.old.changed.items ≡ length taking.old.tracker }
     ensures settles { IfOk result (λ place. Settles setup.now size path.now front.now taking.old.tracker place taking.new.tracker) }
+    ensures fits { IfOk result (λ place. IfSome place (λ _. FreshFits setup.now)) }
     ensures flags { OnOk result (FlagsChanges taking.old taking.new) }
     ensures long { OnOk result (length taking.new.changed.items ≡ length taking.new.tracker) }
     ensures end { taking.new.end ≡ taking.old.end }
@@ -108,7 +110,8 @@ fn new_row(
     rows: usize,
 ) -> Result<Row, AllocError>
     requires { rows < ROW_LIMIT }
-    ensures { IfOk result (λ row. row ≡ admitted setup.now size path.now front.now (rows + 1)) }
+    ensures row { IfOk result (λ row. row ≡ admitted setup.now size path.now front.now (rows + 1)) }
+    ensures fits { OnOk result (FreshFits setup.now) }
 {
     let start = first_offset(setup, size);
     Ok(Row {
@@ -119,7 +122,7 @@ fn new_row(
         offset: start,
         records: 0,
         lines: 0,
-        state: Bytes::new(Vec::new(alloc)),
+        state: first_spelled(alloc, setup)?,
     })
 }
 

@@ -14,6 +14,7 @@ ghost use Rattle.file_pass.specs.Taken.{Finds, KeepsTreeAt};
 ghost use Rattle.file_pass.specs.Unchanged.{FlagsChanges};
 ghost use Rattle.file_tracker.specs.Places.{HasGone, with_progress};
 ghost use Rattle.file_tracker.specs.declared.row.Row.{Row};
+ghost use Rattle.op_kinds.specs.StateTexts.{state_text};
 ghost use Rattle.outside.specs.World.{Told};
 ghost use Rattle.outside.specs.declared.disk.DiskFile.{DiskFile};
 ghost use Rattle.pipeline.specs.Parts.{HaveKinds, settings_of};
@@ -29,6 +30,7 @@ use crate::found::Found;
 use crate::front::read_front;
 use crate::settling::settle;
 use crate::setup::Setup;
+use crate::spelled::spelled;
 use entry_model::Text;
 use file_tracker::{Row, Tracker};
 use outside::{CallFault, Disk, Opened, Tree};
@@ -293,7 +295,7 @@ fn take_row<T: Tree, D: Disk>(
         &mut taking.end,
         buffer,
     )?;
-    note_progress(alloc, place, &feeding, taking);
+    note_progress(alloc, setup, place, &feeding, taking)?;
     Ok(Found::Read {
         ending,
         more: has_more(ending, file.size - offset),
@@ -329,30 +331,40 @@ fn feeding_of(alloc: Global, setup: &Setup<'_>, row: &Row) -> Result<Feeding, Al
 }
 
 // Notes in the row how far it was read, where that is further than before.
-fn note_progress(alloc: Global, place: usize, feeding: &Feeding, taking: &mut Taking)
+fn note_progress(
+    alloc: Global,
+    setup: &Setup<'_>,
+    place: usize,
+    feeding: &Feeding,
+    taking: &mut Taking,
+) -> Result<(), AllocError>
+    requires kinds { HaveKinds setup.now.pipeline.now feeding.now.state.states.items }
     requires in_range { place < length taking.old.tracker }
     requires flags { length taking.old.changed.items ≡ length taking.old.tracker }
     requires same { (row : Row) → slice_get taking.old.tracker place ≡ Some row → feeding.now.offset ≤ row.offset
-        → with_progress feeding.now.offset feeding.now.state.records feeding.now.state.lines row.state row ≡ row }
+        → with_progress feeding.now.offset feeding.now.state.records feeding.now.state.lines (state_text feeding.now.state.states.items) row ≡ row }
     requires rises { (row : Row) → slice_get taking.old.tracker place ≡ Some row
         → HasGone row feeding.now.offset feeding.now.state.records feeding.now.state.lines }
-    requires stateless { (row : Row) → slice_get taking.old.tracker place ≡ Some row → row.state ≡ [] }
-    ensures row { (row : Row) → slice_get taking.old.tracker place ≡ Some row → taking.new.tracker
-        ≡ slice_set taking.old.tracker place (with_progress feeding.now.offset feeding.now.state.records feeding.now.state.lines row.state row) }
-    ensures flags { FlagsChanges taking.old taking.new }
+    ensures row { OnOk result ((row : Row) → slice_get taking.old.tracker place ≡ Some row → taking.new.tracker
+        ≡ slice_set taking.old.tracker place (with_progress feeding.now.offset feeding.now.state.records feeding.now.state.lines (state_text feeding.now.state.states.items) row)) }
+    ensures short { OnOk result ((row : Row) → slice_get taking.old.tracker place ≡ Some row → length row.state < 2 ^ 32
+        → length (state_text feeding.now.state.states.items) < 2 ^ 32) }
+    ensures flags { OnOk result (FlagsChanges taking.old taking.new) }
     ensures long { length taking.new.changed.items ≡ length taking.old.changed.items }
     ensures end { taking.new.end ≡ taking.old.end }
     ensures counts { taking.new.counts ≡ taking.old.counts }
 {
     if feeding.offset > taking.tracker.row(place).offset {
         let state = &feeding.state;
+        let bytes = spelled(alloc, setup, state)?;
         taking.tracker.advance(
             place,
             feeding.offset,
             state.records,
             state.lines,
-            Vec::new(alloc),
+            bytes.into_vec(),
         );
         taking.changed[place] = true;
     }
+    Ok(())
 }

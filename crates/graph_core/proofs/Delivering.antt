@@ -1,10 +1,10 @@
 -- What the walk of the code rests on.
 use Rattle.std.proofs.Common.{◌≡◌, inl, inr, ℕ, suc, ◌<◌, ◌≤◌, List, [], ◌∷◌, ◌++◌, refl, sym, subst, ap, ◌∙◌, arith, map, length, drop, get_or}
-use Rattle.std.specs.Prelude.{Option, Some}
+use Rattle.std.specs.Prelude.{Option, Some, None, IfSome}
 use Rattle.std.specs.List.{flat_map}
 use Rattle.std.specs.Prelude.{◌==◌}
 use Rattle.std.proofs.lemmas.Bool.{cases_eq, cond_both, cond-true, cond-false, ne_eqb, eq-eqb}
-use Rattle.std.proofs.lemmas.List.{get_or-map, length-map, append-nil}
+use Rattle.std.proofs.lemmas.List.{get_or-map, length-map, length-append, append-nil}
 use Rattle.std.proofs.lemmas.List.Concat.{flat_map-append}
 use Rattle.graph_core.specs.Closing.{CallersFirst}
 use Rattle.graph_core.specs.declared.Target.{Target}
@@ -12,10 +12,26 @@ use Rattle.graph_core.specs.declared.Target.TheVariants.{Node, Out}
 use Rattle.graph_core.specs.declared.NodeSpec.{NodeSpec}
 use Rattle.graph_core.specs.Wiring.{Wiring, Edges, Has, wiring_of, ports_of, edges_of, targets_of}
 use Rattle.graph_core.specs.Traces.{Network}
-use Rattle.graph_core.specs.Walk.{deliveries, owed, stepped, sent, Walk, put_out, called, IsBuilt, height, LeadsOn}
+use Rattle.graph_core.specs.Walk.{deliveries, owed, stepped, sent, Walk, done, put_out, called, IsBuilt, height, LeadsOn, IsOnlyTarget}
 use Rattle.graph_core.proofs.Members.{Has-append_cases, Has-from_map, Has-same}
 use Rattle.graph_core.proofs.Emissions.{ports_targets, Has-flat}
 use Rattle.graph_core.proofs.Walks.{walk_append}
+
+last_alone : {X : Type 0} (rest : List X) (x y : X) → rest ++ x ∷ [] ≡ y ∷ [] → (rest ≡ []) × (x ≡ y)
+last_alone [] x y e = (refl, cc)
+last_alone (z ∷ rest) x y e = let l = ap length e in absurd (omega (arith, length-append rest (x ∷ []), l))
+
+pub has_only : {X : Type 0} (xs : List X) (x : X) → xs ≡ x ∷ [] → Has xs x
+has_only xs x e = rw e (inl refl)
+
+pub some_weaker : {A : Type 0} (o : Option A) (P Q : A → Type 0) → ((a : A) → P a → Q a) → IfSome o P → IfSome o Q
+some_weaker None P Q f h = tt
+some_weaker (Some a) P Q f h = f a h
+
+pub alone : {X : Type 0} (xs : List X) (x : X) → length xs ≡ 1 → x ≡ get_or xs 0 x → xs ≡ x ∷ []
+alone [] x one e = absurd (omega arith)
+alone (y ∷ []) x one e = ap (λ z. z ∷ []) (sym e)
+alone (y ∷ z ∷ zs) x one e = absurd (omega arith)
 
 pub deliveries_more : {Item : Type 0} (ports : List (List Target)) (es : List (ℕ × Item)) (p : ℕ) (x : Item)
     → deliveries ports (es ++ (p, x) ∷ []) ≡ deliveries ports es ++ map (λ to. (to, x)) (get_or ports p [])
@@ -93,6 +109,36 @@ module _ {State Item : Type 0} (net : Network State Item) where
   serve_one s m t o q v x said s1 f h inner =
       let u : Walk net (stepped net s v x) o (sent net s v x ++ []) m q = rw (append-nil (sent net s v x), ← f, ← h) inner in
       called u
+
+  -- a call that emits one item for one target, and what follows from that
+  pub serve_single : (s t s1 : List State) (o p : List Item) (v w : ℕ) (x y : Item) (to : Target) (ds : List (Target × Item))
+      → s1 ≡ stepped net s v (Some x) → owed ds ≡ sent net s v (Some x) → ds ≡ (to, y) ∷ [] → to ≡ Node w
+      → Walk net s1 o ((Node w, Some y) ∷ []) t p → Walk net s o ((Node v, Some x) ∷ []) t p
+  serve_single s t s1 o p v w x y to ds f h e is inner =
+      let said : (Node w, Some y) ∷ [] ≡ sent net s v (Some x) = sym (ap owed (e ∙ ap (λ (k : Target). (k, y) ∷ []) is)) ∙ h in
+      serve_one s t t o p v (Some x) ((Node w, Some y) ∷ []) s1 f said inner
+
+  -- a call that emits one item, which goes out
+  pub serve_last : (s s1 : List State) (o q : List Item) (v : ℕ) (x y : Item) (to : Target) (ds : List (Target × Item))
+      → s1 ≡ stepped net s v (Some x) → owed ds ≡ sent net s v (Some x) → ds ≡ (to, y) ∷ [] → to ≡ Out → q ≡ o ++ y ∷ []
+      → Walk net s o ((Node v, Some x) ∷ []) s1 q
+  serve_last s s1 o q v x y to ds f h e is put =
+      let said : (Out, Some y) ∷ [] ≡ sent net s v (Some x) = sym (ap owed (e ∙ ap (λ (k : Target). (k, y) ∷ []) is)) ∙ h in
+      let inner : Walk net s1 o ((Out, Some y) ∷ []) s1 (o ++ y ∷ []) = put_out done in
+      rw put (serve_one s s1 s1 o (o ++ y ∷ []) v (Some x) ((Out, Some y) ∷ []) s1 f said inner)
+
+-- one emission for one target
+pub only_delivery : {Item : Type 0} (ports : List (List Target)) (said : List (ℕ × Item)) (to : Target) → IsOnlyTarget ports said to
+    → (rest : List (ℕ × Item)) (e : ℕ × Item) → said ≡ rest ++ e ∷ [] → deliveries ports said ≡ (to, e.1) ∷ []
+only_delivery {Item} ports said to only rest e popped =
+    let last = last_alone rest e (only.port, only.item) (sym popped ∙ only.is_said) in
+    ap (deliveries ports) only.is_said
+    ∙ ap (λ (l : List Target). map (λ t. (t, only.item)) l ++ []) only.is_target
+    ∙ ap (λ (x : ℕ × Item). (to, x.1) ∷ []) (sym last.1)
+
+pub only_taken : {Item : Type 0} (ports : List (List Target)) (said : List (ℕ × Item)) (to : Target) → IsOnlyTarget ports said to
+    → (rest : List (ℕ × Item)) (e : ℕ × Item) → said ≡ rest ++ e ∷ [] → rest ≡ []
+only_taken ports said to only rest e popped = (last_alone rest e (only.port, only.item) (sym popped ∙ only.is_said)).0
 
 pub length_edges : {Op : Type 0} (nodes : List (NodeSpec Op)) → length (edges_of (wiring_of nodes)) ≡ length nodes
 length_edges {Op} nodes =

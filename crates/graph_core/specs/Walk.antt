@@ -32,6 +32,13 @@ pub data Walk {State Item : Type 0} (network : Network State Item) : List State 
   called : {s t : List State} {o p : List Item} {v : ℕ} {x : Option Item} {rest : List (Target × Option Item)}
       → Walk network (stepped network s v x) o (sent network s v x ++ rest) t p → Walk network s o ((Node v, x) ∷ rest) t p
 
+-- what was said is one emission, on a port that has this one target
+pub record IsOnlyTarget {Item : Type 0} (ports : List (List Target)) (said : List (ℕ × Item)) (to : Target) : Type 0 where
+  pub port : ℕ
+  pub item : Item
+  pub is_said : said ≡ (port, item) ∷ []
+  pub is_target : slice_index_or ports port [] ≡ to ∷ []
+
 -- what `Graph::build` has made sure of
 pub record IsBuilt (edges : Edges) (order : List ℕ) : Type 0 where
   pub is_closing_order : order ≡ closing_order edges

@@ -1,11 +1,11 @@
 //! The graph, gone through depth first.
 
-ghost use Rattle.std.specs.Prelude.{◌≡◌, ℕ, ◌<◌, [], ◌∷◌, ◌++◌, List, length, map, slice_index_or, Some, None, IfOk, OnOk, vec_len};
+ghost use Rattle.std.specs.Prelude.{◌≡◌, ℕ, ◌<◌, [], ◌∷◌, ◌++◌, List, length, map, slice_index_or, Some, None, IfOk, OnOk, IfSome, IfNone, OnSome, vec_len};
 ghost use Rattle.graph_core.specs.declared.Target.TheVariants.{Node};
 ghost use Rattle.graph_core.specs.Wiring.{wiring_of, edges_of, ports_of, Has};
 ghost use Rattle.graph_core.specs.Closing.{closing_order, CallersFirst};
 ghost use Rattle.graph_core.specs.Traces.{network_of, inputs, closings};
-ghost use Rattle.graph_core.specs.Walk.{deliveries, owed, stepped, sent, Walk, LeadsOn};
+ghost use Rattle.graph_core.specs.Walk.{deliveries, owed, stepped, sent, Walk, LeadsOn, IsOnlyTarget};
 
 use super::{Graph, NodeSpec, Step, Target};
 use std::alloc::{AllocError, Global};
@@ -78,22 +78,23 @@ fn queue_of<O: Step>(
     deliveries_of(&graph.nodes[node as usize], alloc, said)
 }
 
-/// The node takes an item: its state moves on, and what it emits is the answer.
+/// The node takes an item: its state moves on, and what it emits is the answer, in the list that is handed in empty.
 fn step_node<O: Step>(
     graph: &Graph<O>,
     alloc: Global,
     node: u16,
     item: O::Item,
     states: &mut Vec<O::State>,
+    mut said: Vec<(u16, O::Item)>,
 ) -> Result<Vec<(u16, O::Item)>, AllocError>
     requires node { node < length graph.now }
     requires states { length states.old.items ≡ length graph.now }
+    requires empty { said.items ≡ [] }
     ensures kept { length states.new.items ≡ length states.old.items }
     ensures state { OnOk result (states.new.items ≡ stepped (network_of O.behavior graph.now) states.old.items node (Some item)) }
     ensures said { let ports = ports_of (wiring_of graph.now) node in
         IfOk result (λ said. owed (deliveries ports said.items) ≡ sent (network_of O.behavior graph.now) states.old.items node (Some item)) }
 {
-    let mut said = Vec::new(alloc);
     let operator = &graph.nodes[node as usize].op;
     operator.step(alloc, &mut states[node as usize], item, &mut said)?;
     Ok(said)
@@ -119,7 +120,7 @@ fn deliver_all<O: Step>(
         match to {
             Target::Out => out.push(item)?,
             Target::Node(next) => {
-                let said = step_node(graph, alloc, next, item, states)?;
+                let said = step_node(graph, alloc, next, item, states, Vec::new(alloc))?;
                 deliver_all(graph, alloc, next, said, states, out)?;
             }
         }
@@ -127,12 +128,78 @@ fn deliver_all<O: Step>(
     Ok(())
 }
 
-/// One call of a node with an item, and all that follows from it.
+/// The port of what was said, where that is one item.
+fn sole_port<I>(said: &[(u16, I)]) -> Option<u16>
+    ensures { IfSome result (λ port. (item : I) × (said.now ≡ (port, item) ∷ [])) }
+{
+    match said {
+        [(port, _)] => Some(*port),
+        _ => None,
+    }
+}
+
+/// The target of a port that has one.
+fn sole_target<O>(node: &NodeSpec<O>, port: u16) -> Option<Target>
+    ensures { IfSome result (λ to. slice_index_or (map (λ port. port.items) node.now.ports.items) port [] ≡ to ∷ []) }
+{
+    match node.ports.get(port as usize) {
+        Some(targets) => match targets.as_slice() {
+            [to] => Some(*to),
+            _ => None,
+        },
+        None => None,
+    }
+}
+
+fn only_target<O: Step>(node: &NodeSpec<O>, said: &[(u16, O::Item)]) -> Option<Target>
+    ensures { IfSome result (IsOnlyTarget (map (λ port. port.items) node.now.ports.items) said.now) }
+{
+    match sole_port(said) {
+        Some(port) => sole_target(node, port),
+        None => None,
+    }
+}
+
+/// Takes what was said, with its target, where that is one item for one target.
+fn take_only<O: Step>(
+    node: &NodeSpec<O>,
+    said: &mut Vec<(u16, O::Item)>,
+) -> Option<(Target, O::Item)>
+    ensures only { IfSome result (λ d. deliveries (map (λ port. port.items) node.now.ports.items) said.old.items ≡ d ∷ []) }
+    ensures taken { OnSome result (said.new.items ≡ []) }
+    ensures none { IfNone result (said.new.items ≡ said.old.items) }
+{
+    let Some(to) = only_target(node, said) else {
+        return None;
+    };
+    match said.pop() {
+        Some((_, item)) => Some((to, item)),
+        None => None,
+    }
+}
+
+/// The same for a node of the graph.
+fn single_of<O: Step>(
+    graph: &Graph<O>,
+    node: u16,
+    said: &mut Vec<(u16, O::Item)>,
+) -> Option<(Target, O::Item)>
+    requires { node < length graph.now }
+    ensures only { IfSome result (λ d. deliveries (ports_of (wiring_of graph.now) node) said.old.items ≡ d ∷ []) }
+    ensures leads { IfSome result (λ d. LeadsOn (edges_of (wiring_of graph.now)) node d.0) }
+    ensures taken { OnSome result (said.new.items ≡ []) }
+    ensures none { IfNone result (said.new.items ≡ said.old.items) }
+{
+    take_only(&graph.nodes[node as usize], said)
+}
+
+/// One call of a node with an item, and all that follows from it. As long as each call emits one item for one target, the
+/// list of what is emitted is all the memory that this takes.
 fn call<O: Step>(
     graph: &Graph<O>,
     alloc: Global,
-    node: u16,
-    item: O::Item,
+    mut node: u16,
+    mut item: O::Item,
     states: &mut Vec<O::State>,
     out: &mut Vec<O::Item>,
 ) -> Result<(), AllocError>
@@ -141,8 +208,24 @@ fn call<O: Step>(
     ensures kept { length states.new.items ≡ length states.old.items }
     ensures walks { OnOk result (Walk (network_of O.behavior graph.now) states.old.items out.old.items ((Node node, Some item) ∷ []) states.new.items out.new.items) }
 {
-    let said = step_node(graph, alloc, node, item, states)?;
-    deliver_all(graph, alloc, node, said, states, out)
+    let mut said = Vec::new(alloc);
+    'follow: loop {
+        let mut emitted = step_node(graph, alloc, node, item, states, said)?;
+        let Some((to, single)) = single_of(graph, node, &mut emitted) else {
+            return deliver_all(graph, alloc, node, emitted, states, out);
+        };
+        match to {
+            Target::Out => {
+                out.push(single)?;
+                return Ok(());
+            }
+            Target::Node(next) => {
+                node = next;
+                item = single;
+                said = emitted;
+            }
+        }
+    }
 }
 
 /// An input, and all that follows from it; without nodes it goes out.

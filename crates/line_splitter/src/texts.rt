@@ -1,9 +1,11 @@
 // The text of an entry: a token trimmed and made valid UTF-8.
 ghost use Rattle.std.specs.Prelude.{◌≡◌, ℕ, ◌-◌, ◌<◌, ◌≤◌, if◌then◌else◌, List, [], length, drop, slice_range, IfOk, IfSome, IfNone, string_bytes};
 ghost use Rattle.std.specs.List.{prefix_len, suffix_len};
+ghost use Rattle.std.specs.Str.Lossy.{utf8_lossy};
 ghost use Rattle.line_splitter.specs.Trim.{is_blank, trim_start, trim_end, trimmed, IsTrimmedTo};
 ghost use Rattle.line_splitter.specs.EntryText.{entry_text};
 
+use simdutf8::from_utf8_baseline;
 use std::alloc::{AllocError, Global};
 
 /// The part `from..to` of `text` that stays when blank bytes (space, tab, CR and LF) are cut from its
@@ -80,5 +82,15 @@ pub fn entry_text(
     if from == to {
         return Ok(None);
     }
-    Ok(Some(String::from_utf8_lossy(alloc, &token[from..to])?))
+    Ok(Some(text_of(alloc, &token[from..to])?))
+}
+
+// Valid text is taken as it is; only other bytes are gone through one by one.
+fn text_of(alloc: Global, bytes: &[u8]) -> Result<String, AllocError>
+    ensures { IfOk result (λ text. string_bytes text ≡ utf8_lossy bytes.now) }
+{
+    match from_utf8_baseline(bytes) {
+        Ok(text) => Ok(String::from_str(alloc, text)?),
+        Err(_) => Ok(String::from_utf8_lossy(alloc, bytes)?),
+    }
 }

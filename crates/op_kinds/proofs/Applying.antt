@@ -1,11 +1,14 @@
 -- What an operator with one output emits, and what it keeps.
 use Rattle.std.proofs.Common.{◌≡◌, ℕ, List, [], ◌∷◌, ◌++◌, Bool, true, false, Option, None, Some, refl, sym, ap, ◌∙◌}
+use Rattle.std.specs.Prelude.{if◌then◌else◌, option_map}
 use Rattle.std.proofs.lemmas.List.{append-nil}
 use Rattle.entry_model.specs.LogRecord.{LogRecord}
 use Rattle.op_kinds.specs.Applied.{Effect, Puts, IsApplied, effect}
-use Rattle.op_kinds.specs.Kept.{Kept, keeps_groups, fresh_kept}
-use Rattle.op_kinds.specs.Operator.{Act, Operator, conditional, router, Made, row, done, guarded, holds, or_unchanged, on_one_port, has_groups, after}
+use Rattle.op_kinds.specs.Kept.{Kept, open_groups, keeps_groups, fresh_kept}
+use Rattle.op_kinds.specs.Operator.{Act, Operator, conditional, router, Made, row, holds_groups, joined, with_groups, sending, done, guarded, holds, or_unchanged, on_one_port, has_groups, after}
+use Rattle.op_kinds.specs.declared.action.Applied.{Applied}
 use Rattle.op_kinds.specs.declared.action.Applied.TheVariants.{Done, Faulty}
+use Rattle.recombine.specs.Recombined as join
 
 -- ---- what was emitted
 
@@ -29,34 +32,42 @@ was_sent_on false None entry back e out is grown gives = record {
 
 -- ---- what an act did
 
-pub row_done : (asked : Option (List LogRecord)) (entry : LogRecord) (kept kept_then : Kept) (out out_then : List (ℕ × LogRecord)) (sent : List LogRecord) → Some sent ≡ asked → kept_then ≡ kept → out_then ≡ out ++ on_one_port sent
-    → (act : Act) → asked ≡ row act entry → IsApplied (done act kept entry) entry (effect kept kept_then out out_then) Done
-row_done asked entry kept kept_then out out_then sent is same grown act row_is =
-    rw (← (is ∙ row_is)) (record { kept = same; out = grown })
+pub row_done : (asked : Option (List LogRecord)) (entry : LogRecord) (kept : Kept) (out out_then : List (ℕ × LogRecord)) (sent : List LogRecord) → Some sent ≡ asked → out_then ≡ out ++ on_one_port sent
+    → IsApplied (option_map (sending kept) asked) entry (effect kept kept out out_then) Done
+row_done asked entry kept out out_then sent is grown = rw (← is) (record { kept = refl; out = grown })
 
-pub row_refused : (entry back : LogRecord) (kept kept_then : Kept) (out out_then : List (ℕ × LogRecord)) (act : Act) → None ≡ row act entry → back ≡ entry → kept_then ≡ kept → out_then ≡ out
-    → IsApplied (done act kept entry) entry (effect kept kept_then out out_then) (Faulty back)
-row_refused entry back kept kept_then out out_then act is same kept_is out_is =
-    rw (← is) (record { same = same; kept = kept_is; out = out_is })
+pub row_refused : (asked : Option (List LogRecord)) (entry back : LogRecord) (kept : Kept) (out out_then : List (ℕ × LogRecord)) → None ≡ asked → back ≡ entry → out_then ≡ out
+    → IsApplied (option_map (sending kept) asked) entry (effect kept kept out out_then) (Faulty back)
+row_refused asked entry back kept out out_then is same out_is = rw (← is) (record { same = same; kept = refl; out = out_is })
+
+-- an act that holds groups, and another
+pub by_groups : (act : Act) (kept : Kept) (entry : LogRecord) (e : Effect) (applied : Applied) → holds_groups act ≡ true → IsApplied (option_map with_groups (joined act (open_groups kept) entry)) entry e applied → IsApplied (done act kept entry) entry e applied
+by_groups act kept entry e applied is did = rw is did
+
+pub by_row : (act : Act) (kept : Kept) (entry : LogRecord) (e : Effect) (applied : Applied) → holds_groups act ≡ false → IsApplied (option_map (sending kept) (row act entry)) entry e applied → IsApplied (done act kept entry) entry e applied
+by_row act kept entry e applied is did = rw is did
 
 -- ---- kinds
 
-keeps : (asked : Option (List LogRecord)) (act : Act) (kept : Kept) (entry : LogRecord) (drops : Bool) → row act entry ≡ asked → (or_unchanged drops kept entry (done act kept entry)).kept ≡ kept
-keeps (Some sent) act kept entry drops is = rw is refl
-keeps None act kept entry drops is = rw is refl
+keeps_done : (b : Bool) (made : Option join.Made) (asked : Option (List LogRecord)) (kept : Kept) (entry : LogRecord) (drops : Bool) → keeps_groups kept ≡ b
+    → keeps_groups (or_unchanged drops kept entry (if b then option_map with_groups made else option_map (sending kept) asked)).kept ≡ b
+keeps_done true (Some made) asked kept entry drops is = refl
+keeps_done true None asked kept entry drops is = is
+keeps_done false made (Some sent) kept entry drops is = is
+keeps_done false made None kept entry drops is = is
 
-guards : (truth : Option Bool) (act : Act) (kept : Kept) (entry : LogRecord) (drops : Bool) → (or_unchanged drops kept entry (guarded truth kept entry (done act kept entry))).kept ≡ kept
-guards (Some true) act kept entry drops = keeps (row act entry) act kept entry drops refl
-guards (Some false) act kept entry drops = refl
-guards None act kept entry drops = refl
-
-stays : (operator : Operator) (kept : Kept) (entry : LogRecord) → after operator kept entry ≡ kept
-stays (conditional None act drops) kept entry = keeps (row act entry) act kept entry drops refl
-stays (conditional (Some condition) act drops) kept entry = guards (holds condition entry) act kept entry drops
-stays (router routes has_default) kept entry = refl
+keeps_guarded : (truth : Option Bool) (b : Bool) (made : Option Made) (kept : Kept) (entry : LogRecord) (drops : Bool) → keeps_groups kept ≡ b → keeps_groups (or_unchanged drops kept entry made).kept ≡ b
+    → keeps_groups (or_unchanged drops kept entry (guarded truth kept entry made)).kept ≡ b
+keeps_guarded (Some true) b made kept entry drops is then_so = then_so
+keeps_guarded (Some false) b made kept entry drops is then_so = is
+keeps_guarded None b made kept entry drops is then_so = is
 
 pub keeps_kind : (operator : Operator) (kept : Kept) (entry : LogRecord) → keeps_groups kept ≡ has_groups operator → keeps_groups (after operator kept entry) ≡ has_groups operator
-keeps_kind operator kept entry is = ap keeps_groups (stays operator kept entry) ∙ is
+keeps_kind (conditional None act drops) kept entry is = keeps_done (holds_groups act) (joined act (open_groups kept) entry) (row act entry) kept entry drops is
+keeps_kind (conditional (Some condition) act drops) kept entry is =
+    keeps_guarded (holds condition entry) (holds_groups act) (done act kept entry) kept entry drops is
+    (keeps_done (holds_groups act) (joined act (open_groups kept) entry) (row act entry) kept entry drops is)
+keeps_kind (router routes has_default) kept entry is = is
 
 pub begins_with_kind : (operator : Operator) → keeps_groups (fresh_kept (has_groups operator)) ≡ has_groups operator
 begins_with_kind operator = by (has_groups operator)

@@ -13,16 +13,17 @@ use Rattle.field_paths.proofs.Faults.{one_path}
 use Rattle.field_paths.specs.PathText.{IsPathText}
 use Rattle.field_paths.specs.Place.{Place}
 use Rattle.op_kinds.specs.AnyOpView.{act_of}
-use Rattle.op_kinds.specs.Compiled.{ArePathTexts, AreExpressions, Does, Routes, IsCondition, IsCompiledTo, drops_faulty}
+use Rattle.op_kinds.specs.Compiled.{joining_of, IsPathIfAny, ArePathTexts, AreExpressions, Does, Routes, IsCondition, IsCompiledTo, drops_faulty}
 use Rattle.op_kinds.specs.Operator as operator
 use Rattle.op_kinds.specs.Operator.{Act, Operator, conditional, router}
-use Rattle.op_kinds.specs.Said.{by_pattern, as_json}
-use Rattle.op_kinds.specs.Readings.{Reading, path, member, expression, pattern, names, IsFaulty, own_readings, parser_readings, condition_readings, readings, route_reading, IsLeastCause, AreRead}
+use Rattle.op_kinds.specs.Parsers.{columns_of, delimiters_of, protocol_of}
+use Rattle.op_kinds.specs.Said.{by_pattern, as_json, as_record, as_pairs}
+use Rattle.op_kinds.specs.Readings.{Reading, path, member, expression, pattern, names, IsFaulty, own_readings, parser_readings, paths_if_any, condition_readings, readings, route_reading, IsLeastCause, AreRead}
 use Rattle.op_kinds.specs.WorkView.{IsWorkOf, operator_of}
 use Rattle.op_kinds.specs.declared.cause.OpCause.{OpCause}
 use Rattle.op_kinds.specs.declared.compiling.Work.{Work}
 use Rattle.op_kinds.specs.declared.compiling.Work.TheVariants.{Act as ActWork, Route}
-use Rattle.op_kinds.proofs.Parsers.{parser_is_read, one_parser}
+use Rattle.op_kinds.proofs.Parsers.{parser_is_read, one_parser, stamp_is_read, grading_is_read, one_stamp_of, one_grading_of}
 use Rattle.op_kinds.proofs.Readings.{all_are_read, one_is_read, two_are_read, pattern_is_read}
 use Rattle.settings_text.specs.declared.settings.OpKind.TheVariants as kind
 use Rattle.settings_text.specs.declared.settings.OpKind.{OpKind}
@@ -72,8 +73,14 @@ routes_are_read (route ∷ routes) [] are reading has faulty = are
 routes_are_read (route ∷ routes) (tree ∷ trees) are reading (inl is) faulty = faulty_at (expression route.expr) reading is faulty tree are.0
 routes_are_read (route ∷ routes) (tree ∷ trees) are reading (inr has) faulty = routes_are_read routes trees are.1 reading has faulty
 
+pub path_if_any_is_read : (text : Option (List ℕ)) (place : Option Place) → IsPathIfAny text place → AreRead (paths_if_any text)
+path_if_any_is_read None place is reading has faulty = has
+path_if_any_is_read (Some text) None is reading has faulty = is
+path_if_any_is_read (Some text) (Some place) is reading has faulty = one_is_read (path text) (λ none. none place is) reading has faulty
+
 done_is_read : (kind : OpKind) (act : Act) → Does kind act → AreRead (own_readings kind)
 done_is_read kind.Noop act does = λ reading has faulty. has
+done_is_read (kind.Container format by_path) act does = λ reading has faulty. has
 done_is_read (kind.Move from to) act does = two_are_read (path from) (path to) (λ none. none does.0 does.2) (λ none. none does.1 does.3)
 done_is_read (kind.Copy from to) act does = two_are_read (path from) (path to) (λ none. none does.0 does.2) (λ none. none does.1 does.3)
 done_is_read (kind.Add field value) act does = one_is_read (path field) (λ none. none does.0 does.1)
@@ -82,11 +89,20 @@ done_is_read (kind.Flatten field) act does = one_is_read (member field) (λ none
 done_is_read (kind.Retain fields) act does = paths_are_read fields does.0 does.1
 done_is_read (kind.Filter expr) act does = one_is_read (expression expr) (λ none. none does.0 does.1)
 done_is_read (kind.Json parser) act does = parser_is_read as_json parser does.0 does.1
+done_is_read (kind.Csv delimiter header parser) act does = parser_is_read (as_record (columns_of delimiter header)) parser does.0 does.1
+done_is_read (kind.KeyValue delimiter pair_delimiter parser) act does = parser_is_read (as_pairs (delimiters_of delimiter pair_delimiter)) parser does.0 does.1
 done_is_read (kind.Regex regex parser) act does = all_are_read (pattern regex ∷ names regex ∷ []) (parser_readings parser) (pattern_is_read regex does.1) (parser_is_read (by_pattern regex) parser does.0 does.2)
+done_is_read (kind.Time time) act does = stamp_is_read (Some time) (Some does.0) does.1
+done_is_read (kind.Severity severity) act does = grading_is_read (Some severity) (Some does.0) does.1
+done_is_read (kind.Syslog year location parser) act does = two_are_read (path parser.parse_from) (path parser.parse_to) (λ none. none does.0 does.2) (λ none. none does.1 does.3)
 done_is_read (kind.Router routes default) act does = λ reading has faulty. does
+done_is_read (kind.Recombine field first mark between most newest source) act does =
+    all_are_read (path field ∷ []) (paths_if_any source ++ expression mark ∷ []) (one_is_read (path field) (λ none. none does.0 does.3))
+    (all_are_read (paths_if_any source) (expression mark ∷ []) (path_if_any_is_read source does.2 does.5) (one_is_read (expression mark) (λ none. none does.1 does.4)))
 
 routed_is_read : (kind : OpKind) (trees : List Tree) (has_default : Bool) → Routes kind trees has_default → AreRead (own_readings kind)
 routed_is_read kind.Noop trees has_default is = λ reading has faulty. is
+routed_is_read (kind.Container format by_path) trees has_default is = λ reading has faulty. is
 routed_is_read (kind.Move from to) trees has_default is = λ reading has faulty. is
 routed_is_read (kind.Copy from to) trees has_default is = λ reading has faulty. is
 routed_is_read (kind.Add field value) trees has_default is = λ reading has faulty. is
@@ -95,8 +111,14 @@ routed_is_read (kind.Flatten field) trees has_default is = λ reading has faulty
 routed_is_read (kind.Retain fields) trees has_default is = λ reading has faulty. is
 routed_is_read (kind.Filter expr) trees has_default is = λ reading has faulty. is
 routed_is_read (kind.Json parser) trees has_default is = λ reading has faulty. is
+routed_is_read (kind.Csv delimiter header parser) trees has_default is = λ reading has faulty. is
+routed_is_read (kind.KeyValue delimiter pair_delimiter parser) trees has_default is = λ reading has faulty. is
 routed_is_read (kind.Regex regex parser) trees has_default is = λ reading has faulty. is
+routed_is_read (kind.Time time) trees has_default is = λ reading has faulty. is
+routed_is_read (kind.Severity severity) trees has_default is = λ reading has faulty. is
+routed_is_read (kind.Syslog year location parser) trees has_default is = λ reading has faulty. is
 routed_is_read (kind.Router routes default) trees has_default is = routes_are_read routes trees is.0
+routed_is_read (kind.Recombine field first mark between most newest source) trees has_default is = λ reading has faulty. is
 
 pub work_is_read : (kind : OpKind) (work : Work) → IsWorkOf kind work → AreRead (own_readings kind)
 work_is_read kind (ActWork action) is = done_is_read kind (act_of action) is
@@ -162,8 +184,17 @@ same_condition (Some text) (Some t) (Some o) is also = let same : t ≡ o = one_
 two_same : (from to : List ℕ) (a b c d : Place) → IsPathText from a → IsPathText to b → IsPathText from c → IsPathText to d → (a ≡ c) × (b ≡ d)
 two_same from to a b c d p q r s = (one_path from a c p r, one_path to b d q s)
 
+same_path_if_any : (text : Option (List ℕ)) (place other : Option Place) → IsPathIfAny text place → IsPathIfAny text other → place ≡ other
+same_path_if_any None None None is also = refl
+same_path_if_any None None (Some o) is also = absurd also
+same_path_if_any None (Some p) other is also = absurd is
+same_path_if_any (Some text) None other is also = absurd is
+same_path_if_any (Some text) (Some p) None is also = absurd also
+same_path_if_any (Some text) (Some p) (Some o) is also = let same : p ≡ o = one_path text p o is also in cc same
+
 same_act : (kind : OpKind) (act other : Act) → Does kind act → Does kind other → act ≡ other
 same_act kind.Noop act other does also = does ∙ sym also
+same_act (kind.Container format by_path) act other does also = does ∙ sym also
 same_act (kind.Move from to) act other does also =
     let same = two_same from to does.0 does.1 also.0 also.1 does.2 does.3 also.2 also.3 in
     does.4 ∙ ap (λ p. operator.move p does.1) same.0 ∙ ap (operator.move also.0) same.1 ∙ sym also.4
@@ -186,12 +217,28 @@ same_act (kind.Filter expr) act other does also =
     does.2 ∙ ap operator.filter (one_tree expr does.0 also.0 does.1 also.1) ∙ sym also.2
 same_act (kind.Json parser) act other does also =
     does.2 ∙ ap operator.parse (one_parser as_json parser does.0 also.0 does.1 also.1) ∙ sym also.2
+same_act (kind.Csv delimiter header parser) act other does also =
+    does.2 ∙ ap operator.parse (one_parser (as_record (columns_of delimiter header)) parser does.0 also.0 does.1 also.1) ∙ sym also.2
+same_act (kind.KeyValue delimiter pair_delimiter parser) act other does also =
+    does.2 ∙ ap operator.parse (one_parser (as_pairs (delimiters_of delimiter pair_delimiter)) parser does.0 also.0 does.1 also.1) ∙ sym also.2
 same_act (kind.Regex regex parser) act other does also =
     does.3 ∙ ap operator.parse (one_parser (by_pattern regex) parser does.0 also.0 does.2 also.2) ∙ sym also.3
+same_act (kind.Time time) act other does also =
+    does.2 ∙ ap operator.stamp (one_stamp_of time does.0 also.0 does.1 also.1) ∙ sym also.2
+same_act (kind.Severity severity) act other does also =
+    does.2 ∙ ap operator.grade (one_grading_of severity does.0 also.0 does.1 also.1) ∙ sym also.2
+same_act (kind.Syslog year location parser) act other does also =
+    let same = two_same parser.parse_from parser.parse_to does.0 does.1 also.0 also.1 does.2 does.3 also.2 also.3 in
+    does.4 ∙ ap (λ p. operator.syslog (protocol_of year location) p does.1) same.0 ∙ ap (operator.syslog (protocol_of year location) also.0) same.1 ∙ sym also.4
 same_act (kind.Router routes default) act other does also = absurd does
+same_act (kind.Recombine field first mark between most newest source) act other does also =
+    does.6 ∙ ap (λ p. operator.recombine (joining_of p first between most newest) does.1 does.2) (one_path field does.0 also.0 does.3 also.3)
+    ∙ ap (λ t. operator.recombine (joining_of also.0 first between most newest) t does.2) (one_tree mark does.1 also.1 does.4 also.4)
+    ∙ ap (operator.recombine (joining_of also.0 first between most newest) also.1) (same_path_if_any source does.2 also.2 does.5 also.5) ∙ sym also.6
 
 not_both : (kind : OpKind) (act : Act) (trees : List Tree) (has_default : Bool) → Does kind act → Routes kind trees has_default → ⊥
 not_both kind.Noop act trees has_default does routes = routes
+not_both (kind.Container format by_path) act trees has_default does routes = routes
 not_both (kind.Move from to) act trees has_default does routes = routes
 not_both (kind.Copy from to) act trees has_default does routes = routes
 not_both (kind.Add field value) act trees has_default does routes = routes
@@ -200,11 +247,18 @@ not_both (kind.Flatten field) act trees has_default does routes = routes
 not_both (kind.Retain fields) act trees has_default does routes = routes
 not_both (kind.Filter expr) act trees has_default does routes = routes
 not_both (kind.Json parser) act trees has_default does routes = routes
+not_both (kind.Csv delimiter header parser) act trees has_default does routes = routes
+not_both (kind.KeyValue delimiter pair_delimiter parser) act trees has_default does routes = routes
 not_both (kind.Regex regex parser) act trees has_default does routes = routes
+not_both (kind.Time time) act trees has_default does routes = routes
+not_both (kind.Severity severity) act trees has_default does routes = routes
+not_both (kind.Syslog year location parser) act trees has_default does routes = routes
 not_both (kind.Router routes default) act trees has_default does _ = does
+not_both (kind.Recombine field first mark between most newest source) act trees has_default does routes = routes
 
 same_routes : (kind : OpKind) (trees others : List Tree) (has also_has : Bool) → Routes kind trees has → Routes kind others also_has → (trees ≡ others) × (has ≡ also_has)
 same_routes kind.Noop trees others has also_has routes also = absurd routes
+same_routes (kind.Container format by_path) trees others has also_has routes also = absurd routes
 same_routes (kind.Move from to) trees others has also_has routes also = absurd routes
 same_routes (kind.Copy from to) trees others has also_has routes also = absurd routes
 same_routes (kind.Add field value) trees others has also_has routes also = absurd routes
@@ -213,8 +267,14 @@ same_routes (kind.Flatten field) trees others has also_has routes also = absurd 
 same_routes (kind.Retain fields) trees others has also_has routes also = absurd routes
 same_routes (kind.Filter expr) trees others has also_has routes also = absurd routes
 same_routes (kind.Json parser) trees others has also_has routes also = absurd routes
+same_routes (kind.Csv delimiter header parser) trees others has also_has routes also = absurd routes
+same_routes (kind.KeyValue delimiter pair_delimiter parser) trees others has also_has routes also = absurd routes
 same_routes (kind.Regex regex parser) trees others has also_has routes also = absurd routes
+same_routes (kind.Time time) trees others has also_has routes also = absurd routes
+same_routes (kind.Severity severity) trees others has also_has routes also = absurd routes
+same_routes (kind.Syslog year location parser) trees others has also_has routes also = absurd routes
 same_routes (kind.Router all default) trees others has also_has routes also = (same_trees all trees others routes.0 also.0, routes.1 ∙ sym also.1)
+same_routes (kind.Recombine field first mark between most newest source) trees others has also_has routes also = absurd routes
 
 pub one_operator : (spec : OpSpec) (made other : Operator) → IsCompiledTo spec made → IsCompiledTo spec other → made ≡ other
 one_operator spec (conditional condition act drops) (conditional condition' act' drops') is also =

@@ -1,6 +1,13 @@
 pub mod Readings
 pub mod Compiled
+pub mod Compilable
 pub mod Applying
 pub mod States
+pub mod StateTexts
+pub mod Joined
+pub mod PartLemmas
 pub mod Said
 pub mod Parsers
+pub mod Syslog
+pub mod Pairing
+pub mod Recording

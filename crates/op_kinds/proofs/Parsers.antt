@@ -30,14 +30,14 @@ time_kind_is_read Strptime text location (time.Epoch kind) is = absurd is
 time_kind_is_read Epoch text location (time.Layout made) is = absurd is
 time_kind_is_read Epoch text location (time.Epoch kind) is = one_is_read (count text) (λ none. absurd (search (rules, sym none ∙ is)))
 
-stamp_is_read : (spec : Option TimeSpec) (made : Option Stamp) → IsStamp spec made → AreRead (time_readings spec)
+pub stamp_is_read : (spec : Option TimeSpec) (made : Option Stamp) → IsStamp spec made → AreRead (time_readings spec)
 stamp_is_read None made is = λ reading has faulty. has
 stamp_is_read (Some spec) None is = absurd is
 stamp_is_read (Some spec) (Some made) is =
     all_are_read (path spec.parse_from ∷ []) (layout_reading spec.layout_type spec.layout ∷ []) (one_is_read (path spec.parse_from) (λ none. none made.from is.from))
     (time_kind_is_read spec.layout_type spec.layout spec.location made.kind is.kind)
 
-grading_is_read : (spec : Option SeveritySpec) (made : Option Grading) → IsGrading spec made → AreRead (severity_readings spec)
+pub grading_is_read : (spec : Option SeveritySpec) (made : Option Grading) → IsGrading spec made → AreRead (severity_readings spec)
 grading_is_read None made is = λ reading has faulty. has
 grading_is_read (Some spec) None is = absurd is
 grading_is_read (Some spec) (Some made) is = one_is_read (path spec.parse_from) (λ none. none made.from is.from)
@@ -67,31 +67,37 @@ one_time_kind Epoch text location (time.Layout made) other is also = absurd is
 one_time_kind Epoch text location (time.Epoch made) (time.Layout other) is also = absurd also
 one_time_kind Epoch text location (time.Epoch made) (time.Epoch other) is also = let same : made ≡ other = cc (sym is ∙ also) in ap time.Epoch same
 
+pub one_stamp_of : (spec : TimeSpec) (made other : Stamp) → IsStampOf spec made → IsStampOf spec other → made ≡ other
+one_stamp_of spec made other is also =
+    ap (λ p. stamp p made.kind) (one_path spec.parse_from made.from other.from is.from also.from)
+    ∙ ap (stamp other.from) (one_time_kind spec.layout_type spec.layout spec.location made.kind other.kind is.kind also.kind)
+
 one_stamp : (spec : Option TimeSpec) (made other : Option Stamp) → IsStamp spec made → IsStamp spec other → made ≡ other
 one_stamp None None None is also = refl
 one_stamp None None (Some other) is also = absurd also
 one_stamp None (Some made) other is also = absurd is
 one_stamp (Some spec) None other is also = absurd is
 one_stamp (Some spec) (Some made) None is also = absurd also
-one_stamp (Some spec) (Some made) (Some other) is also =
-    ap (λ p. Some (stamp p made.kind)) (one_path spec.parse_from made.from other.from is.from also.from)
-    ∙ ap (λ k. Some (stamp other.from k)) (one_time_kind spec.layout_type spec.layout spec.location made.kind other.kind is.kind also.kind)
+one_stamp (Some spec) (Some made) (Some other) is also = ap (λ (s : Stamp). Some s) (one_stamp_of spec made other is also)
 
 grading_with : Place → Bool → Bool → List Rule → Grading
 grading_with from preset overwrite_text rules = record { from = from; preset = preset; overwrite_text = overwrite_text; rules = rules }
 
-one_grading : (spec : Option SeveritySpec) (made other : Option Grading) → IsGrading spec made → IsGrading spec other → made ≡ other
+pub one_grading_of : (spec : SeveritySpec) (made other : Grading) → IsGradingOf spec made → IsGradingOf spec other → made ≡ other
 unfolding grading_with
+one_grading_of spec made other is also =
+    ap (λ p. grading_with p made.preset made.overwrite_text made.rules) (one_path spec.parse_from made.from other.from is.from also.from)
+    ∙ ap (λ b. grading_with other.from b made.overwrite_text made.rules) (is.preset ∙ sym also.preset)
+    ∙ ap (λ b. grading_with other.from other.preset b made.rules) (is.overwrite_text ∙ sym also.overwrite_text)
+    ∙ ap (grading_with other.from other.preset other.overwrite_text) (is.rules ∙ sym also.rules)
+
+one_grading : (spec : Option SeveritySpec) (made other : Option Grading) → IsGrading spec made → IsGrading spec other → made ≡ other
 one_grading None None None is also = refl
 one_grading None None (Some other) is also = absurd also
 one_grading None (Some made) other is also = absurd is
 one_grading (Some spec) None other is also = absurd is
 one_grading (Some spec) (Some made) None is also = absurd also
-one_grading (Some spec) (Some made) (Some other) is also =
-    ap (λ p. Some (grading_with p made.preset made.overwrite_text made.rules)) (one_path spec.parse_from made.from other.from is.from also.from)
-    ∙ ap (λ b. Some (grading_with other.from b made.overwrite_text made.rules)) (is.preset ∙ sym also.preset)
-    ∙ ap (λ b. Some (grading_with other.from other.preset b made.rules)) (is.overwrite_text ∙ sym also.overwrite_text)
-    ∙ ap (λ r. Some (grading_with other.from other.preset other.overwrite_text r)) (is.rules ∙ sym also.rules)
+one_grading (Some spec) (Some made) (Some other) is also = ap (λ (g : Grading). Some g) (one_grading_of spec made other is also)
 
 pub one_parser : (reader : Reader) (keys : ParserKeys) (made other : Parsing) → IsParser reader keys made → IsParser reader keys other → made ≡ other
 one_parser reader keys made other is also =

@@ -14,7 +14,7 @@ use Rattle.field_paths.specs.declared.path.PathFault.{PathFault}
 use Rattle.field_paths.specs.declared.path.PathFault.TheVariants.{NotAPath, Memory}
 use Rattle.graph_core.specs.Wiring.{Has}
 use Rattle.op_kinds.specs.Causes.{of_path_fault, of_read_fault, of_regex_fault, of_layout_fault}
-use Rattle.op_kinds.specs.Readings.{Reading, path, member, expression, pattern, names, layout, count, IsFaulty, route_reading, cause_of, number, least_of, IsLeastCause, Caused, AreRead, Answers, both}
+use Rattle.op_kinds.specs.Readings.{Reading, path, member, expression, pattern, names, layout, count, IsFaulty, route_reading, cause_of, number, least_of, IsLeastCause, Caused, AreRead, Answers, both, paths_if_any}
 use Rattle.op_kinds.specs.declared.cause.OpCause.{OpCause}
 use Rattle.op_kinds.specs.declared.cause.OpCause.TheVariants as cause
 use Rattle.op_kinds.specs.Parsers.{count_named, IsPattern}
@@ -195,7 +195,7 @@ caused_behind front back found read given some =
     }
 
 -- paths have the least cause
-paths_first : (text : List ℕ) (all : List Reading) (other : Reading) → Has all other → number (cause_of (path text)) ≤ number (cause_of other)
+pub paths_first : (text : List ℕ) (all : List Reading) (other : Reading) → Has all other → number (cause_of (path text)) ≤ number (cause_of other)
 paths_first text all (path other) has = omega arith
 paths_first text all (member other) has = omega arith
 paths_first text all (expression other) has = omega arith
@@ -209,6 +209,17 @@ first_path from to found given = caused_among (path from) (path from ∷ path to
 
 pub second_path : (from to : List ℕ) (found : OpCause) → Caused (path to ∷ []) found → Caused (path from ∷ path to ∷ []) found
 second_path from to found given = caused_among (path to) (path from ∷ path to ∷ []) found (inr (inl refl)) (paths_first to (path from ∷ path to ∷ [])) given
+
+pub field_cause : (field mark : List ℕ) (source : Option (List ℕ)) (found : OpCause) → Caused (path field ∷ []) found → Caused (path field ∷ (paths_if_any source ++ expression mark ∷ [])) found
+field_cause field mark source found given =
+    let all = path field ∷ (paths_if_any source ++ expression mark ∷ []) in
+    caused_among (path field) all found (inl refl) (paths_first field all) given
+
+pub source_cause : (field mark : List ℕ) (source : Option (List ℕ)) (found : OpCause) → Caused (paths_if_any source) found → Caused (path field ∷ (paths_if_any source ++ expression mark ∷ [])) found
+source_cause field mark None found given = λ some. absurd ((given some).among)
+source_cause field mark (Some text) found given =
+    let all = path field ∷ path text ∷ expression mark ∷ [] in
+    caused_among (path text) all found (inr (inl refl)) (paths_first text all) given
 
 pub path_at : (texts : List (List ℕ)) (index : ℕ) (text : List ℕ) (found : OpCause) → index < length texts → slice_index_or texts index text ≡ text → Caused (path text ∷ []) found → Caused (map path texts) found
 path_at texts index text found within at given = caused_among (path text) (map path texts) found (has-at path texts index text within at) (paths_first text (map path texts)) given

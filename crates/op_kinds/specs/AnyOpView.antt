@@ -6,9 +6,9 @@ use Rattle.entry_model.specs.LogRecord.{LogRecord}
 use Rattle.expr_lang.specs.TreeOf.{tree_of}
 use Rattle.op_kinds.specs.Operator as op
 use Rattle.op_kinds.specs.Operator.{Act, Operator}
-use Rattle.op_kinds.specs.ParserView.{parsing_of}
+use Rattle.op_kinds.specs.ParserView.{parsing_of, stamp_of}
 use Rattle.op_kinds.specs.declared.action.Action.{Action}
-use Rattle.op_kinds.specs.declared.action.Action.TheVariants.{Noop, Move, Copy, Add, Remove, Flatten, Retain, Parse, Filter}
+use Rattle.op_kinds.specs.declared.action.Action.TheVariants.{Noop, Container, Move, Copy, Add, Remove, Flatten, Retain, Parse, Time, Severity, Syslog, Filter, Recombine}
 use Rattle.op_kinds.specs.declared.action.Fate.{Fate}
 use Rattle.op_kinds.specs.declared.action.Fate.TheVariants.{Sent, Dropped, Faulty}
 use Rattle.op_kinds.specs.declared.row.RowFault.{RowFault}
@@ -18,6 +18,7 @@ use Rattle.op_kinds.specs.declared.any_op.Form.TheVariants.{Conditional, Router}
 
 abbrev pub act_of : Action → Act
 act_of Noop = op.noop
+act_of (Container made) = op.container made.op.format made.op.by_path
 act_of (Move made) = op.move made.from made.to
 act_of (Copy made) = op.copy made.from made.to
 act_of (Add made) = op.add made.field (datum made.value)
@@ -25,7 +26,11 @@ act_of (Remove made) = op.remove made.field
 act_of (Flatten made) = op.flatten made.parent made.name
 act_of (Retain made) = op.retain made.fields.items
 act_of (Parse made) = op.parse (parsing_of made)
+act_of (Time made) = op.stamp (stamp_of made)
+act_of (Severity made) = op.grade made
+act_of (Syslog made) = op.syslog made.protocol made.from made.to
 act_of (Filter expr) = op.filter (tree_of expr)
+act_of (Recombine made) = op.recombine made.recombine (tree_of made.mark) made.source
 
 abbrev pub form_of : Form → Operator
 form_of (Conditional made) = op.conditional (option_map tree_of made.condition) (act_of made.action) made.drops_faulty

@@ -2,6 +2,8 @@
 use Rattle.std.specs.Prelude.{Result, Ok, Err}
 use Rattle.field_ops.specs.declared.fault.FieldFault.{FieldFault}
 use Rattle.field_ops.specs.declared.fault.FieldFault.TheVariants as field
+use Rattle.syslog_parser.specs.declared.fault.SyslogFault.{SyslogFault}
+use Rattle.syslog_parser.specs.declared.fault.SyslogFault.TheVariants as syslog
 use Rattle.text_parsers.specs.declared.fault.ParseFault.{ParseFault}
 use Rattle.text_parsers.specs.declared.fault.ParseFault.TheVariants as parse
 use Rattle.time_severity.specs.declared.fault.StampFault.{StampFault}
@@ -26,6 +28,14 @@ of_parse_fault (parse.Syntax at) = Faulty
 of_parse_fault (parse.FieldCount want got) = Faulty
 of_parse_fault (parse.NoDelimiter at) = Faulty
 of_parse_fault parse.Memory = Memory
+
+abbrev pub of_syslog_fault : SyslogFault → RowFault
+of_syslog_fault syslog.Pri = Faulty
+of_syslog_fault syslog.Version = Faulty
+of_syslog_fault syslog.Time = Faulty
+of_syslog_fault (syslog.Header at) = Faulty
+of_syslog_fault (syslog.Structured at) = Faulty
+of_syslog_fault syslog.Memory = Memory
 
 abbrev pub of_stamp_fault : StampFault → RowFault
 of_stamp_fault stamp.Missing = Faulty

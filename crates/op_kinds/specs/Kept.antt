@@ -1,11 +1,9 @@
 -- What an operator keeps from one entry of a file to the next, wherever it lies in memory.
-use Rattle.std.specs.Prelude.{◌≡◌, ◌⊎◌, ℕ, List, [], ◌∷◌, Bool, true, false, if◌then◌else◌, refl}
-use Rattle.std.specs.Coded.{Coded, code_by, coded_ℕ, coded_list, coded×, coded⊎}
+use Rattle.std.specs.Prelude.{◌≡◌, ◌⊎◌, List, [], ◌∷◌, Bool, true, false, if◌then◌else◌, refl}
+use Rattle.std.specs.Coded.{Coded, code_by, coded⊎}
 use base.Stored.{coded_unit}
 use mathlib.Core.Logic.{inl, inr}
-use Rattle.entry_model.specs.Code.{record_code}
-use Rattle.entry_model.specs.LogRecord.{LogRecord}
-use Rattle.op_kinds.specs.declared.group.Group.{Group}
+use Rattle.recombine.specs.Group.{Group, groups_code}
 
 -- nothing, or the open groups in the order in which they were opened
 pub data Kept : Type 0 where
@@ -33,14 +31,12 @@ is_fresh kept = are_none (open_groups kept)
 abbrev pub fresh_kept : Bool → Kept
 fresh_kept holds_groups = if holds_groups then groups [] else nothing
 
--- ---- what tells them apart in a proof
+-- these groups are open from now on; where nothing is kept, nothing is
+abbrev pub with_groups : Kept → List Group → Kept
+with_groups nothing open_now = nothing
+with_groups (groups before) open_now = groups open_now
 
-abbrev pub group_code : Coded Group
-group_code = code_by (List ℕ × (ℕ × (List ℕ × LogRecord)))
-    (coded× (coded_list coded_ℕ) (coded× coded_ℕ (coded× (coded_list coded_ℕ) record_code)))
-    (λ g. (g.source, (g.entries, (g.text, g.base))))
-    (λ p. record { source = p.0; entries = p.1.0; text = p.1.1.0; base = p.1.1.1 })
-    (λ _. refl)
+-- ---- what tells them apart in a proof
 
 abbrev pub Cases : Type 0
 Cases = Unit {0} ⊎ List Group
@@ -58,4 +54,4 @@ cases_back nothing = refl
 cases_back (groups open_now) = refl
 
 abbrev pub kept_code : Coded Kept
-kept_code = code_by Cases (coded⊎ coded_unit (coded_list group_code)) cases of_cases cases_back
+kept_code = code_by Cases (coded⊎ coded_unit groups_code) cases of_cases cases_back

@@ -1,8 +1,11 @@
 pub mod Said
 pub mod Parsing
 pub mod Parsers
+pub mod Syslog
 pub mod Kept
 pub mod StateView
+pub mod Grouping
+pub mod Containers
 pub mod Operator
 pub mod Ports
 pub mod Faults
@@ -14,7 +17,10 @@ pub mod PlaceCode
 pub mod TreeCode
 pub mod ParsingCode
 pub mod Code
+pub mod Compilable
 pub mod Compiled
 pub mod Causes
 pub mod Readings
 pub mod States
+pub mod Flat
+pub mod StateTexts

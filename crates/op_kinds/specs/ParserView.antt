@@ -3,9 +3,9 @@ use Rattle.std.specs.Prelude.{option_map}
 use Rattle.field_paths.specs.PathText.{IsPathText}
 use Rattle.op_kinds.specs.Parsers.{IsStamp, IsGrading}
 use Rattle.op_kinds.specs.Parsing.{Stamp, Parsing}
-use Rattle.op_kinds.specs.Said.{Reader, by_pattern, as_json}
+use Rattle.op_kinds.specs.Said.{Reader, by_pattern, as_json, as_record, as_pairs}
 use Rattle.op_kinds.specs.declared.parser.Parser.{Parser}
-use Rattle.op_kinds.specs.declared.parser.Parser.TheVariants.{Regex, Json}
+use Rattle.op_kinds.specs.declared.parser.Parser.TheVariants.{Regex, Json, Csv, KeyValue}
 use Rattle.op_kinds.specs.declared.parsing.Keys.{Keys}
 use Rattle.op_kinds.specs.declared.parsing.Parse.{Parse}
 use Rattle.settings_text.specs.declared.parsing.ParserKeys.{ParserKeys}
@@ -14,6 +14,8 @@ use Rattle.time_severity.specs.declared.time_op.TimeOp.{TimeOp}
 abbrev pub reader_of : Parser → Reader
 reader_of (Regex op) = by_pattern op
 reader_of (Json op) = as_json
+reader_of (Csv op) = as_record op
+reader_of (KeyValue pairs) = as_pairs pairs.op
 
 abbrev pub stamp_of : TimeOp → Stamp
 stamp_of op = record { from = op.from; kind = op.kind }

@@ -5,6 +5,8 @@ use Rattle.std.specs.Prelude.{codes}
 use Rattle.field_paths.specs.PathText.{IsPathText}
 use Rattle.op_kinds.specs.Parsing.{Stamp, Parsing}
 use Rattle.op_kinds.specs.Said.{Reader}
+use Rattle.op_kinds.specs.declared.types.syslog_parsing.Protocol.{Protocol}
+use Rattle.op_kinds.specs.declared.types.syslog_parsing.Protocol.TheVariants.{Rfc5424, Rfc3164}
 use Rattle.settings_text.specs.Rules as settings
 use Rattle.settings_text.specs.declared.mapping.MapWant.{MapWant}
 use Rattle.settings_text.specs.declared.mapping.MapWant.TheVariants as wanted
@@ -13,6 +15,8 @@ use Rattle.settings_text.specs.declared.parsing.LayoutType.TheVariants.{Strptime
 use Rattle.settings_text.specs.declared.parsing.ParserKeys.{ParserKeys}
 use Rattle.settings_text.specs.declared.parsing.SeveritySpec.{SeveritySpec}
 use Rattle.settings_text.specs.declared.parsing.TimeSpec.{TimeSpec}
+use Rattle.text_parsers.specs.CsvRecords.{Columns, parts_of}
+use Rattle.text_parsers.specs.Pairs.{Delimiters}
 use Rattle.text_parsers.specs.Groups.{named_groups, names_in, is_shallow, reading}
 use Rattle.time_layout.specs.LayoutText.{layout_parts}
 use Rattle.time_layout.specs.Meaning.{Meaning}
@@ -29,6 +33,14 @@ use Rattle.time_severity.specs.declared.time_op.TimeKind.TheVariants as time
 pub record IsPattern (text : List ℕ) : Type 0 where
   pub read : is_shallow (reading text) ≡ true
   pub named : named_groups (names_in (reading text)) ≢ []
+
+-- the names of a header, and what parts them
+abbrev pub columns_of : ℕ → List ℕ → Columns
+columns_of delimiter header = record { names = parts_of delimiter header; delimiter = delimiter }
+
+-- what parts a key from its value, and what parts pairs
+abbrev pub delimiters_of : List ℕ → Option (List ℕ) → Delimiters
+delimiters_of within between = record { within = Some within; between = between }
 
 -- ---- times
 
@@ -85,6 +97,13 @@ IsGrading None None = ⊤
 IsGrading None (Some grading) = ⊥
 IsGrading (Some spec) None = ⊥
 IsGrading (Some spec) (Some grading) = IsGradingOf spec grading
+
+-- ---- syslog
+
+-- a year that is given is that of RFC 3164
+abbrev pub protocol_of : Option ℕ → ℤ → Protocol
+protocol_of None location = Rfc5424
+protocol_of (Some year) location = Rfc3164 year location
 
 -- ---- the whole
 

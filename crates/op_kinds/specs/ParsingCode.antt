@@ -6,7 +6,10 @@ use mathlib.Core.Logic.{inl, inr}
 use Rattle.field_paths.specs.Place.{Place}
 use Rattle.op_kinds.specs.Parsing.{Stamp, Parsing}
 use Rattle.op_kinds.specs.PlaceCode.{place_code}
-use Rattle.op_kinds.specs.Said.{Reader, by_pattern, as_json}
+use Rattle.op_kinds.specs.Said.{Reader, by_pattern, as_json, as_record, as_pairs}
+use Rattle.text_parsers.specs.CsvRecords.{Columns}
+use Rattle.text_parsers.specs.Cuts.{Delimiter}
+use Rattle.text_parsers.specs.Pairs.{Delimiters}
 use Rattle.time_severity.specs.Gradings.{Grading}
 use Rattle.time_severity.specs.Rules.{Rule}
 use Rattle.time_severity.specs.contracts.rule.Want as want
@@ -14,20 +17,35 @@ use Rattle.time_severity.specs.contracts.time_op.TimeKind as time_kind
 use Rattle.time_severity.specs.declared.rule.Want.{Want}
 use Rattle.time_severity.specs.declared.time_op.TimeKind.{TimeKind}
 
-abbrev pub reader_case : Reader → List ℕ ⊎ Unit {0}
-reader_case (by_pattern pattern) = inl pattern
-reader_case as_json = inr tt
+abbrev pub Readers : Type 0
+Readers = (List ℕ ⊎ Unit {0}) ⊎ (Columns ⊎ Delimiters)
 
-abbrev pub reader : List ℕ ⊎ Unit {0} → Reader
-reader (inl pattern) = by_pattern pattern
-reader (inr _) = as_json
+abbrev pub reader_case : Reader → Readers
+reader_case (by_pattern pattern) = inl (inl pattern)
+reader_case as_json = inl (inr tt)
+reader_case (as_record columns) = inr (inl columns)
+reader_case (as_pairs delimiters) = inr (inr delimiters)
+
+abbrev pub reader : Readers → Reader
+reader (inl (inl pattern)) = by_pattern pattern
+reader (inl (inr _)) = as_json
+reader (inr (inl columns)) = as_record columns
+reader (inr (inr delimiters)) = as_pairs delimiters
 
 pub reader_back : (r : Reader) → reader (reader_case r) ≡ r
 reader_back (by_pattern pattern) = refl
 reader_back as_json = refl
+reader_back (as_record columns) = refl
+reader_back (as_pairs delimiters) = refl
+
+abbrev pub columns_code : Coded Columns
+columns_code = code_by (List (List ℕ) × ℕ) (coded× (coded_list (coded_list coded_ℕ)) coded_ℕ) (λ c. (c.names, c.delimiter)) (λ p. record { names = p.0; delimiter = p.1 }) (λ _. refl)
+
+abbrev pub delimiters_code : Coded Delimiters
+delimiters_code = code_by (Delimiter × Delimiter) (coded× (coded_option (coded_list coded_ℕ)) (coded_option (coded_list coded_ℕ))) (λ d. (d.within, d.between)) (λ p. record { within = p.0; between = p.1 }) (λ _. refl)
 
 abbrev pub reader_code : Coded Reader
-reader_code = code_by (List ℕ ⊎ Unit {0}) (coded⊎ (coded_list coded_ℕ) coded_unit) reader_case reader reader_back
+reader_code = code_by Readers (coded⊎ (coded⊎ (coded_list coded_ℕ) coded_unit) (coded⊎ columns_code delimiters_code)) reader_case reader reader_back
 
 abbrev pub stamp_code : Coded Stamp
 stamp_code = code_by (Place × TimeKind) (coded× place_code time_kind.the_row.coded) (λ s. (s.from, s.kind)) (λ p. record { from = p.0; kind = p.1 }) (λ _. refl)

@@ -78,8 +78,13 @@ severity_readings (Some spec) = path spec.parse_from ∷ []
 abbrev pub parser_readings : ParserKeys → List Reading
 parser_readings keys = path keys.parse_from ∷ path keys.parse_to ∷ (time_readings keys.timestamp ++ severity_readings keys.severity)
 
+abbrev pub paths_if_any : Option (List ℕ) → List Reading
+paths_if_any None = []
+paths_if_any (Some text) = path text ∷ []
+
 abbrev pub own_readings : OpKind → List Reading
 own_readings kind.Noop = []
+own_readings (kind.Container format by_path) = []
 own_readings (kind.Move from to) = path from ∷ path to ∷ []
 own_readings (kind.Copy from to) = path from ∷ path to ∷ []
 own_readings (kind.Add field value) = path field ∷ []
@@ -88,8 +93,14 @@ own_readings (kind.Flatten field) = member field ∷ []
 own_readings (kind.Retain fields) = map path fields
 own_readings (kind.Filter expr) = expression expr ∷ []
 own_readings (kind.Json parser) = parser_readings parser
+own_readings (kind.Csv delimiter header parser) = parser_readings parser
+own_readings (kind.KeyValue delimiter pair_delimiter parser) = parser_readings parser
 own_readings (kind.Regex regex parser) = pattern regex ∷ names regex ∷ parser_readings parser
+own_readings (kind.Time time) = time_readings (Some time)
+own_readings (kind.Severity severity) = severity_readings (Some severity)
+own_readings (kind.Syslog year location parser) = path parser.parse_from ∷ path parser.parse_to ∷ []
 own_readings (kind.Router routes default) = map route_reading routes
+own_readings (kind.Recombine field first mark between most newest source) = path field ∷ (paths_if_any source ++ expression mark ∷ [])
 
 abbrev pub condition_readings : Option (List ℕ) → List Reading
 condition_readings None = []

@@ -5,4 +5,4 @@ use Rattle.op_kinds.specs.declared.state.Form.TheVariants.{Nothing, Groups}
 
 abbrev pub kept_of : Form → Kept
 kept_of Nothing = nothing
-kept_of (Groups open_now) = groups open_now.items
+kept_of (Groups open_now) = groups open_now

@@ -1,24 +1,31 @@
 // What operators with one output do with an entry.
-ghost use Rattle.std.specs.Prelude.{◌≡◌, IfOk};
+ghost use Rattle.std.specs.Prelude.{◌≡◌, ◌++◌, IfOk, OnOk, option_map};
 ghost use Rattle.entry_model.specs.LogRecord.{log_record};
 ghost use Rattle.op_kinds.specs.AnyOpView.{act_of, entries_by, fate_from};
 ghost use Rattle.op_kinds.specs.Applied.{IsApplied, effect};
 ghost use Rattle.op_kinds.specs.Operator as operator;
-ghost use Rattle.op_kinds.specs.Operator.{done, row};
+ghost use Rattle.op_kinds.specs.Kept.{Kept, open_groups};
+ghost use Rattle.op_kinds.specs.Operator.{done, joined, with_groups, sending, closing, on_one_port, row};
 
 use crate::parsing::Parse;
-use crate::row::{RowFault, in_row};
+use crate::row::{RowFault, in_row, stamped};
+use crate::types::container_reading::Container;
 use crate::types::filtering;
-use crate::{OpState, Record};
+use crate::types::recombining::Join;
+use crate::types::syslog_parsing::SyslogOp;
+use crate::{OpState, Record, joining};
 use entry_model::Entry;
 use expr_lang::Expr;
 use field_ops::{Add, Copy, Flatten, Move, Remove, Retain};
 use std::alloc::{AllocError, Global};
+use time_severity::{SeverityOp, TimeOp};
 
 /// What an operator with one output does with an entry.
 #[derive(Drop)]
 pub(crate) enum Action {
     Noop,
+    /// Lines of containers are read, and their parts joined.
+    Container(Container),
     Move(Move),
     Copy(Copy),
     Add(Add),
@@ -26,8 +33,13 @@ pub(crate) enum Action {
     Flatten(Flatten),
     Retain(Retain),
     Parse(Parse),
+    Time(TimeOp),
+    Severity(SeverityOp),
+    Syslog(SyslogOp),
     /// An entry for which the expression is true is dropped.
     Filter(Expr),
+    /// Entries are joined.
+    Recombine(Join),
 }
 
 /// What becomes of an entry that is changed in place.
@@ -53,7 +65,7 @@ impl Action {
     pub(crate) fn holds_groups(&self) -> bool
         ensures { result ≡ operator.holds_groups (act_of self.now) }
     {
-        false
+        matches!(self, Action::Container(_) | Action::Recombine(_))
     }
 
     /// Does it: puts out what comes of the entry on the one port, and changes what is kept.
@@ -66,7 +78,41 @@ impl Action {
     ) -> Result<Applied, AllocError>
         ensures { IfOk result (IsApplied (done (act_of self.now) state.old item) item (effect state.old state.new out.old.items out.new.items)) }
     {
-        let _kept = state;
+        if self.holds_groups() {
+            self.apply_joined(alloc, state, item, out)
+        } else {
+            self.apply_row(alloc, item, out)
+        }
+    }
+
+    /// Does it with groups.
+    fn apply_joined(
+        &self,
+        alloc: Global,
+        state: &mut OpState,
+        item: Record,
+        out: &mut Vec<(u16, Record)>,
+    ) -> Result<Applied, AllocError>
+        ensures { IfOk result (IsApplied (option_map with_groups (joined (act_of self.now) (open_groups state.old) item)) item
+            (effect state.old state.new out.old.items out.new.items)) }
+    {
+        match self {
+            Action::Container(op) => op.apply(alloc, state, item, out),
+            Action::Recombine(op) => op.apply(alloc, state, item, out),
+            _ => Ok(Applied::Faulty(item)),
+        }
+    }
+
+    /// Does it without groups.
+    fn apply_row(
+        &self,
+        alloc: Global,
+        item: Record,
+        out: &mut Vec<(u16, Record)>,
+    ) -> Result<Applied, AllocError>
+        ensures { IfOk result (λ applied. (state : Kept) → IsApplied (option_map (sending state) (row (act_of self.now) item)) item
+            (effect state state out.old.items out.new.items) applied) }
+    {
         let mut item = item;
         match self.change(alloc, &mut item.entry)? {
             Fate::Sent => {
@@ -78,6 +124,22 @@ impl Action {
         }
     }
 
+    /// Ends all open groups, and puts out what they make.
+    pub(crate) fn close(
+        &self,
+        alloc: Global,
+        state: &mut OpState,
+        out: &mut Vec<(u16, Record)>,
+    ) -> Result<(), AllocError>
+        ensures { OnOk result (out.new.items ≡ out.old.items ++ on_one_port (closing (act_of self.now) state.old)) }
+    {
+        match self {
+            Action::Container(op) => joining::close(alloc, &op.parts, state, out),
+            Action::Recombine(op) => joining::close(alloc, &op.recombine, state, out),
+            _ => Ok(()),
+        }
+    }
+
     // The row of a type without groups, which changes the entry in place.
     fn change(&self, alloc: Global, entry: &mut Entry) -> Result<Fate, AllocError>
         ensures made { IfOk result (λ fate. entries_by fate (log_record entry.new) ≡ row (act_of self.now) (log_record entry.old)) }
@@ -85,6 +147,8 @@ impl Action {
     {
         match self {
             Action::Noop => Ok(Fate::Sent),
+            // These are done with groups.
+            Action::Container(_) | Action::Recombine(_) => Ok(Fate::Faulty),
             Action::Move(op) => after(in_row(op.apply(alloc, entry))),
             Action::Copy(op) => after(in_row(op.apply(alloc, entry))),
             Action::Add(op) => after(in_row(op.apply(alloc, entry))),
@@ -92,6 +156,9 @@ impl Action {
             Action::Flatten(op) => after(in_row(op.apply(alloc, entry))),
             Action::Retain(op) => after(in_row(op.apply(alloc, entry))),
             Action::Parse(op) => after(op.apply(alloc, entry)),
+            Action::Time(op) => after(stamped(op.apply(alloc, entry))),
+            Action::Severity(op) => after(stamped(op.apply(alloc, entry))),
+            Action::Syslog(op) => after(op.apply(alloc, entry)),
             Action::Filter(expr) => filtering::apply(alloc, expr, entry),
         }
     }

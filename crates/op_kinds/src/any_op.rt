@@ -18,9 +18,14 @@ pub(crate) enum Form {
 }
 
 /// An operator of any type.
-#[derive(Drop)]
 pub struct AnyOp {
     pub(crate) form: Form,
+}
+
+impl Drop for AnyOp {
+    fn drop(self) {
+        let AnyOp { form: _form } = self;
+    }
 }
 
 impl Model for AnyOp {
@@ -105,8 +110,11 @@ impl Step for AnyOp {
         &self,
         alloc: Global,
         state: &mut OpState,
-        _out: &mut Vec<(u16, Record)>,
+        out: &mut Vec<(u16, Record)>,
     ) -> Result<(), AllocError> {
+        if let Form::Conditional(op) = &self.form {
+            op.action.close(alloc, state, out)?;
+        }
         *state = fresh_state(alloc, self);
         Ok(())
     }

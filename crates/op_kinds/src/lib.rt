@@ -15,8 +15,11 @@ mod cause;
 mod compiling;
 mod condition;
 mod conditional;
-mod group;
+#[cfg(test)]
+mod group_tests;
+mod joining;
 pub mod laws;
+mod pairs;
 mod parser;
 mod parser_keys;
 mod parsing;
@@ -27,13 +30,14 @@ mod row;
 mod saving;
 mod state;
 #[cfg(test)]
+mod syslog_tests;
+#[cfg(test)]
 mod tests;
 mod types;
 
 pub use any_op::{AnyOp, fresh_state};
 pub use cause::OpCause;
 pub use compiling::compile;
-pub use group::Group;
 pub use record::Record;
 pub use saving::{restore_state, save_state};
 pub use state::{OpState, is_fresh};

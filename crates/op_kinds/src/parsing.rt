@@ -3,18 +3,17 @@ ghost use Rattle.std.specs.Prelude.{◌≡◌, ◌≢◌, IfOk, IfErr, OnOk, OnE
 ghost use Rattle.entry_model.specs.LogRecord.{log_record};
 ghost use Rattle.field_paths.specs.MapOf.{members_seen};
 ghost use Rattle.field_paths.specs.ValueAt.{datum_at};
-ghost use Rattle.op_kinds.specs.Faults as faults;
 ghost use Rattle.op_kinds.specs.ParserView.{parsing_of, reader_of};
 ghost use Rattle.op_kinds.specs.Parsing.{parsed, said_at, with_said};
 ghost use Rattle.op_kinds.specs.declared.row.RowFault.TheVariants.{Memory};
 
 use crate::parser::Parser;
-use crate::row::{RowFault, in_row};
+use crate::row::{RowFault, in_row, stamped};
 use entry_model::{Entry, Fields};
 use field_ops::put_members;
 use field_paths::FieldPath;
 use std::alloc::Global;
-use time_severity::{SeverityOp, StampFault, TimeOp};
+use time_severity::{SeverityOp, TimeOp};
 
 /// Where a parser reads and writes, and what it stamps entries with.
 #[derive(Drop)]
@@ -109,14 +108,5 @@ impl Keys {
             stamped(op.apply(alloc, entry))?;
         }
         Ok(())
-    }
-}
-
-fn stamped(applied: Result<(), StampFault>) -> Result<(), RowFault>
-    ensures { result ≡ faults.stamped applied }
-{
-    match applied {
-        Ok(()) => Ok(()),
-        Err(fault) => Err(RowFault::from(fault)),
     }
 }

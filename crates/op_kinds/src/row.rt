@@ -4,6 +4,7 @@ ghost use Rattle.op_kinds.specs.Faults as faults;
 
 use field_ops::FieldFault;
 use std::alloc::AllocError;
+use syslog_parser::SyslogFault;
 use text_parsers::ParseFault;
 use time_severity::StampFault;
 
@@ -58,6 +59,24 @@ impl From<ParseFault> for RowFault {
     }
 }
 
+impl From<SyslogFault> for RowFault {
+    ghost use Rattle.std.specs.Prelude.{◌≡◌};
+    ghost use Rattle.op_kinds.specs.Faults.{of_syslog_fault};
+
+    ghost from_gives = { λ given fault. fault ≡ of_syslog_fault given };
+
+    fn from(given: SyslogFault) -> RowFault {
+        match given {
+            SyslogFault::Pri
+            | SyslogFault::Version
+            | SyslogFault::Time
+            | SyslogFault::Header { .. }
+            | SyslogFault::Structured { .. } => RowFault::Faulty,
+            SyslogFault::Memory => RowFault::Memory,
+        }
+    }
+}
+
 impl From<StampFault> for RowFault {
     ghost use Rattle.std.specs.Prelude.{◌≡◌};
     ghost use Rattle.op_kinds.specs.Faults.{of_stamp_fault};
@@ -74,6 +93,16 @@ impl From<StampFault> for RowFault {
 
 pub(crate) fn in_row(applied: Result<(), FieldFault>) -> Result<(), RowFault>
     ensures { result ≡ faults.in_row applied }
+{
+    match applied {
+        Ok(()) => Ok(()),
+        Err(fault) => Err(RowFault::from(fault)),
+    }
+}
+
+/// A row of an operator that stamps entries.
+pub(crate) fn stamped(applied: Result<(), StampFault>) -> Result<(), RowFault>
+    ensures { result ≡ faults.stamped applied }
 {
     match applied {
         Ok(()) => Ok(()),

@@ -1,25 +1,29 @@
 // What operators keep, as bytes and back.
-ghost use Rattle.std.specs.Prelude.{◌≡◌, ◌++◌, map, OnOk, IfOk, IfErr};
-ghost use Rattle.op_kinds.specs.Kept.{fresh_kept};
-ghost use Rattle.op_kinds.specs.Operator.{has_groups};
-ghost use Rattle.op_kinds.specs.States.{states_spelling, HoldNoGroups, Spell, IsRefused};
+ghost use Rattle.std.specs.Prelude.{◌≡◌, ◌≤◌, ◌++◌, length, OnOk, IfOk, IfErr};
+ghost use Rattle.op_kinds.specs.States.{states_spelling, HaveSpellings, Spell, IsRefused, kept_at};
+ghost use Rattle.recombine.specs.Told.{Finds};
 
-use crate::{AnyOp, OpState, fresh_state};
+use crate::{AnyOp, OpState};
 use graph_core::NodeSpec;
+use recombine::restore;
 use state_codec::CodecFault;
 use std::alloc::{AllocError, Global};
 
-/// Appends what the operators keep, in their order: the bytes that [`restore_state`] reads. No type of operators holds
-/// groups, and what keeps nothing is spelled by no bytes.
-pub fn save_state(_alloc: Global, _states: &[OpState], _out: &mut Vec<u8>) -> Result<(), AllocError>
-    requires { HoldNoGroups _states.now }
-    ensures { OnOk result (_out.new.items ≡ _out.old.items ++ states_spelling _states.now) }
+/// Appends what the operators keep, in their order: the bytes that [`restore_state`] reads. A text of 2^32 bytes or more
+/// finds no memory.
+pub fn save_state(alloc: Global, states: &[OpState], out: &mut Vec<u8>) -> Result<(), AllocError>
+    ensures ok { OnOk result (out.new.items ≡ out.old.items ++ states_spelling states.now) }
+    ensures lawful { OnOk result (HaveSpellings states.now) }
 {
+    for state in states {
+        state.save(alloc, out)?;
+    }
     Ok(())
 }
 
-/// What these operators kept, of the bytes that spell it, all of them. Malformed at the first byte with which no spelling
-/// of what they keep goes on, also where bytes are left over, or at the end where more is missing.
+/// What these operators kept, of the bytes that spell it, all of them. Malformed at the first byte, number or text with which
+/// no spelling of what they keep goes on, also where bytes are left over, or at the end where more is missing: as
+/// [`recombine::restore`] tells it of the groups of each operator in turn.
 pub fn restore_state(
     alloc: Global,
     nodes: &[NodeSpec<AnyOp>],
@@ -28,21 +32,34 @@ pub fn restore_state(
     ensures ok { IfOk result (λ states. Spell nodes.now bytes.now states.items) }
     ensures fault { IfErr result (IsRefused nodes.now bytes.now) }
 {
-    if !bytes.is_empty() {
-        return Err(CodecFault::Malformed { at: 0 });
-    }
-    match fresh_states(alloc, nodes) {
-        Ok(states) => Ok(states),
-        Err(AllocError) => Err(CodecFault::Memory),
-    }
-}
-
-fn fresh_states(alloc: Global, nodes: &[NodeSpec<AnyOp>]) -> Result<Vec<OpState>, AllocError>
-    ensures { IfOk result (λ states. states.items ≡ map (λ node. fresh_kept (has_groups node.op)) nodes.now) }
-{
     let mut states = Vec::new(alloc);
+    let mut at = 0;
     for node in nodes {
-        states.push(fresh_state(alloc, &node.op))?;
+        let (state, next) = restored(alloc, node.op.has_groups(), bytes, at)?;
+        if states.push(state).is_err() {
+            return Err(CodecFault::Memory);
+        }
+        at = next;
+    }
+    if at < bytes.len() {
+        return Err(CodecFault::Malformed { at });
     }
     Ok(states)
+}
+
+/// What an operator keeps that holds groups, or another, at a place, and the place behind it.
+fn restored(
+    alloc: Global,
+    holds_groups: bool,
+    bytes: &[u8],
+    at: usize,
+) -> Result<(OpState, usize), CodecFault>
+    requires { at ≤ length bytes.now }
+    ensures { Finds (λ state. state) (kept_at holds_groups) bytes.now at result }
+{
+    if !holds_groups {
+        return Ok((OpState::nothing(), at));
+    }
+    let (groups, next) = restore(alloc, bytes, at)?;
+    Ok((OpState::with_groups(groups), next))
 }

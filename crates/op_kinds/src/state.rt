@@ -1,15 +1,18 @@
 // What an operator keeps from one entry to the next.
-ghost use Rattle.std.specs.Prelude.{◌≡◌};
-ghost use Rattle.op_kinds.specs.Kept.{nothing, groups, open_groups, keeps_groups, is_fresh, fresh_kept};
+ghost use Rattle.std.specs.Prelude.{◌≡◌, ◌++◌, OnOk};
+ghost use Rattle.op_kinds.specs.Kept as kept;
+ghost use Rattle.op_kinds.specs.Kept.{nothing, open_groups, keeps_groups, is_fresh, fresh_kept};
+ghost use Rattle.op_kinds.specs.States.{kept_spelling, HasSpelling};
 
-use crate::Group;
-use std::alloc::Global;
+use recombine::{Groups, save};
+use std::alloc::{AllocError, Global};
 use std::marker::Model;
+use std::mem;
 
 #[derive(Drop)]
 enum Form {
     Nothing,
-    Groups(Vec<Group>),
+    Groups(Groups),
 }
 
 /// What an operator keeps from one entry of a file to the next: nothing, or the open groups. Contracts see it as what it
@@ -41,9 +44,9 @@ impl OpState {
         }
     }
 
-    /// The state of an operator that holds these groups, in the order in which they were opened.
-    pub fn with_groups(opened: Vec<Group>) -> OpState
-        ensures { result ≡ groups opened.items }
+    /// The state of an operator that holds these groups.
+    pub fn with_groups(opened: Groups) -> OpState
+        ensures { result ≡ kept.groups opened }
     {
         OpState {
             form: Form::Groups(opened),
@@ -55,7 +58,7 @@ impl OpState {
         ensures { result ≡ fresh_kept holds_groups }
     {
         if holds_groups {
-            OpState::with_groups(Vec::new(alloc))
+            OpState::with_groups(Groups::new(alloc))
         } else {
             OpState::nothing()
         }
@@ -71,26 +74,39 @@ impl OpState {
         }
     }
 
-    /// The open groups, in the order in which they were opened; none where nothing is kept.
-    pub fn groups(&self) -> &[Group]
-        ensures { result.now ≡ open_groups self.now }
+    /// The open groups, of which none is left.
+    pub(crate) fn take_groups(&mut self, alloc: Global) -> Groups
+        ensures taken { result ≡ open_groups self.old }
+        ensures left { self.new ≡ fresh_kept (keeps_groups self.old) }
     {
-        match &self.form {
-            Form::Nothing => &[],
+        let holds_groups = self.keeps_groups();
+        let old = mem::replace(self, OpState::fresh(alloc, holds_groups));
+        match old.form {
+            Form::Nothing => Groups::new(alloc),
             Form::Groups(opened) => opened,
         }
     }
 
-    /// The open groups, of which none is left.
-    pub fn take_groups(&mut self, alloc: Global) -> Vec<Group>
-        ensures taken { result.items ≡ open_groups self.old }
-        ensures left { self.new ≡ fresh_kept (keeps_groups self.old) }
+    /// Holds these groups from now on, where it is the state of an operator that holds some.
+    pub(crate) fn put_groups(&mut self, opened: Groups)
+        ensures { self.new ≡ kept.with_groups self.old opened }
     {
-        let holds_groups = self.keeps_groups();
-        let old = std::mem::replace(self, OpState::fresh(alloc, holds_groups));
-        match old.form {
-            Form::Nothing => Vec::new(alloc),
-            Form::Groups(opened) => opened,
+        if self.keeps_groups() {
+            *self = OpState::with_groups(opened);
+        }
+    }
+
+    /// Appends the bytes that spell it.
+    pub(crate) fn save(&self, alloc: Global, out: &mut Vec<u8>) -> Result<(), AllocError>
+        ensures ok { OnOk result (out.new.items ≡ out.old.items ++ kept_spelling self.now) }
+        ensures lawful { OnOk result (HasSpelling self.now) }
+    {
+        match &self.form {
+            Form::Nothing => Ok(()),
+            Form::Groups(opened) => {
+                save(alloc, opened, out)?;
+                Ok(())
+            }
         }
     }
 }
@@ -99,5 +115,8 @@ impl OpState {
 pub fn is_fresh(state: &OpState) -> bool
     ensures { result ≡ is_fresh state.now }
 {
-    state.groups().is_empty()
+    match &state.form {
+        Form::Nothing => true,
+        Form::Groups(opened) => opened.is_empty(),
+    }
 }

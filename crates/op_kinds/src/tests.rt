@@ -1,6 +1,6 @@
 // Operators made of settings that are written by hand.
-ghost use Rattle.std.specs.Prelude.{◌≤◌, IsTrue};
-ghost use Rattle.settings_text.specs.Limits.{route_count};
+ghost use Rattle.std.specs.Prelude.{IsTrue};
+ghost use Rattle.op_kinds.specs.Compilable.{IsCompilable};
 
 use crate::{AnyOp, OpCause, OpState, Record, compile, is_fresh, restore_state, save_state};
 use entry_model::{Entry, Text};
@@ -12,13 +12,13 @@ use std::test::Fail;
 
 // Kinds, settings and operators are held in lists, each of which is dropped by one call, whatever is in it.
 
-fn listed(alloc: Global, kind: OpKind) -> Result<Vec<OpKind>, AllocError> {
+pub fn listed(alloc: Global, kind: OpKind) -> Result<Vec<OpKind>, AllocError> {
     let mut kinds = Vec::new(alloc);
     kinds.push(kind)?;
     Ok(kinds)
 }
 
-fn spec(
+pub fn spec(
     alloc: Global,
     condition: Option<&str>,
     on_error: OnError,
@@ -84,20 +84,28 @@ fn router(alloc: Global, exprs: &[&str], has_default: bool) -> Result<Vec<OpKind
     listed(alloc, OpKind::Router { routes, default })
 }
 
-fn has_few_routes(spec: &OpSpec) -> bool
-    ensures { IsTrue result → route_count spec.now.kind ≤ 65534 }
+// Whether it is one of the kinds of these tests, within its limits.
+fn is_compilable(spec: &OpSpec) -> bool
+    ensures { IsTrue result → IsCompilable spec.now.kind }
 {
     match &spec.kind {
         OpKind::Router { routes, .. } => routes.as_slice().len() <= 65_534,
+        OpKind::Recombine { max_batch_size, .. } => {
+            1 <= *max_batch_size && *max_batch_size <= 1_000_000
+        }
+        OpKind::Csv { .. } | OpKind::KeyValue { .. } => false,
         _ => true,
     }
 }
 
 // The operators of these settings, or why there is none of the first of them that has none.
-fn compiled(alloc: Global, specs: &[OpSpec]) -> Result<Result<Vec<AnyOp>, OpCause>, AllocError> {
+pub fn compiled(
+    alloc: Global,
+    specs: &[OpSpec],
+) -> Result<Result<Vec<AnyOp>, OpCause>, AllocError> {
     let mut ops = Vec::new(alloc);
     for spec in specs {
-        if !has_few_routes(spec) {
+        if !is_compilable(spec) {
             return Ok(Err(OpCause::Memory));
         }
         match compile(alloc, spec) {
@@ -139,6 +147,9 @@ fn counted(
     let Ok(ops) = compiled(alloc, &specs)? else {
         return Err(Fail::from("there is no operator"));
     };
+    if ops.len() != 1 {
+        return Err(Fail::from("there is not one operator"));
+    }
     let mut count = 0;
     let mut all_same = true;
     for op in &ops {
@@ -222,6 +233,9 @@ fn routed(alloc: Global, exprs: &[&str], has_default: bool) -> Result<(u16, Vec<
     let Ok(ops) = compiled(alloc, &specs)? else {
         return Err(Fail::from("there is no router"));
     };
+    if ops.len() != 1 {
+        return Err(Fail::from("there is not one router"));
+    }
     let mut count = 0;
     let mut ports = Vec::new(alloc);
     for op in &ops {
@@ -282,19 +296,29 @@ fn expressions_that_cannot_be_read_are_refused(rt: HostRuntime) -> Result<(), Fa
     Ok(())
 }
 
+// Adds a node for the operator of this kind.
+pub fn add_nodes(
+    alloc: Global,
+    kinds: Vec<OpKind>,
+    nodes: &mut Vec<NodeSpec<AnyOp>>,
+) -> Result<(), Fail> {
+    let specs = spec(alloc, None, OnError::Send, kinds)?;
+    let Ok(ops) = compiled(alloc, &specs)? else {
+        return Err(Fail::from("there is no operator"));
+    };
+    for op in ops {
+        let ports = Vec::new(alloc);
+        nodes.push(NodeSpec { op, ports })?;
+    }
+    Ok(())
+}
+
 #[test]
 fn states_without_groups_are_no_bytes(rt: HostRuntime) -> Result<(), Fail> {
     let alloc = rt.alloc();
     let mut nodes = Vec::new(alloc);
     for kinds in [listed(alloc, OpKind::Noop)?, remove(alloc, "body")?] {
-        let specs = spec(alloc, None, OnError::Send, kinds)?;
-        let Ok(ops) = compiled(alloc, &specs)? else {
-            return Err(Fail::from("there is no operator"));
-        };
-        for op in ops {
-            let ports = Vec::new(alloc);
-            nodes.push(NodeSpec { op, ports })?;
-        }
+        add_nodes(alloc, kinds, &mut nodes)?;
     }
     let states = restore_state(alloc, &nodes, b"")?;
     assert!(rt; states.len() == 2 && !states.iter().any(|state| state.keeps_groups()));

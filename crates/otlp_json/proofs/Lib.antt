@@ -4,6 +4,7 @@ pub mod Escapes
 pub mod Members
 pub mod NoLf
 pub mod Numbered
+pub mod Plain
 pub mod Splits
 pub mod SplitsOfLines
 pub mod SplitsOfRecords

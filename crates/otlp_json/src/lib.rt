@@ -12,6 +12,7 @@ ghost use Rattle.otlp_json.specs.HasFront.{HasFront};
 ghost use Rattle.otlp_json.specs.OutputLine.{output_line, line_tail};
 
 pub mod integers;
+mod lanes;
 pub mod laws;
 mod record;
 mod string;

@@ -1,10 +1,11 @@
 // What stands between the quotes of a JSON string, and numbers.
-ghost use Rattle.std.specs.Prelude.{◌≡◌, ◌++◌, ◌<◌, OnOk, IsTrue, decimal, position};
+ghost use Rattle.std.specs.Prelude.{◌≡◌, ◌++◌, ◌<◌, OnOk, IsTrue, decimal};
 ghost use Rattle.std.specs.Fmt.{signed_decimal};
 ghost use Rattle.std.specs.Char.{digit_char};
 ghost use Rattle.otlp_json.specs.Escaped.{needs_escape, escaped_byte, escaped};
 ghost use Rattle.otlp_json.specs.HasFront.{HasFront};
 
+use crate::lanes::first_escape;
 use itoa::Buffer;
 use std::alloc::AllocError;
 
@@ -36,13 +37,6 @@ pub fn append_escaped(text: &[u8], out: &mut Vec<u8>) -> Result<(), AllocError>
         rest = &rest[at + 1..];
     }
     out.extend_from_slice(rest)
-}
-
-fn first_escape(text: &[u8]) -> Option<usize>
-    ensures { result ≡ position needs_escape text.now }
-{
-    text.iter()
-        .position(|&byte| byte == b'"' || byte == b'\\' || byte < 0x20)
 }
 
 #[tactic(auto, unfolding(crate::specs::Escaped::escaped_byte))]

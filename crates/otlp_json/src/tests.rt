@@ -305,3 +305,26 @@ fn escapes_as_serde_json(rt: HostRuntime) -> Result<(), Fail> {
     }
     Ok(())
 }
+
+// An escape is found at each place of a text, also where one look at it ends and at its end.
+#[test]
+fn escapes_at_each_place(rt: HostRuntime) -> Result<(), Fail> {
+    let alloc = rt.alloc();
+    let mut front = String::new(alloc);
+    for _ in 0..70 {
+        let mut rest = String::new(alloc);
+        for _ in 0..40 {
+            let body = Value::Text(Text::new(format!(in alloc; "{front}\"{rest}")?)?);
+            let line = line_of(alloc, 7, 12, &with_body(alloc, body))?;
+            let text = format!(in alloc; ",\"body\":{{\"stringValue\":\"{front}\\\"{rest}\"}}")?;
+            assert_eq!(rt;
+                line.as_slice(),
+                expected(alloc, text.as_str())?.as_slice(),
+                "between {front} and {rest}"
+            );
+            rest.push('-')?;
+        }
+        front.push('-')?;
+    }
+    Ok(())
+}

@@ -3,16 +3,17 @@ use Rattle.std.proofs.Common.{◌≡◌, ℕ, ◌+◌, ◌<◌, ◌^◌, ℤ, po
 use Rattle.std.proofs.lemmas.Bool.{ltb-true}
 use Rattle.entry_model.specs.Datum.{Datum, null, boolean, int, text, list, fields, Items, no_items, item, Members, no_members, member}
 use Rattle.entry_model.specs.LogRecord.{LogRecord}
-use Rattle.graph_core.specs.Traces.{Network, network_of, start_states, inputs}
+use Rattle.graph_core.specs.Traces.{Network, network_of, inputs}
 use Rattle.graph_core.specs.declared.NodeSpec.{NodeSpec}
-use Rattle.op_kinds.proofs.States.{same_states, of_no_kind, spelled_by_none}
+use Rattle.op_kinds.proofs.StateTexts.{text_back, text_is_state, state_stands}
 use Rattle.op_kinds.specs.Kept.{Kept}
 use Rattle.op_kinds.specs.Operator.{Operator, behavior_of}
-use Rattle.op_kinds.specs.States.{states_spelling}
+use Rattle.op_kinds.specs.StateTexts.{states_in, state_text, is_state_text}
+use Rattle.op_kinds.specs.States.{kinds_of, AreOfKinds}
 use Rattle.otlp_json.specs.IsOf64Bits.{IsInteger, HasIntegers, ItemsHaveIntegers, MembersHaveIntegers, IsTime, IsOf64Bits}
-use Rattle.pipeline.proofs.Feeding.{GraphLaws, given_on}
-use Rattle.pipeline.proofs.StateKinds.{kinds, kinds_kept, kinds_begun}
-use Rattle.pipeline.specs.AsRules.{is_integer, has_integers, items_have_integers, members_have_integers, is_time, is_of_64_bits, fits, is_nothing}
+use Rattle.pipeline.proofs.Feeding.{GraphLaws, given_on, kept_on}
+use Rattle.pipeline.proofs.StateKinds.{kinds_kept}
+use Rattle.pipeline.specs.AsRules.{is_integer, has_integers, items_have_integers, members_have_integers, is_time, is_of_64_bits, fits}
 use Rattle.pipeline.specs.Entries.{records_behind}
 use Rattle.pipeline.specs.GraphOutput.{kept_from, given_from}
 use Rattle.settings_text.specs.declared.settings.Settings.{Settings}
@@ -86,31 +87,39 @@ same_mark mark other id number entry =
 
 -- ---- states
 
-pub nothing_is : (state : List ℕ) → is_nothing state ≡ true → [] ≡ state
-nothing_is [] is = refl
-nothing_is (byte ∷ rest) is = absurd (true≢false (sym is))
-
 module _ (settings : Settings) (nodes : List (NodeSpec Operator)) (graph : GraphLaws (network_of behavior_of nodes)) where
   abbrev it : Network Kept LogRecord
   it = network_of behavior_of nodes
 
-  stays_fresh : (path : List ℕ) (before : ℕ) (tokens : List (List ℕ)) → kept_from settings it path before (start_states it) tokens ≡ start_states it
-  stays_fresh path before tokens =
-      same_states nodes (kept_from settings it path before (start_states it) tokens) (start_states it)
-      (kinds_kept nodes (start_states it) (inputs it (records_behind settings path before tokens)) (kinds_begun nodes)) (kinds_begun nodes)
+  -- the states for which a text stands
+  abbrev states_of : List ℕ → List Kept
+  states_of state = states_in (kinds_of nodes) state
 
-  pub given_in_parts : (path : List ℕ) (before : ℕ) (tokens more : List (List ℕ))
-      → given_from settings it path before (start_states it) (tokens ++ more)
-      ≡ given_from settings it path before (start_states it) tokens ++ given_from settings it path (before + length tokens) (start_states it) more
-  given_in_parts path before tokens more =
-      given_on settings it graph path before (start_states it) tokens more
-      ∙ ap (λ (ks : List Kept). given_from settings it path before (start_states it) tokens ++ given_from settings it path (before + length tokens) ks more) (stays_fresh path before tokens)
+  abbrev kept : List ℕ → ℕ → List ℕ → List (List ℕ) → List Kept
+  kept path before state tokens = kept_from settings it path before (states_of state) tokens
 
-  -- what is kept is spelled by no bytes
-  pub spelled_so : (path : List ℕ) (before : ℕ) (tokens : List (List ℕ)) → states_spelling (kept_from settings it path before (start_states it) tokens) ≡ []
-  spelled_so path before tokens =
-      spelled_by_none (kept_from settings it path before (start_states it) tokens)
-      (of_no_kind nodes (kept_from settings it path before (start_states it) tokens) (kinds_kept nodes (start_states it) (inputs it (records_behind settings path before tokens)) (kinds_begun nodes)))
+  kinds_then : (path : List ℕ) (before : ℕ) (state : List ℕ) (tokens : List (List ℕ)) → is_state_text (kinds_of nodes) state ≡ true → AreOfKinds nodes (kept path before state tokens)
+  kinds_then path before state tokens is = kinds_kept nodes (states_of state) (inputs it (records_behind settings path before tokens)) (state_stands (kinds_of nodes) state is).are
 
-  pub fresh_spelled_so : states_spelling (start_states it) ≡ []
-  fresh_spelled_so = spelled_by_none (start_states it) (of_no_kind nodes (start_states it) (kinds_begun nodes))
+  back : (path : List ℕ) (before : ℕ) (state : List ℕ) (tokens : List (List ℕ)) → is_state_text (kinds_of nodes) state ≡ true → states_of (state_text (kept path before state tokens)) ≡ kept path before state tokens
+  back path before state tokens is = text_back (kinds_of nodes) (kept path before state tokens) (kinds_then path before state tokens is)
+
+  pub goes_on_so : (path : List ℕ) (before : ℕ) (state : List ℕ) (tokens : List (List ℕ)) → is_state_text (kinds_of nodes) state ≡ true → is_state_text (kinds_of nodes) (state_text (kept path before state tokens)) ≡ true
+  goes_on_so path before state tokens is = text_is_state (kinds_of nodes) (kept path before state tokens) (kinds_then path before state tokens is)
+
+  pub given_in_parts : (path : List ℕ) (before : ℕ) (state : List ℕ) (tokens more : List (List ℕ)) → is_state_text (kinds_of nodes) state ≡ true
+      → given_from settings it path before (states_of state) (tokens ++ more)
+      ≡ given_from settings it path before (states_of state) tokens ++ given_from settings it path (before + length tokens) (states_of (state_text (kept path before state tokens))) more
+  given_in_parts path before state tokens more is =
+      given_on settings it graph path before (states_of state) tokens more
+      ∙ ap (λ (ks : List Kept). given_from settings it path before (states_of state) tokens ++ given_from settings it path (before + length tokens) ks more) (sym (back path before state tokens is))
+
+  pub stays_so : (path : List ℕ) (before : ℕ) (state : List ℕ) → is_state_text (kinds_of nodes) state ≡ true → state_text (kept path before state []) ≡ state
+  stays_so path before state is = ap state_text (sym (graph.begin (states_of state) []).states) ∙ (state_stands (kinds_of nodes) state is).same
+
+  pub kept_in_parts : (path : List ℕ) (before : ℕ) (state : List ℕ) (tokens more : List (List ℕ)) → is_state_text (kinds_of nodes) state ≡ true
+      → state_text (kept path before state (tokens ++ more)) ≡ state_text (kept path (before + length tokens) (state_text (kept path before state tokens)) more)
+  kept_in_parts path before state tokens more is =
+      ap state_text
+      (kept_on settings it graph path before (states_of state) tokens more
+      ∙ ap (λ (ks : List Kept). kept_from settings it path (before + length tokens) ks more) (sym (back path before state tokens is)))

@@ -4,7 +4,8 @@ use Rattle.entry_model.specs.Datum.{Datum, null, boolean, int, text, list, field
 use Rattle.entry_model.specs.LogRecord.{LogRecord}
 use Rattle.graph_core.specs.Traces.{start_states}
 use Rattle.otlp_json.specs.OutputLine.{output_line}
-use Rattle.op_kinds.specs.States.{states_spelling}
+use Rattle.op_kinds.specs.StateTexts.{states_in, state_text, is_state_text}
+use Rattle.op_kinds.specs.States.{states_spelling, kinds_of}
 use Rattle.pipeline.specs.GraphOutput.{kept_from, given_from}
 use Rattle.pipeline.specs.Parts.{settings_of, network}
 use Rattle.pipeline.specs.Tokens.{cuts_of}
@@ -48,28 +49,22 @@ is_of_64_bits entry =
 abbrev pub fits : Mark → Bool
 fits mark = nat_lt mark.id (2 ^ 64) && (nat_lt mark.number (2 ^ 64) && is_of_64_bits mark.entry)
 
--- ---- states
-
-abbrev pub is_nothing : List ℕ → Bool
-is_nothing [] = true
-is_nothing (byte ∷ rest) = false
-
 -- ---- the rules
 
 abbrev pub begins_at_end : StartAt → Bool
 begins_at_end Beginning = false
 begins_at_end End = true
 
--- The rules of the settings that have this text. No operator holds groups, so no bytes alone spell a state, which is that of the
--- first ones, and each run goes on from these.
+-- The rules of the settings that have this text. A run goes on from the states for which a row's text stands, and leaves the
+-- text that stands for those behind it.
 abbrev pub rules_of : List ℕ → Pipeline → Rules
 rules_of settings_text pipeline = record {
   settings = settings_text;
   cuts = cuts_of (settings_of pipeline);
-  made = λ path before state tokens. given_from (settings_of pipeline) (network pipeline) path before (start_states (network pipeline)) tokens;
-  state_after = λ path before state tokens. states_spelling (kept_from (settings_of pipeline) (network pipeline) path before (start_states (network pipeline)) tokens);
+  made = λ path before state tokens. given_from (settings_of pipeline) (network pipeline) path before (states_in (kinds_of pipeline.graph) state) tokens;
+  state_after = λ path before state tokens. state_text (kept_from (settings_of pipeline) (network pipeline) path before (states_in (kinds_of pipeline.graph) state) tokens);
   fresh = states_spelling (start_states (network pipeline));
-  is_state = is_nothing;
+  is_state = is_state_text (kinds_of pipeline.graph);
   line = λ mark. output_line mark.id mark.number mark.entry;
   fits = fits;
   include = pipeline.include.items;

@@ -4,6 +4,7 @@ use Rattle.graph_core.specs.Faults.{IsCause}
 use Rattle.graph_core.specs.Wiring.{edges_of, wiring_of}
 use Rattle.graph_core.specs.declared.GraphFault.{GraphFault}
 use Rattle.graph_core.specs.declared.NodeSpec.{NodeSpec}
+use Rattle.op_kinds.specs.Compilable.{IsCompilable}
 use Rattle.op_kinds.specs.Compiled.{IsCompiledTo}
 use Rattle.op_kinds.specs.Operator.{Operator}
 use Rattle.op_kinds.specs.Readings.{IsLeastCause, readings}
@@ -16,7 +17,6 @@ use Rattle.pipeline.specs.Wired.{AreNodes, ids_of}
 use Rattle.pipeline.specs.declared.fault.BuildFault.{BuildFault}
 use Rattle.pipeline.specs.declared.fault.BuildFault.TheVariants.{Glob, Multiline, SameId, Operator as RefusesOperator, Graph, Memory}
 use Rattle.settings_text.specs.Ids.{is_taken}
-use Rattle.settings_text.specs.Limits.{route_count}
 use Rattle.settings_text.specs.declared.settings.OpSpec.{OpSpec}
 use Rattle.settings_text.specs.declared.settings.Settings.{Settings}
 
@@ -85,6 +85,6 @@ refusal place cause.Pattern = RefusesOperator place cause.Pattern
 refusal place cause.Layout = RefusesOperator place cause.Layout
 refusal place cause.NoNames = RefusesOperator place cause.NoNames
 
--- no operator has too many routes to have a port for each
-abbrev pub HaveFewRoutes : List OpSpec → Type 0
-HaveFewRoutes operators = (place : ℕ) (operator : OpSpec) → slice_get operators place ≡ Some operator → route_count operator.kind ≤ 65534
+-- each operator can be made, where the texts in it can be read
+abbrev pub AreCompilable : List OpSpec → Type 0
+AreCompilable operators = (place : ℕ) (operator : OpSpec) → slice_get operators place ≡ Some operator → IsCompilable operator.kind

@@ -1,15 +1,19 @@
 -- States of files in memory, against the rows that tell them.
-use Rattle.std.specs.Prelude.{◌≡◌, ℕ, List, ◌++◌}
-use Rattle.op_kinds.specs.States.{Spell}
+use Rattle.std.specs.Prelude.{◌≡◌, ℕ, ◌<◌, List, ◌++◌, slice_index}
+use Rattle.op_kinds.specs.StateTexts.{Tells}
 use Rattle.pipeline.specs.declared.Pipeline.{Pipeline}
 use Rattle.pipeline.specs.declared.state.FileState.{FileState}
 use Rattle.standing.specs.Look.{fed, lines_of}
 use Rattle.standing.specs.Rows.{Row}
 use Rattle.standing.specs.Rules.{Rules, output_text}
 
--- the state has these counts, and a state for each operator, of its kind, which together are spelled so
+-- they stand in memory
+abbrev pub AreBytes : List ℕ → Type 0
+AreBytes text = (i : ℕ) → slice_index text i < 256
+
+-- the state has these counts, and a state for each operator, of its kind, for which together the text stands
 pub record IsStateOf (pipeline : Pipeline) (records lines : ℕ) (text : List ℕ) (state : FileState) : Type 0 where
-  pub states : Spell pipeline.graph text state.states.items
+  pub states : Tells pipeline.graph text state.states.items
   pub records_are : state.records ≡ records
   pub lines_are : state.lines ≡ lines
 

@@ -3,7 +3,7 @@ ghost use Rattle.std.specs.Prelude.{◌≡◌, ◌≤◌, ◌<◌, ℕ, [], leng
 ghost use Rattle.graph_core.specs.Traces.{network_of, start_states};
 ghost use Rattle.op_kinds.specs.Operator.{behavior_of};
 ghost use Rattle.op_kinds.specs.States.{states_spelling};
-ghost use Rattle.pipeline.specs.BuildFaults.{IsBuildFault, IsOperatorFault, IsFineAt, HaveFewRoutes, refusal};
+ghost use Rattle.pipeline.specs.BuildFaults.{AreCompilable, IsBuildFault, IsOperatorFault, IsFineAt, refusal};
 ghost use Rattle.pipeline.specs.Globs.{ArePatterns};
 ghost use Rattle.pipeline.specs.GraphOutput.{StandsFor};
 ghost use Rattle.pipeline.specs.Listed.{AreOperators};
@@ -93,7 +93,7 @@ impl Pipeline {
 // The operators as their outputs wire them, or their first fault.
 fn graph_of(alloc: Global, specs: &[OpSpec]) -> Result<Graph<AnyOp>, BuildFault>
     requires few { length specs.now ≤ 64 }
-    requires routes { HaveFewRoutes specs.now }
+    requires compilable { AreCompilable specs.now }
     ensures network { IfOk result (λ graph. IsNetwork specs.now (network_of behavior_of graph)) }
     ensures fault { IfErr result (IsOperatorFault specs.now) }
 {
@@ -108,7 +108,7 @@ fn graph_of(alloc: Global, specs: &[OpSpec]) -> Result<Graph<AnyOp>, BuildFault>
 // The nodes of the operators, or the first fault among these.
 fn nodes_of(alloc: Global, specs: &[OpSpec]) -> Result<Vec<NodeSpec<AnyOp>>, BuildFault>
     requires few { length specs.now ≤ 64 }
-    requires routes { HaveFewRoutes specs.now }
+    requires compilable { AreCompilable specs.now }
     ensures nodes { IfOk result (λ nodes. AreNodes specs.now nodes.items) }
     ensures fine { OnOk result ((k : ℕ) → k < length specs.now → IsFineAt specs.now k) }
     ensures fault { IfErr result (IsOperatorFault specs.now) }
@@ -125,7 +125,7 @@ fn ops_of<'s>(
     ids: &mut IndexSet<&'s str>,
 ) -> Result<VecDeque<AnyOp>, BuildFault>
     requires none { ids.old.keys ≡ [] }
-    requires routes { HaveFewRoutes specs.now }
+    requires compilable { AreCompilable specs.now }
     ensures ids { OnOk result (map (λ id. id.now) ids.new.keys ≡ ids_of specs.now) }
     ensures ops { IfOk result (λ ops. AreOperators specs.now ops.items) }
     ensures fine { OnOk result ((k : ℕ) → k < length specs.now → IsFineAt specs.now k) }

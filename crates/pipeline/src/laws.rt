@@ -4,12 +4,13 @@ ghost use Rattle.entry_model.specs.LogRecord.{LogRecord};
 ghost use Rattle.graph_core.specs.Traces.{Network, start_states};
 ghost use Rattle.line_splitter.specs.Cuts.{IsCutRule};
 ghost use Rattle.op_kinds.specs.Kept.{Kept};
-ghost use Rattle.op_kinds.specs.States.{states_spelling, Spell, SpellNone};
+ghost use Rattle.op_kinds.specs.StateTexts.{Tells, states_in};
+ghost use Rattle.op_kinds.specs.States.{states_spelling, kinds_of, Spell, SpellNone};
 ghost use Rattle.pipeline.specs.AsRules.{rules_of};
 ghost use Rattle.pipeline.specs.Fed.{Fed};
 ghost use Rattle.pipeline.specs.GraphOutput.{graph_output, kept_from, given_from};
 ghost use Rattle.pipeline.specs.Parts.{settings_of, network};
-ghost use Rattle.pipeline.specs.RowStates.{IsStateOfRow, TakesTokens};
+ghost use Rattle.pipeline.specs.RowStates.{AreBytes, IsStateOfRow, TakesTokens};
 ghost use Rattle.pipeline.specs.Tokens.{first_cut_of, tokens_of, used_of};
 ghost use Rattle.pipeline.specs.Wired.{IsNetwork};
 ghost use Rattle.settings_text.specs.Limits.{KeepsLimits};
@@ -82,14 +83,18 @@ pub fn a_row_is_fed_by_the_rules(pipeline: &Pipeline)
 }
 
 /// What a row keeps of its operators is a state by the rules exactly where it can be restored, and then there is one state.
+/// What is spelled stands for what it spells.
 pub fn a_row_tells_its_state(pipeline: &Pipeline)
     ensures fresh { (settings_text : List ℕ) → (rules_of settings_text pipeline.now).fresh ≡ states_spelling (start_states (network pipeline.now)) }
-    ensures restored { (settings_text text : List ℕ) (states : List Kept) → Spell pipeline.now.graph text states
+    ensures restored { (settings_text text : List ℕ) (states : List Kept) → Tells pipeline.now.graph text states
         → (rules_of settings_text pipeline.now).is_state text ≡ true }
-    ensures refused { (settings_text text : List ℕ) (at : ℕ) → SpellNone pipeline.now.graph text at
+    ensures refused { (settings_text text : List ℕ) (at : ℕ) → AreBytes text → SpellNone pipeline.now.graph text at
         → (rules_of settings_text pipeline.now).is_state text ≡ false }
-    ensures one { (text : List ℕ) (states others : List Kept) → Spell pipeline.now.graph text states → Spell pipeline.now.graph text others
+    ensures one { (text : List ℕ) (states others : List Kept) → Tells pipeline.now.graph text states → Tells pipeline.now.graph text others
         → states ≡ others }
+    ensures spelled { (text : List ℕ) (states : List Kept) → AreBytes text → Spell pipeline.now.graph text states → Tells pipeline.now.graph text states }
+    ensures spells { (settings_text text : List ℕ) → AreBytes text → (rules_of settings_text pipeline.now).is_state text ≡ true
+        → Spell pipeline.now.graph text (states_in (kinds_of pipeline.now.graph) text) }
 {}
 
 /// A pipeline of settings within their limits is rules for the polls of files, with which a promise on what they leave can be

@@ -18,6 +18,8 @@ mod entry;
 mod fault;
 mod feed;
 mod globs;
+#[cfg(test)]
+mod group_tests;
 pub mod laws;
 #[cfg(test)]
 mod multiline_tests;
@@ -28,6 +30,8 @@ mod splitter;
 mod state;
 #[cfg(test)]
 mod tests;
+#[cfg(test)]
+mod time_tests;
 mod wiring;
 
 pub use fault::BuildFault;

@@ -126,27 +126,76 @@ const CAUSES: &[(&str, OpCause)] = &[
         r#"json_parser","timestamp":{"parse_from":"body","layout":"%H"},"if":"(""#,
         OpCause::Expr,
     ),
+    (
+        r#"csv_parser","header":"a","parse_to":"bodyx""#,
+        OpCause::Path,
+    ),
+    (
+        r#"key_value_parser","timestamp":{"parse_from":"body","layout":"%H"}"#,
+        OpCause::Layout,
+    ),
+];
+
+// The keys of an operator behind its type, a line, and the record that comes out of it.
+const RECORDS: &[(&str, &str, &str)] = &[
+    (
+        r#"csv_parser","header":"id,msg""#,
+        r#"7,"a,b""#,
+        r#""attributes":[{"key":"id","value":{"stringValue":"7"}},{"key":"k","value":{"stringValue":"kept"}},{"key":"msg","value":{"stringValue":"a,b"}}],"body":{"stringValue":"7,\"a,b\""}"#,
+    ),
+    (
+        r#"csv_parser","header":"k;id","delimiter":";","severity":{"parse_from":"attributes.k"}"#,
+        "error;",
+        r#""attributes":[{"key":"id","value":{"stringValue":""}},{"key":"k","value":{"stringValue":"error"}}],"body":{"stringValue":"error;"},"severityNumber":17,"severityText":"error""#,
+    ),
+    (
+        r#"key_value_parser""#,
+        r#"a=1 b="x y" c='z=1'"#,
+        r#""attributes":[{"key":"a","value":{"stringValue":"1"}},{"key":"b","value":{"stringValue":"x y"}},{"key":"c","value":{"stringValue":"z=1"}},{"key":"k","value":{"stringValue":"kept"}}],"body":{"stringValue":"a=1 b=\"x y\" c='z=1'"}"#,
+    ),
+    (
+        r#"key_value_parser","delimiter":":","pair_delimiter":";","timestamp":{"parse_from":"attributes.t","layout_type":"epoch","layout":"s"}"#,
+        "t: 1714557600;;k:new;",
+        r#""attributes":[{"key":"k","value":{"stringValue":"new"}},{"key":"t","value":{"stringValue":"1714557600"}}],"body":{"stringValue":"t: 1714557600;;k:new;"},"timeUnixNano":"1714557600000000000""#,
+    ),
+];
+
+// The keys of an operator behind its type, and a line of which an entry goes on as it was.
+const NO_RECORDS: &[(&str, &str)] = &[
+    (r#"csv_parser","header":"id,msg""#, "7"),
+    (r#"csv_parser","header":"id,msg""#, "7,a,b"),
+    (
+        r#"csv_parser","header":"t","timestamp":{"parse_from":"attributes.t","layout":"%Y-%m-%d"}"#,
+        "x",
+    ),
+    (r#"key_value_parser""#, "a=1 b"),
+    (r#"key_value_parser""#, r#"a=1 b="x"#),
+    (r#"key_value_parser""#, "=1"),
+    (
+        r#"key_value_parser","severity":{"parse_from":"attributes.zz"}"#,
+        "a=1",
+    ),
 ];
 
 const GROUPS: &str =
     r#"regex_parser","regex":"(?P<t>\\S+) (?P<sev>\\w+) (?P<m>.*)","timestamp":{"parse_from":"attributes.t","layout":"%Y-%m-%dT%H:%M:%S%z"},"severity":{"parse_from":"attributes.sev"}"#;
 
 // Settings whose one operator is of this type, with what follows it.
-fn with_type(alloc: Global, operator: &str) -> Result<String, AllocError> {
+pub fn with_type(alloc: Global, operator: &str) -> Result<String, AllocError> {
     format!(in alloc;
         "{{\"include\":[\"a\"],\"include_file_name\":false,\"attributes\":{{\"k\":\"kept\"}},\"operators\":[{{\"type\":\"{operator}}}]}}"
     )
 }
 
 // The first line of the output.
-fn line(alloc: Global, resource: &str, record: &str) -> Result<String, AllocError> {
+pub fn line(alloc: Global, resource: &str, record: &str) -> Result<String, AllocError> {
     format!(in alloc;
         "{{\"resourceLogs\":[{{\"resource\":{{\"attributes\":[{resource}]}},\"scopeLogs\":[{{\"logRecords\":[{{{record}}}],\"scope\":{{\"attributes\":[{{\"key\":\"agent.file\",\"value\":{{\"intValue\":\"7\"}}}},{{\"key\":\"agent.line\",\"value\":{{\"intValue\":\"1\"}}}}],\"name\":\"stanza_agent\"}}}}]}}]}}\n"
     )
 }
 
 // What comes out of a line.
-fn given(alloc: Global, operator: &str, text: &str) -> Result<Vec<u8>, Fail> {
+pub fn given(alloc: Global, operator: &str, text: &str) -> Result<Vec<u8>, Fail> {
     let settings = with_type(alloc, operator)?;
     let whole = format!(in alloc; "{text}\n")?;
     let (_records, _lines, out) = fed(alloc, settings.as_str(), whole.as_bytes(), b"")?;
@@ -197,6 +246,33 @@ fn groups_are_put_in(rt: HostRuntime) -> Result<(), Fail> {
         r#""attributes":[{"key":"k","value":{"stringValue":"n"}},{"key":"v","value":{"stringValue":""}}],"body":{"stringValue":"n="}"#;
     assert!(rt; given(alloc, idle, "n=")?.as_slice() == line(alloc, "", record)?.as_bytes());
     assert!(rt; given(alloc, idle, "?")?.as_slice() == given(alloc, "noop\"", "?")?.as_slice());
+    Ok(())
+}
+
+#[test]
+fn records_and_pairs_are_put_in(rt: HostRuntime) -> Result<(), Fail> {
+    let alloc = rt.alloc();
+    for (operator, text, record) in RECORDS {
+        let out = given(alloc, operator, text)?;
+        assert!(rt;
+            out.as_slice() == line(alloc, "", record)?.as_bytes(),
+            "{operator} {text}"
+        );
+    }
+    Ok(())
+}
+
+#[test]
+fn entries_without_records_or_pairs_are_unchanged(rt: HostRuntime) -> Result<(), Fail> {
+    let alloc = rt.alloc();
+    for (operator, text) in NO_RECORDS {
+        let out = given(alloc, operator, text)?;
+        assert!(rt; !out.is_empty(), "{operator} {text}");
+        assert!(rt;
+            out.as_slice() == given(alloc, "noop\"", text)?.as_slice(),
+            "{operator} {text}"
+        );
+    }
     Ok(())
 }
 

@@ -1,6 +1,7 @@
 // States that are kept from one run to the next.
 ghost use Rattle.std.specs.Prelude.{◌≡◌, ◌++◌, OnOk, IfOk, IfErr};
-ghost use Rattle.op_kinds.specs.States.{states_spelling, IsRefused};
+ghost use Rattle.op_kinds.specs.StateTexts.{Tells};
+ghost use Rattle.op_kinds.specs.States.{states_spelling, Spell, IsRefused};
 ghost use Rattle.pipeline.specs.Parts.{HaveKinds};
 ghost use Rattle.pipeline.specs.RowStates.{IsStateOf};
 
@@ -18,14 +19,18 @@ impl Pipeline {
         out: &mut Vec<u8>,
     ) -> Result<(), AllocError>
         requires { HaveKinds self.now state.now.states.items }
-        ensures { OnOk result (out.new.items ≡ out.old.items ++ states_spelling state.now.states.items) }
+        ensures ok { OnOk result (out.new.items ≡ out.old.items ++ states_spelling state.now.states.items) }
+        ensures spelled { OnOk result (Spell self.now.graph (states_spelling state.now.states.items) state.now.states.items) }
+        ensures tells { OnOk result (Tells self.now.graph (states_spelling state.now.states.items) state.now.states.items) }
     {
-        save_state(alloc, &state.states, out)
+        save_state(alloc, &state.states, out)?;
+        let _written = out.as_slice();
+        Ok(())
     }
 
     /// The state of a file of which so many tokens were taken, which gave so many lines, and left what the bytes spell, all
-    /// of them. Malformed at the first byte with which no spelling of what these operators keep goes on, also where bytes
-    /// are left over, or at the end where more is missing.
+    /// of them. Malformed at the first byte, number or text with which no spelling of what these operators keep goes on, also
+    /// where bytes are left over, or at the end where more is missing.
     pub fn restore(
         &self,
         alloc: Global,
@@ -34,6 +39,7 @@ impl Pipeline {
         bytes: &[u8],
     ) -> Result<FileState, CodecFault>
         ensures ok { IfOk result (IsStateOf self.now records lines bytes.now) }
+        ensures spelled { IfOk result (λ state. Spell self.now.graph bytes.now state.states.items) }
         ensures kinds { IfOk result (λ state. HaveKinds self.now state.states.items) }
         ensures fault { IfErr result (IsRefused self.now.graph bytes.now) }
     {

@@ -20,7 +20,6 @@ use Rattle.file_pass.specs.declared.taking.Taking.{Taking}
 use Rattle.file_tracker.specs.declared.row.Row.{Row as SavedRow}
 use Rattle.outside.specs.Image.{Image}
 use Rattle.outside.specs.declared.disk.DiskFile.{DiskFile}
-use Rattle.pipeline.specs.AsRules.{is_nothing}
 use Rattle.poll_core.proofs.Flagged.{StandsAt, flagged_all, flagged_ascend, flagged_has, flagged_stand}
 use Rattle.poll_core.proofs.ViewLemmas.{rows_in_order, all_fine}
 use Rattle.poll_core.specs.Begun.{IsBegun}
@@ -66,13 +65,10 @@ sane_rows rules output rows keep states = λ place row at.
       records = omega (arith, keeps.records, keeps.start);
       lines = keeps.lines;
       state = state_at rules rows place row states at;
+      short = keeps.state;
     }
 
 -- ---- after
-
-nothing_short : (state : List ℕ) → IsTrue (is_nothing state) → length state ≡ 0
-nothing_short [] is = refl
-nothing_short (byte ∷ state) is = absurd (cc)
 
 keep_from : (output first : ℕ) (rows : List SavedRow) → ((place : ℕ) (row : SavedRow) → slice_get rows place ≡ Some row → (row.id ≡ place + first) × KeepsRules output row) → KeepRules output first rows
 keep_from output first [] each = tt
@@ -91,7 +87,7 @@ keeps_sane setup output place row few sane = record {
   offset = sane.offset;
   records = omega (arith, sane.records);
   lines = sane.lines;
-  state = omega (arith, nothing_short row.state sane.state);
+  state = sane.short;
 }
 
 keep_sane : (setup : Setup) (output : ℕ) (rows : List SavedRow) → length rows ≤ 1024 → AreSaneRows (rules_in setup) output rows → KeepRules output 1 rows

@@ -1,15 +1,17 @@
 -- What is made of one text is one.
-use Rattle.std.proofs.Common.{◌≡◌, ℕ, zero, suc, List, [], ◌∷◌, refl, sym, ap, ◌∙◌, subst, arith}
+use Rattle.std.proofs.Common.{◌≡◌, ℕ, zero, suc, List, [], ◌∷◌, Bool, map, refl, sym, ap, ◌∙◌, subst, arith}
 use Rattle.std.specs.Str.{chars}
 use Rattle.glob_match.specs.GlobText.{IsGlobText}
 use Rattle.glob_match.specs.Pattern.{Pattern}
 use Rattle.pipeline.proofs.Building.{one_network}
 use Rattle.entry_model.specs.LogRecord.{LogRecord}
 use Rattle.graph_core.specs.Traces.{Network, start_states}
-use Rattle.op_kinds.specs.Kept.{Kept}
-use Rattle.op_kinds.specs.States.{states_spelling}
+use Rattle.op_kinds.specs.Kept.{Kept, keeps_groups}
+use Rattle.op_kinds.specs.StateTexts.{states_in, state_text, is_state_text}
+use Rattle.op_kinds.specs.States.{states_spelling, kinds_of}
+use Rattle.pipeline.proofs.StateKinds.{kinds_begun}
 use Rattle.otlp_json.specs.OutputLine.{output_line}
-use Rattle.pipeline.specs.AsRules.{rules_of, is_nothing, fits, begins_at_end}
+use Rattle.pipeline.specs.AsRules.{rules_of, fits, begins_at_end}
 use Rattle.pipeline.specs.GraphOutput.{kept_from, given_from}
 use Rattle.pipeline.specs.Tokens.{cuts_of}
 use Rattle.pipeline.specs.Globs.{ArePatterns}
@@ -39,14 +41,14 @@ module _ (spell_one : SpellOne) where
       cc
 
   -- what is made of a text, part by part
-  rules_with : List ℕ → Settings → Network Kept LogRecord → List Pattern → List Pattern → Rules
-  rules_with text said made_of include exclude = record {
+  rules_with : List ℕ → Settings → Network Kept LogRecord → List Bool → List Pattern → List Pattern → Rules
+  rules_with text said made_of kinds include exclude = record {
     settings = text;
     cuts = cuts_of said;
-    made = λ path before state tokens. given_from said made_of path before (start_states made_of) tokens;
-    state_after = λ path before state tokens. states_spelling (kept_from said made_of path before (start_states made_of) tokens);
+    made = λ path before state tokens. given_from said made_of path before (states_in kinds state) tokens;
+    state_after = λ path before state tokens. state_text (kept_from said made_of path before (states_in kinds state) tokens);
     fresh = states_spelling (start_states made_of);
-    is_state = is_nothing;
+    is_state = is_state_text kinds;
     line = λ mark. output_line mark.id mark.number mark.entry;
     fits = fits;
     include = include;
@@ -62,10 +64,13 @@ module _ (spell_one : SpellOne) where
       let networks : network one ≡ network other = one_network (settings_of one).operators (network one) (network other) first.network_is (subst (λ (s : Settings). IsNetwork s.operators (network other)) said second.network_is) in
       let includes : one.include.items ≡ other.include.items = same_patterns (settings_of one).include one.include.items other.include.items first.include (subst (λ (s : Settings). ArePatterns s.include other.include.items) said second.include) in
       let excludes : one.exclude.items ≡ other.exclude.items = same_patterns (settings_of one).exclude one.exclude.items other.exclude.items first.exclude (subst (λ (s : Settings). ArePatterns s.exclude other.exclude.items) said second.exclude) in
-      ap (λ s. rules_with text s (network one) one.include.items one.exclude.items) (sym said)
-      ∙ ap (λ n. rules_with text (settings_of other) n one.include.items one.exclude.items) networks
-      ∙ ap (λ i. rules_with text (settings_of other) (network other) i one.exclude.items) includes
-      ∙ ap (λ e. rules_with text (settings_of other) (network other) other.include.items e) excludes
+      let kinds : kinds_of one.graph ≡ kinds_of other.graph =
+      sym (kinds_begun one.graph) ∙ ap (λ (n : Network Kept LogRecord). map keeps_groups (start_states n)) networks ∙ kinds_begun other.graph in
+      ap (λ s. rules_with text s (network one) (kinds_of one.graph) one.include.items one.exclude.items) (sym said)
+      ∙ ap (λ n. rules_with text (settings_of other) n (kinds_of one.graph) one.include.items one.exclude.items) networks
+      ∙ ap (λ k. rules_with text (settings_of other) (network other) k one.include.items one.exclude.items) kinds
+      ∙ ap (λ i. rules_with text (settings_of other) (network other) (kinds_of other.graph) i one.exclude.items) includes
+      ∙ ap (λ e. rules_with text (settings_of other) (network other) (kinds_of other.graph) other.include.items e) excludes
 
   pub one_set : (text : List ℕ) (one other : Rules) → HasRules text one → HasRules text other → one ≡ other
   one_set text one other first second = first.2 ∙ one_rules text first.0 second.0 first.1 second.1 ∙ sym second.2

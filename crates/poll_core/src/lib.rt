@@ -25,6 +25,7 @@ mod session;
 mod summary;
 
 pub use fault::OpenFault;
+pub use opening::pipeline_of;
 pub use poll_fault::PollFault;
 pub use session::Session;
 pub use summary::Summary;

@@ -128,8 +128,15 @@ fn first_foreign(
 fn has_state(alloc: Global, pipeline: &Pipeline, row: &Row) -> Result<bool, AllocError>
     ensures { IfOk result (λ is. (text : List ℕ) → is ≡ (rules_of text pipeline.now).is_state row.now.state) }
 {
+    is_state(alloc, pipeline, row, row.state.as_slice())
+}
+
+// Whether these bytes are a state of these operators, with the counts of a row.
+fn is_state(alloc: Global, pipeline: &Pipeline, row: &Row, bytes: &[u8]) -> Result<bool, AllocError>
+    ensures { IfOk result (λ is. (text : List ℕ) → is ≡ (rules_of text pipeline.now).is_state bytes.now) }
+{
     a_row_tells_its_state(pipeline);
-    match pipeline.restore(alloc, row.records, row.lines, row.state.as_slice()) {
+    match pipeline.restore(alloc, row.records, row.lines, bytes) {
         Ok(_) => Ok(true),
         Err(CodecFault::Malformed { .. }) => Ok(false),
         Err(CodecFault::Memory) => Err(AllocError),

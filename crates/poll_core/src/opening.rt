@@ -100,8 +100,8 @@ impl Session {
     }
 }
 
-// What the settings of a text ask for.
-fn pipeline_of(alloc: Global, settings: &[u8]) -> Result<Pipeline, OpenFault>
+/// What the settings of a text ask for, or the one refusal of them with which [`Session::open`] begins.
+pub fn pipeline_of(alloc: Global, settings: &[u8]) -> Result<Pipeline, OpenFault>
     ensures made { IfOk result (IsMadeOf settings.now) }
     ensures refusal { IfErr result (IsSettingsRefusal settings.now) }
     ensures early { IfErr result (λ fault. IsOfContents fault → ⊥) }

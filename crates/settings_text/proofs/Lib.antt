@@ -5,5 +5,7 @@ pub mod InTurn
 pub mod Numbers
 pub mod JsonTexts
 pub mod Limits
+pub mod Places
 pub mod FreeIds
 pub mod Mapped
+pub mod HeaderParts

@@ -1,29 +1,40 @@
 -- What settings say is within the limits.
 use Rattle.std.proofs.Common.{◌≡◌, ℕ, zero, suc, ◌+◌, ◌≤◌, List, [], ◌∷◌, length, Bool, true, false, true≢false, Result, Ok, Err, Option, None, Some, ◌++◌, refl, sym, ap, subst, ◌∙◌, arith, rules}
-use Rattle.std.proofs.lemmas.Bool.{ltb-false, leb-true}
-use Rattle.std.specs.Prelude.{nat_lt, ◌&&◌, if◌then◌else◌, codes, slice_get, max, pos, negsuc, ℤ, nat_abs, int_le, ◌^◌, decimal}
+use Rattle.std.proofs.lemmas.Bool.{ltb-false, ltb-true, leb-true}
+use Rattle.std.specs.Str.{bytes_eq}
+use Rattle.std.specs.Prelude.{not, ◌||◌, ◌==◌, ◌<◌, nat_lt, ◌&&◌, if◌then◌else◌, codes, slice_get, max, pos, negsuc, ℤ, nat_abs, int_le, ◌^◌, decimal}
 use Rattle.entry_model.specs.Datum as datum
 use Rattle.serde_json.specs.Data.{Data, null, boolean, number, string, array, object, Items, no_items, item, Members, no_members, member, Num, unsigned, negative, float, depth, items_depth, members_depth}
 use Rattle.serde_json.specs.Events.{items_len}
 use Rattle.serde_json.specs.Find.{get, as_object, as_number, as_array, as_str, as_i64, is_float}
 use Rattle.entry_model.specs.Lawful.{nesting, items_nesting, members_nesting}
 use Rattle.settings_text.specs.Grammar.{settings, settings_of, flags_of, json_of, is_top_key, start_named}
-use Rattle.settings_text.specs.Kinds.{Kind, must, may, or_missing, or_default, given, known, name, text, whole, integer, integer_within, number_within, texts, some_texts, text_or_texts, some_item_texts, fields, value, each, IsSomeIfWritten}
+use Rattle.settings_text.specs.Kinds.{Kind, must, may, or_missing, or_default, given, known, name, text, flag, whole, integer, integer_within, number_within, texts, some_texts, text_or_texts, some_item_texts, fields, value, each, IsSomeIfWritten}
 use Rattle.settings_text.specs.Limits.{KeepsLimits, OperatorKeepsLimits, KindKeepsLimits, route_count}
 use Rattle.settings_text.specs.Multilines.{multiline}
 use Rattle.settings_text.specs.Operators as op
 use Rattle.settings_text.specs.Operators.{at_most_64, with_ids, draft, written_ids, front, type_named, on_error_named, is_key_of, kind_of}
 use Rattle.settings_text.specs.Parsers as parsers
+use Rattle.settings_text.specs.Names.{single, is_delimiter}
+use Rattle.settings_text.specs.Types.CsvParsing as csv_parsing
+use Rattle.settings_text.specs.Types.KeyValueParsing as key_value_parsing
 use Rattle.settings_text.specs.Outcome.{◌>>=◌, or_fault}
 use Rattle.settings_text.specs.Place.{item_place}
+use Rattle.settings_text.specs.Severities as severities
+use Rattle.settings_text.specs.Times as times
+use Rattle.settings_text.specs.Times.{location_named}
+use Rattle.settings_text.specs.Types.ContainerReading.{format_named}
+use Rattle.settings_text.specs.Types.Recombining as recombining
+use Rattle.settings_text.specs.Types.Recombining.{marked, overwriting_named}
 use Rattle.settings_text.specs.Types.Routing as routing
 use Rattle.settings_text.specs.Types.Routing.{is_route_key, route, routable}
+use Rattle.settings_text.specs.Types.SyslogParsing.{protocol_named, year_of}
 use Rattle.settings_text.specs.ValueData.{value_data, items_data, members_data, number_data, has_fraction}
 use Rattle.settings_text.specs.declared.fault.SettingsFault.{SettingsFault}
 use Rattle.settings_text.specs.declared.fault.SettingsFault.TheVariants.{NotJson, WrongKind, OutOfRange, Fraction, TooLong}
 use Rattle.settings_text.specs.declared.operators.Draft.{Draft}
 use Rattle.settings_text.specs.declared.operators.OpType.{OpType}
-use Rattle.settings_text.specs.declared.operators.OpType.TheVariants.{Noop, Move, Copy, Add, Remove, Flatten, Retain, Filter, Json, Regex, Router}
+use Rattle.settings_text.specs.declared.operators.OpType.TheVariants.{Noop, Container, Move, Copy, Add, Remove, Flatten, Retain, Filter, Csv, Json, KeyValue, Regex, Time, Severity, Syslog, Router, Recombine}
 use Rattle.settings_text.specs.declared.settings.Multiline.TheVariants.{Lines}
 use Rattle.settings_text.specs.declared.settings.OnError.TheVariants.{Send}
 use Rattle.settings_text.specs.declared.settings.OpKind.{OpKind}
@@ -237,8 +248,107 @@ routes_output place d routes e =
 kept : (made kind : OpKind) → KindKeepsLimits made → ◌≡◌ {A = Result OpKind SettingsFault} (Ok made) (Ok kind) → KindKeepsLimits kind
 kept made kind keeps e = subst KindKeepsLimits (same_value made kind e) keeps
 
+default_entries : recombining.KeepsLimits 1000
+default_entries = record { some = omega arith; most = omega arith }
+
+recombine_keeps : (at : List ℕ) (d : Data) (made : OpKind) → recombining.read at d ≡ Ok made → KindKeepsLimits made
+unfolding recombining.read
+recombine_keeps at d made e =
+    let field = binds (must at (codes "combine_field") text d) _ made e in
+    let mark = binds (marked at d) _ made field.2 in
+    let between = binds (may at (codes "combine_with") text (10 ∷ []) d) _ made mark.2 in
+    let most = binds (may at (codes "max_batch_size") (whole 1 1000000) 1000 d) _ made between.2 in
+    let newest = binds (may at (codes "overwrite_with") (name overwriting_named) false d) _ made most.2 in
+    let source = binds (may at (codes "source_identifier") (given text) None d) _ made newest.2 in
+    kept (kind.Recombine field.0 mark.0.0 mark.0.1 between.0 most.0 newest.0 source.0) made
+    (from_kind recombining.KeepsLimits 1000 (whole 1 1000000) (at ++ codes "max_batch_size") (get (codes "max_batch_size") d) most.0 default_entries
+    (λ found read is. let range = whole_within 1 1000000 (at ++ codes "max_batch_size") found read is in record { some = range.0; most = range.1 }) most.1) source.2
+
+single_is_low : (content : List ℕ) (byte : ℕ) → single content ≡ Some byte → byte < 128
+single_is_low [] byte e = absurd (not_there byte e)
+single_is_low (one ∷ []) byte e = by (nat_lt one 128) refl (not ((one == 34) || (one == 13) || (one == 10))) e
+  where
+    by : (low : Bool) → nat_lt one 128 ≡ low → (other : Bool) → (if low && other then Some one else None) ≡ Some byte → byte < 128
+    by true is true e = subst (λ n. n < 128) (same_there one byte e) (ltb-true one 128 is)
+    by true is false e = absurd (not_there byte e)
+    by false is other e = absurd (not_there byte e)
+single_is_low (one ∷ next ∷ rest) byte e = absurd (not_there byte e)
+
+low_found : (content place : List ℕ) (found : Option ℕ) (byte : ℕ) → single content ≡ found → or_fault (OutOfRange place) found ≡ Ok byte → byte < 128
+low_found content place None byte is e = absurd (no_value (OutOfRange place) byte e)
+low_found content place (Some one) byte is e = subst (λ n. n < 128) (same_value one byte e) (single_is_low content one is)
+
+named_single : (place : List ℕ) (d : Data) (byte : ℕ) → name single place d ≡ Ok byte → byte < 128
+named_single place d byte e =
+    let content = binds (text place d) (λ n. or_fault (OutOfRange place) (single n)) byte e in
+    low_found content.0 place (single content.0) byte refl content.2
+
+comma_is_low : 44 < 128
+comma_is_low = omega arith
+
+csv_keeps : (at : List ℕ) (d : Data) (made : OpKind) → csv_parsing.read at d ≡ Ok made → KindKeepsLimits made
+unfolding csv_parsing.read
+csv_keeps at d made e =
+    let delimiter = binds (may at (codes "delimiter") (name single) 44 d) _ made e in
+    let header = binds (must at (codes "header") (csv_parsing.header delimiter.0) d) _ made delimiter.2 in
+    let parser = binds (parsers.read at d) _ made header.2 in
+    kept (kind.Csv delimiter.0 header.0 parser.0) made (from_kind (λ n. n < 128) 44 (name single) (at ++ codes "delimiter") (get (codes "delimiter") d) delimiter.0 comma_is_low (named_single (at ++ codes "delimiter")) delimiter.1) parser.2
+
+fits_some : (content : List ℕ) (fits : Bool) (place made : List ℕ) → (fits ≡ true → content ≡ [] → ⊥) → key_value_parsing.if_fits fits place content ≡ Ok made → made ≡ [] → ⊥
+fits_some content true place made some e none = some refl (same_value content made e ∙ none)
+fits_some content false place made some e none = no_value _ made e
+
+delimiter_some : (content : List ℕ) → is_delimiter content ≡ true → content ≡ [] → ⊥
+delimiter_some [] e none = true≢false (sym e)
+delimiter_some (byte ∷ rest) e none = search (rules, none)
+
+and_first : (a b : Bool) → (a && b) ≡ true → a ≡ true
+and_first true b e = refl
+and_first false b e = e
+
+within_some : (place : List ℕ) (d : Data) (made : List ℕ) → key_value_parsing.within place d ≡ Ok made → made ≡ [] → ⊥
+within_some place d made e =
+    let content = binds (text place d) _ made e in
+    fits_some content.0 (is_delimiter content.0) place made (delimiter_some content.0) content.2
+
+between_some : (delimiter place : List ℕ) (d : Data) (made : List ℕ) → key_value_parsing.between delimiter place d ≡ Ok made → made ≡ [] → ⊥
+between_some delimiter place d made e =
+    let content = binds (text place d) _ made e in
+    fits_some content.0 (is_delimiter content.0 && not (bytes_eq content.0 delimiter)) place made (λ fits. delimiter_some content.0 (and_first (is_delimiter content.0) (not (bytes_eq content.0 delimiter)) fits)) content.2
+
+abbrev SomeIfGiven : Option (List ℕ) → Type 0
+SomeIfGiven given = (content : List ℕ) → given ≡ Some content → content ≡ [] → ⊥
+
+given_some : (delimiter place : List ℕ) (d : Data) (made : Option (List ℕ)) → given (key_value_parsing.between delimiter) place d ≡ Ok made → SomeIfGiven made
+given_some delimiter place d made e content is =
+    let read = binds (key_value_parsing.between delimiter place d) _ made e in
+    let same : read.0 ≡ content = same_there read.0 content (same_value (Some read.0) made read.2 ∙ is) in
+    subst (λ c. c ≡ [] → ⊥) same (between_some delimiter place d read.0 read.1)
+
+abbrev equals_sign : List ℕ
+equals_sign = 61 ∷ []
+
+equals_is_some : equals_sign ≡ [] → ⊥
+equals_is_some e = search (rules, e)
+
+pairs_keep : (at : List ℕ) (d : Data) (made : OpKind) → key_value_parsing.read at d ≡ Ok made → KindKeepsLimits made
+unfolding key_value_parsing.read
+pairs_keep at d made e =
+    let delimiter = binds (may at (codes "delimiter") key_value_parsing.within (61 ∷ []) d) _ made e in
+    let pairs = binds (may at (codes "pair_delimiter") (given (key_value_parsing.between delimiter.0)) None d) _ made delimiter.2 in
+    let parser = binds (parsers.read at d) _ made pairs.2 in
+    kept (kind.KeyValue delimiter.0 pairs.0 parser.0) made
+    (record {
+      some = from_kind (λ c. c ≡ [] → ⊥) (61 ∷ []) key_value_parsing.within (at ++ codes "delimiter") (get (codes "delimiter") d) delimiter.0 equals_is_some (within_some (at ++ codes "delimiter")) delimiter.1;
+      some_between = from_kind SomeIfGiven None (given (key_value_parsing.between delimiter.0)) (at ++ codes "pair_delimiter") (get (codes "pair_delimiter") d) pairs.0 (λ content is. absurd (not_there content is)) (given_some delimiter.0 (at ++ codes "pair_delimiter")) pairs.1;
+    }) parser.2
+
 kind_keeps : (op_type : OpType) (at : List ℕ) (d : Data) (made : OpKind) → kind_of op_type at d ≡ Ok made → KindKeepsLimits made
 kind_keeps Noop at d made e = kept kind.Noop made tt e
+kind_keeps Container at d made e =
+    let format = binds (may at (codes "format") (given (name format_named)) None d) _ made e in
+    let adds = binds (may at (codes "add_metadata_from_filepath") flag true d) _ made format.2 in
+    kept (kind.Container format.0 adds.0) made tt adds.2
 kind_keeps Move at d made e =
     let from = binds (must at (codes "from") text d) _ made e in
     let to = binds (must at (codes "to") text d) _ made from.2 in
@@ -263,6 +373,8 @@ kind_keeps Retain at d made e =
 kind_keeps Filter at d made e =
     let expr = binds (must at (codes "expr") text d) _ made e in
     kept (kind.Filter expr.0) made tt expr.2
+kind_keeps Csv at d made e = csv_keeps at d made e
+kind_keeps KeyValue at d made e = pairs_keep at d made e
 kind_keeps Json at d made e =
     let parser = binds (parsers.read at d) _ made e in
     kept (kind.Json parser.0) made tt parser.2
@@ -270,6 +382,18 @@ kind_keeps Regex at d made e =
     let regex = binds (must at (codes "regex") text d) _ made e in
     let parser = binds (parsers.read at d) _ made regex.2 in
     kept (kind.Regex regex.0 parser.0) made tt parser.2
+kind_keeps Time at d made e =
+    let time = binds (times.read at d) _ made e in
+    kept (kind.Time time.0) made tt time.2
+kind_keeps Severity at d made e =
+    let severity = binds (severities.read at d) _ made e in
+    kept (kind.Severity severity.0) made tt severity.2
+kind_keeps Syslog at d made e =
+    let protocol = binds (must at (codes "protocol") (name protocol_named) d) _ made e in
+    let year = binds (year_of protocol.0 at d) _ made protocol.2 in
+    let location = binds (may at (codes "location") (name location_named) (pos 0) d) _ made year.2 in
+    let parser = binds (parsers.read_fields at d) _ made location.2 in
+    kept (kind.Syslog year.0 location.0 parser.0) made tt parser.2
 kind_keeps Router at d made e =
     let place = at ++ codes "routes" in
     let all = binds (must at (codes "routes") routing.routes d) _ made e in
@@ -281,6 +405,7 @@ kind_keeps Router at d made e =
       outputs = from_must (λ l. (i : ℕ) (made : RouteSpec) → slice_get l i ≡ Some made → 1 ≤ length made.output) routing.routes place (get (codes "routes") d) all.0 (routes_output place) all.1;
       default_output = some_written at (codes "default") d default.0 default.1;
     }) default.2
+kind_keeps Recombine at d made e = recombine_keeps at d made e
 
 record DraftKeeps (made : Draft) : Type 0 where
   output : IsSomeIfWritten made.output
@@ -292,7 +417,7 @@ draft_keeps n d made e =
     let members = binds (or_fault (WrongKind (item_place (codes "operators") n)) (as_object d)) _ made e in
     let type_name = binds (must (front n) (codes "type") text d) _ made members.2 in
     let op_type = binds (or_fault (OutOfRange (front n ++ codes "type")) (type_named type_name.0)) _ made type_name.2 in
-    let all_known = binds (known (is_key_of op_type.0) (front n) members.0) _ made op_type.2 in
+    let all_known = binds (known (is_key_of op_type.0 d) (front n) members.0) _ made op_type.2 in
     let id = binds (may (front n) (codes "id") (given text) None d) _ made all_known.2 in
     let output = binds (may (front n) (codes "output") (given text_or_texts) None d) _ made id.2 in
     let condition = binds (may (front n) (codes "if") (given text) None d) _ made output.2 in
@@ -330,6 +455,7 @@ operators_keep place d operators e i o at =
 
 few_of : (kind : OpKind) → KindKeepsLimits kind → route_count kind ≤ 65534
 few_of kind.Noop keeps = omega arith
+few_of (kind.Container format adds) keeps = omega arith
 few_of (kind.Move from to) keeps = omega arith
 few_of (kind.Copy from to) keeps = omega arith
 few_of (kind.Add field added) keeps = omega arith
@@ -337,9 +463,15 @@ few_of (kind.Remove field) keeps = omega arith
 few_of (kind.Flatten field) keeps = omega arith
 few_of (kind.Retain listed) keeps = omega arith
 few_of (kind.Filter expr) keeps = omega arith
+few_of (kind.Csv delimiter header parser) keeps = omega arith
+few_of (kind.KeyValue delimiter pair_delimiter parser) keeps = omega arith
 few_of (kind.Json parser) keeps = omega arith
 few_of (kind.Regex regex parser) keeps = omega arith
+few_of (kind.Time time) keeps = omega arith
+few_of (kind.Severity severity) keeps = omega arith
+few_of (kind.Syslog year location parser) keeps = omega arith
 few_of (kind.Router routes default) keeps = keeps.few
+few_of (kind.Recombine field first mark between most newest source) keeps = omega arith
 
 default_front : (16 ≤ 1000) × (1000 ≤ 4096)
 default_front = (omega arith, omega arith)

@@ -9,8 +9,9 @@ pub mod Mappings
 pub mod Multilines
 pub mod Severities
 pub mod Parsers
-pub mod Types
 pub mod Ids
+pub mod Names
+pub mod Types
 pub mod Operators
 pub mod Grammar
 pub mod Limits

@@ -13,6 +13,10 @@ abbrev pub is_key : List ℕ → Bool
 is_key name =
     bytes_eq name (codes "parse_from") || bytes_eq name (codes "parse_to") || bytes_eq name (codes "timestamp") || bytes_eq name (codes "severity")
 
+-- the keys of a parser whose texts tell time and severity themselves
+abbrev pub is_field_key : List ℕ → Bool
+is_field_key name = bytes_eq name (codes "parse_from") || bytes_eq name (codes "parse_to")
+
 unfoldable pub read : List ℕ → Data → Result ParserKeys SettingsFault
 read at d = do
   parse_from ← may at (codes "parse_from") text (codes "body") d
@@ -20,3 +24,9 @@ read at d = do
   timestamp ← may at (codes "timestamp") (given times.block) None d
   severity ← may at (codes "severity") (given severities.block) None d
   Ok (record { parse_from = parse_from; parse_to = parse_to; timestamp = timestamp; severity = severity })
+
+unfoldable pub read_fields : List ℕ → Data → Result ParserKeys SettingsFault
+read_fields at d = do
+  parse_from ← may at (codes "parse_from") text (codes "body") d
+  parse_to ← may at (codes "parse_to") text (codes "attributes") d
+  Ok (record { parse_from = parse_from; parse_to = parse_to; timestamp = None; severity = None })

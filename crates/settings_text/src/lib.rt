@@ -24,6 +24,8 @@ ghost use Rattle.serde_json.specs.View.{view};
 ghost use Rattle.settings_text.specs.Kinds as kinds;
 
 mod fault;
+#[cfg(test)]
+mod group_tests;
 mod ids;
 mod kinds;
 pub mod laws;
@@ -32,6 +34,7 @@ mod literal;
 mod mapping;
 mod mappings;
 mod multilines;
+mod names;
 #[cfg(test)]
 mod operator_tests;
 mod operators;
@@ -45,6 +48,8 @@ mod severities;
 #[cfg(test)]
 mod tests;
 mod texts;
+#[cfg(test)]
+mod time_tests;
 mod times;
 mod types;
 mod values;
@@ -56,7 +61,7 @@ pub use literal::Literal;
 pub use mapping::{MapRule, MapRules, MapWant};
 use multilines::multiline;
 use operators::operators;
-pub use parsing::{LayoutType, ParserKeys, SeveritySpec, TimeSpec};
+pub use parsing::{FormatSpec, LayoutType, ParserKeys, SeveritySpec, TimeSpec};
 use place::place;
 use serde_json::Value;
 pub use settings::{Multiline, OnError, OpKind, OpSpec, RouteSpec, Settings, StartAt};

@@ -216,7 +216,7 @@ const OPERATOR_ACCEPTED: &[(&str, &str)] = &[
 ];
 
 // Settings whose one operator has these members.
-fn with_operator(alloc: Global, members: &str) -> Result<String, AllocError> {
+pub fn with_operator(alloc: Global, members: &str) -> Result<String, AllocError> {
     format!(in alloc; "{{\"include\":[\"a\"],\"operators\":[{{{members}}}]}}")
 }
 

@@ -13,8 +13,9 @@ use crate::place::{item_place, place};
 use crate::settings::{OnError, OpKind, OpSpec};
 use crate::texts::Texts;
 use crate::types::{
-    adding, copying, filtering, flattening, json_parsing, moving, regex_parsing, removing,
-    retaining, routing,
+    adding, container_reading, copying, csv_parsing, filtering, flattening, json_parsing,
+    key_value_parsing, moving, recombining, regex_parsing, removing, retaining, routing,
+    severity_parsing, syslog_parsing, time_parsing,
 };
 use entry_model::Text;
 use serde_json::Value;
@@ -26,6 +27,7 @@ const MOST_OPERATORS: usize = 64;
 #[derive(Clone, Copy, Debug, PartialEq, Eq)]
 enum OpType {
     Noop,
+    Container,
     Move,
     Copy,
     Add,
@@ -33,9 +35,15 @@ enum OpType {
     Flatten,
     Retain,
     Filter,
+    Csv,
     Json,
+    KeyValue,
     Regex,
+    Time,
+    Severity,
+    Syslog,
     Router,
+    Recombine,
 }
 
 impl OpType {
@@ -44,6 +52,8 @@ impl OpType {
     {
         if name == "noop" {
             Some(OpType::Noop)
+        } else if name == "container" {
+            Some(OpType::Container)
         } else if name == "move" {
             Some(OpType::Move)
         } else if name == "copy" {
@@ -58,22 +68,35 @@ impl OpType {
             Some(OpType::Retain)
         } else if name == "filter" {
             Some(OpType::Filter)
+        } else if name == "csv_parser" {
+            Some(OpType::Csv)
         } else if name == "json_parser" {
             Some(OpType::Json)
+        } else if name == "key_value_parser" {
+            Some(OpType::KeyValue)
         } else if name == "regex_parser" {
             Some(OpType::Regex)
+        } else if name == "time_parser" {
+            Some(OpType::Time)
+        } else if name == "severity_parser" {
+            Some(OpType::Severity)
+        } else if name == "syslog_parser" {
+            Some(OpType::Syslog)
         } else if name == "router" {
             Some(OpType::Router)
+        } else if name == "recombine" {
+            Some(OpType::Recombine)
         } else {
             None
         }
     }
 
-    fn has_own_key(self, name: &str) -> bool
-        ensures { result ≡ operators.is_own_key self name.now }
+    fn has_own_key(self, object: &Value, name: &str) -> bool
+        ensures { result ≡ operators.is_own_key self (view object.now) name.now }
     {
         match self {
             OpType::Noop => false,
+            OpType::Container => container_reading::is_key(name),
             OpType::Move => moving::is_key(name),
             OpType::Copy => copying::is_key(name),
             OpType::Add => adding::is_key(name),
@@ -81,9 +104,15 @@ impl OpType {
             OpType::Flatten => flattening::is_key(name),
             OpType::Retain => retaining::is_key(name),
             OpType::Filter => filtering::is_key(name),
+            OpType::Csv => csv_parsing::is_key(name),
             OpType::Json => json_parsing::is_key(name),
+            OpType::KeyValue => key_value_parsing::is_key(name),
             OpType::Regex => regex_parsing::is_key(name),
+            OpType::Time => time_parsing::is_key(name),
+            OpType::Severity => severity_parsing::is_key(name),
+            OpType::Syslog => syslog_parsing::is_key(object, name),
             OpType::Router => routing::is_key(name),
+            OpType::Recombine => recombining::is_key(name),
         }
     }
 
@@ -93,6 +122,7 @@ impl OpType {
     {
         match self {
             OpType::Noop => Ok(OpKind::Noop),
+            OpType::Container => container_reading::read(alloc, object, at),
             OpType::Move => moving::read(alloc, object, at),
             OpType::Copy => copying::read(alloc, object, at),
             OpType::Add => adding::read(alloc, object, at),
@@ -100,9 +130,15 @@ impl OpType {
             OpType::Flatten => flattening::read(alloc, object, at),
             OpType::Retain => retaining::read(alloc, object, at),
             OpType::Filter => filtering::read(alloc, object, at),
+            OpType::Csv => csv_parsing::read(alloc, object, at),
             OpType::Json => json_parsing::read(alloc, object, at),
+            OpType::KeyValue => key_value_parsing::read(alloc, object, at),
             OpType::Regex => regex_parsing::read(alloc, object, at),
+            OpType::Time => time_parsing::read(alloc, object, at),
+            OpType::Severity => severity_parsing::read(alloc, object, at),
+            OpType::Syslog => syslog_parsing::read(alloc, object, at),
             OpType::Router => routing::read(alloc, object, at),
+            OpType::Recombine => recombining::read(alloc, object, at),
         }
     }
 
@@ -117,18 +153,25 @@ impl OpType {
     }
 }
 
-impl Keys for OpType {
+/// The keys of an object that is an operator of a type.
+#[derive(Clone, Copy)]
+struct OperatorKeys<'v> {
+    op_type: OpType,
+    object: &'v Value,
+}
+
+impl Keys for OperatorKeys<'_> {
+    ghost use Rattle.serde_json.specs.View.{view};
     ghost use Rattle.settings_text.specs.Operators.{is_key_of};
 
-    ghost test = { is_key_of };
+    ghost test = { λ keys. is_key_of keys.op_type (view keys.object.now) };
 
     fn has(&self, name: &str) -> bool {
-        self.has_shared_key(name) || self.has_own_key(name)
+        self.op_type.has_shared_key(name) || self.op_type.has_own_key(self.object, name)
     }
 }
 
 /// An operator before its id is settled.
-#[derive(Drop)]
 struct Draft {
     type_name: Text,
     id: Option<Text>,
@@ -136,6 +179,41 @@ struct Draft {
     condition: Option<Text>,
     on_error: OnError,
     kind: OpKind,
+}
+
+impl Drop for Draft {
+    fn drop(self) {
+        let Draft {
+            type_name: _type_name,
+            id: _id,
+            output: _output,
+            condition: _condition,
+            on_error: _on_error,
+            kind: _kind,
+        } = self;
+    }
+}
+
+impl Draft {
+    fn settle(self, id: Text) -> OpSpec
+        ensures { result ≡ operators.with_id id self }
+    {
+        let Draft {
+            type_name: _type_name,
+            id: _written,
+            output,
+            condition,
+            on_error,
+            kind,
+        } = self;
+        OpSpec {
+            id,
+            condition,
+            on_error,
+            output,
+            kind,
+        }
+    }
 }
 
 #[tactic(auto, unfolding(crate::specs::Operators::front))]
@@ -186,7 +264,7 @@ fn draft_of(alloc: Global, object: &Value, index: usize) -> Result<Draft, Settin
             key: place(alloc, at, "type")?,
         });
     };
-    check_known(alloc, members, at, &op_type)?;
+    check_known(alloc, members, at, &OperatorKeys { op_type, object })?;
     let id = optional_text(alloc, object, at, "id")?;
     let output = optional_texts(alloc, object, at, "output")?;
     let condition = optional_text(alloc, object, at, "if")?;
@@ -226,28 +304,13 @@ fn written_ids(alloc: Global, drafts: &[Draft]) -> Result<Vec<Text>, AllocError>
     Ok(ids)
 }
 
-fn settle(alloc: Global, taken: &[Text], draft: Draft) -> Result<OpSpec, AllocError>
-    ensures { IfOk result (λ operator. operator ≡ operators.settled taken.now draft) }
+fn id_of(alloc: Global, taken: &[Text], draft: &Draft) -> Result<Text, AllocError>
+    ensures { IfOk result (λ id. id ≡ operators.id_of taken.now draft.now) }
 {
-    let Draft {
-        type_name,
-        id,
-        output,
-        condition,
-        on_error,
-        kind,
-    } = draft;
-    let id = match id {
-        Some(id) => id,
-        None => default_id(alloc, type_name.as_str(), taken)?,
-    };
-    Ok(OpSpec {
-        id,
-        condition,
-        on_error,
-        output,
-        kind,
-    })
+    match &draft.id {
+        Some(id) => id.share(),
+        None => default_id(alloc, draft.type_name.as_str(), taken),
+    }
 }
 
 fn settle_all(
@@ -259,9 +322,10 @@ fn settle_all(
 {
     let mut settled = Vec::new(alloc);
     'settling: while !drafts.as_slice().is_empty() {
-        let operator = settle(alloc, &taken, drafts.remove(0))?;
-        taken.push(operator.id.share()?)?;
-        settled.push(operator)?;
+        let draft = drafts.remove(0);
+        let id = id_of(alloc, &taken, &draft)?;
+        taken.push(id.share()?)?;
+        settled.push(draft.settle(id))?;
     }
     Ok(settled)
 }

@@ -182,6 +182,95 @@ const SEVERITY_REFUSED: &[(&str, &str)] = &[
 
 // The members of the one operator behind its type, and the words of its refusal.
 const TYPES_REFUSED: &[(&str, &str)] = &[
+    (r#"csv_parser""#, "missing operators[0].header"),
+    (
+        r#"csv_parser","header":1,"delimiter":",,""#,
+        "out-of-range operators[0].delimiter",
+    ),
+    (
+        r#"csv_parser","header":"a","delimiter":7"#,
+        "wrong-kind operators[0].delimiter",
+    ),
+    (
+        r#"csv_parser","header":"a","delimiter":"""#,
+        "out-of-range operators[0].delimiter",
+    ),
+    (
+        r#"csv_parser","header":"a","delimiter":"\"""#,
+        "out-of-range operators[0].delimiter",
+    ),
+    (
+        r#"csv_parser","header":"a","delimiter":"\n""#,
+        "out-of-range operators[0].delimiter",
+    ),
+    (
+        r#"csv_parser","header":"a","delimiter":"é""#,
+        "out-of-range operators[0].delimiter",
+    ),
+    (
+        r#"csv_parser","header":1"#,
+        "wrong-kind operators[0].header",
+    ),
+    (
+        r#"csv_parser","header":"""#,
+        "out-of-range operators[0].header",
+    ),
+    (
+        r#"csv_parser","header":"a,,b""#,
+        "out-of-range operators[0].header",
+    ),
+    (
+        r#"csv_parser","header":"a,b,""#,
+        "out-of-range operators[0].header",
+    ),
+    (
+        r#"csv_parser","header":"a,b,a","parse_to":1"#,
+        "out-of-range operators[0].header",
+    ),
+    (
+        r#"csv_parser","header":"a,b","parse_to":1"#,
+        "wrong-kind operators[0].parse_to",
+    ),
+    (
+        r#"csv_parser","header":"a,b","pair_delimiter":1"#,
+        "unknown operators[0].pair_delimiter",
+    ),
+    (
+        r#"key_value_parser","delimiter":"""#,
+        "out-of-range operators[0].delimiter",
+    ),
+    (
+        r#"key_value_parser","delimiter":"a'""#,
+        "out-of-range operators[0].delimiter",
+    ),
+    (
+        r#"key_value_parser","delimiter":1,"pair_delimiter":1"#,
+        "wrong-kind operators[0].delimiter",
+    ),
+    (
+        r#"key_value_parser","pair_delimiter":null"#,
+        "wrong-kind operators[0].pair_delimiter",
+    ),
+    (
+        r#"key_value_parser","pair_delimiter":"""#,
+        "out-of-range operators[0].pair_delimiter",
+    ),
+    (
+        r#"key_value_parser","pair_delimiter":"\"""#,
+        "out-of-range operators[0].pair_delimiter",
+    ),
+    (
+        r#"key_value_parser","pair_delimiter":"=","parse_from":1"#,
+        "out-of-range operators[0].pair_delimiter",
+    ),
+    (
+        r#"key_value_parser","delimiter":":","pair_delimiter":":""#,
+        "out-of-range operators[0].pair_delimiter",
+    ),
+    (
+        r#"key_value_parser","header":"a""#,
+        "unknown operators[0].header",
+    ),
     (
         r#"regex_parser","parse_from":1"#,
         "missing operators[0].regex",
@@ -205,6 +294,22 @@ const PARSERS_ACCEPTED: &[(&str, &str)] = &[
     (
         r#"json_parser","parse_from":"a","parse_to":"b","if":"c""#,
         "a, - end 1000 1048576 00100 - - - json_parser:send:json a>b if c",
+    ),
+    (
+        r#"csv_parser","header":"id""#,
+        "a, - end 1000 1048576 00100 - - - csv_parser:send:csv 44 id body>attributes",
+    ),
+    (
+        r#"csv_parser","header":"a,b b\té","delimiter":"\t""#,
+        "a, - end 1000 1048576 00100 - - - csv_parser:send:csv 9 a,b b\té body>attributes",
+    ),
+    (
+        r#"key_value_parser""#,
+        "a, - end 1000 1048576 00100 - - - key_value_parser:send:pairs = body>attributes",
+    ),
+    (
+        r#"key_value_parser","delimiter":": ","pair_delimiter":"=","parse_to":"b""#,
+        "a, - end 1000 1048576 00100 - - - key_value_parser:send:pairs :  = body>b",
     ),
     (
         r#"regex_parser","regex":"(","id":"r""#,
@@ -244,7 +349,7 @@ const PARSERS_ACCEPTED: &[(&str, &str)] = &[
     ),
 ];
 
-fn show_time(time: &TimeSpec, out: &mut String) -> Result<(), AllocError> {
+pub fn show_time(time: &TimeSpec, out: &mut String) -> Result<(), AllocError> {
     let layout_type = match time.layout_type {
         LayoutType::Strptime => "strptime",
         LayoutType::Epoch => "epoch",
@@ -264,7 +369,7 @@ fn show_rule(rule: &MapRule, out: &mut String) -> Result<(), AllocError> {
     }
 }
 
-fn show_severity(severity: &SeveritySpec, out: &mut String) -> Result<(), AllocError> {
+pub fn show_severity(severity: &SeveritySpec, out: &mut String) -> Result<(), AllocError> {
     write!(out, " severity {}", severity.parse_from)?;
     if severity.preset {
         out.push_str(" preset")?;
@@ -295,7 +400,7 @@ fn with_type(alloc: Global, members: &str) -> Result<String, AllocError> {
 }
 
 // What comes of each of these members between others.
-fn answers(
+pub fn answers(
     rt: &impl Abort,
     alloc: Global,
     front: &str,

@@ -17,6 +17,13 @@ pub fn is_key(name: &str) -> bool
     name == "parse_from" || name == "parse_to" || name == "timestamp" || name == "severity"
 }
 
+/// The keys of a parser whose texts tell time and severity themselves.
+pub fn is_field_key(name: &str) -> bool
+    ensures { result ≡ parsers.is_field_key name.now }
+{
+    name == "parse_from" || name == "parse_to"
+}
+
 #[tactic(auto, unfolding(crate::specs::Parsers::read))]
 pub fn read(alloc: Global, object: &Value, at: &str) -> Result<ParserKeys, SettingsFault>
     ensures { Gives (λ parser. parser) result (parsers.read at.now (view object.now)) }
@@ -30,5 +37,20 @@ pub fn read(alloc: Global, object: &Value, at: &str) -> Result<ParserKeys, Setti
         parse_to,
         timestamp,
         severity,
+    })
+}
+
+/// The keys of a parser whose texts tell time and severity themselves.
+#[tactic(auto, unfolding(crate::specs::Parsers::read_fields))]
+pub fn read_fields(alloc: Global, object: &Value, at: &str) -> Result<ParserKeys, SettingsFault>
+    ensures { Gives (λ parser. parser) result (parsers.read_fields at.now (view object.now)) }
+{
+    let parse_from = text_or(alloc, object, at, "parse_from", "body")?;
+    let parse_to = text_or(alloc, object, at, "parse_to", "attributes")?;
+    Ok(ParserKeys {
+        parse_from,
+        parse_to,
+        timestamp: None,
+        severity: None,
     })
 }

@@ -33,6 +33,14 @@ pub struct SeveritySpec {
     pub mapping: MapRules,
 }
 
+/// Who wrote a container's lines.
+#[derive(Clone, Copy, Debug, PartialEq, Eq)]
+pub enum FormatSpec {
+    Docker,
+    Crio,
+    Containerd,
+}
+
 /// Which field is parsed, where what it says is put, and which of it are the entry's time and severity.
 #[derive(Drop)]
 pub struct ParserKeys {

@@ -1,7 +1,7 @@
 // What settings say.
 use crate::lists::{Operators, Routes};
 use crate::literal::Literal;
-use crate::parsing::ParserKeys;
+use crate::parsing::{FormatSpec, ParserKeys, SeveritySpec, TimeSpec};
 use crate::texts::{NamedTexts, Texts};
 use entry_model::Text;
 
@@ -56,7 +56,6 @@ pub struct Settings {
 }
 
 /// An operator. Field paths and expressions in it are as they were written.
-#[derive(Drop)]
 pub struct OpSpec {
     pub id: Text,
     /// The expression at the key `if`; a router has none.
@@ -68,10 +67,28 @@ pub struct OpSpec {
     pub kind: OpKind,
 }
 
+impl Drop for OpSpec {
+    fn drop(self) {
+        let OpSpec {
+            id: _id,
+            condition: _condition,
+            on_error: _on_error,
+            output: _output,
+            kind: _kind,
+        } = self;
+    }
+}
+
 /// What an operator does.
 #[derive(Drop)]
 pub enum OpKind {
     Noop,
+    Container {
+        /// None where each line tells its own.
+        format: Option<FormatSpec>,
+        /// Whether the path of the file tells of the pod.
+        add_metadata_from_filepath: bool,
+    },
     Move {
         from: Text,
         to: Text,
@@ -97,11 +114,35 @@ pub enum OpKind {
     Filter {
         expr: Text,
     },
+    Csv {
+        /// A character of ASCII, but for `"`, CR and LF.
+        delimiter: u8,
+        /// The names of the fields, between delimiters.
+        header: Text,
+        parser: ParserKeys,
+    },
     Json {
+        parser: ParserKeys,
+    },
+    KeyValue {
+        /// What parts a key from its value; neither it nor the other is empty or has a quote.
+        delimiter: Text,
+        /// What parts pairs; blanks where there is none.
+        pair_delimiter: Option<Text>,
         parser: ParserKeys,
     },
     Regex {
         regex: Text,
+        parser: ParserKeys,
+    },
+    Time(TimeSpec),
+    Severity(SeveritySpec),
+    /// Neither time nor severity are at fields.
+    Syslog {
+        /// 1970 to 2553, of the times of RFC 3164. None where texts are read by RFC 5424.
+        year: Option<u16>,
+        /// Of the times of RFC 3164, in seconds east of UTC.
+        location: i32,
         parser: ParserKeys,
     },
     Router {
@@ -109,6 +150,20 @@ pub enum OpKind {
         routes: Routes,
         /// As the output of a route.
         default: Option<Texts>,
+    },
+    Recombine {
+        combine_field: Text,
+        /// Whether the mark is that of first entries; else it is that of last ones.
+        first: bool,
+        /// An expression.
+        mark: Text,
+        combine_with: Text,
+        /// 1 to 1,000,000.
+        max_batch_size: u32,
+        /// Whether the newest entry of a group goes on; else it is the oldest.
+        newest: bool,
+        /// All entries are of one source where there is none.
+        source_identifier: Option<Text>,
     },
 }
 

@@ -22,8 +22,14 @@ impl Keys for SeverityKeys {
     ghost test = { λ _. is_key };
 
     fn has(&self, name: &str) -> bool {
-        name == "parse_from" || name == "preset" || name == "overwrite_text" || name == "mapping"
+        is_key(name)
     }
+}
+
+pub fn is_key(name: &str) -> bool
+    ensures { result ≡ severities.is_key name.now }
+{
+    name == "parse_from" || name == "preset" || name == "overwrite_text" || name == "mapping"
 }
 
 fn preset(alloc: Global, object: &Value, at: &str) -> Result<bool, SettingsFault>

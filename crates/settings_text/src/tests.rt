@@ -1,7 +1,9 @@
 // Texts with their answers, each worked out by hand from the tables of keys.
-use crate::parser_tests::show_parser;
+use crate::parser_tests::{show_parser, show_severity, show_time};
+use crate::time_tests::show_protocol;
 use crate::{
-    Multiline, OnError, OpKind, OpSpec, Routes, Settings, SettingsFault, StartAt, Texts, read,
+    FormatSpec, Multiline, OnError, OpKind, OpSpec, Routes, Settings, SettingsFault, StartAt,
+    Texts, read,
 };
 use entry_model::{Fields, Text, Value};
 use std::alloc::{AllocError, Global};
@@ -393,9 +395,38 @@ fn show_targets(front: &str, targets: &Option<Texts>, out: &mut String) -> Resul
     Ok(())
 }
 
+fn show_container(
+    format: Option<FormatSpec>,
+    by_path: bool,
+    out: &mut String,
+) -> Result<(), AllocError> {
+    out.push_str("container ")?;
+    out.push_str(match format {
+        None => "any",
+        Some(FormatSpec::Docker) => "docker",
+        Some(FormatSpec::Crio) => "crio",
+        Some(FormatSpec::Containerd) => "containerd",
+    })?;
+    if by_path {
+        out.push_str(" path")?;
+    }
+    Ok(())
+}
+
+fn show_source(source: &Option<Text>, out: &mut String) -> Result<(), AllocError> {
+    if let Some(source) = source {
+        write!(out, " by {source}")?;
+    }
+    Ok(())
+}
+
 fn show_kind(kind: &OpKind, out: &mut String) -> Result<(), AllocError> {
     match kind {
         OpKind::Noop => out.push_str("noop"),
+        OpKind::Container {
+            format,
+            add_metadata_from_filepath,
+        } => show_container(*format, *add_metadata_from_filepath, out),
         OpKind::Move { from, to } => write!(out, "move {from} {to}"),
         OpKind::Copy { from, to } => write!(out, "copy {from} {to}"),
         OpKind::Add { field, value } => {
@@ -409,6 +440,25 @@ fn show_kind(kind: &OpKind, out: &mut String) -> Result<(), AllocError> {
             show_texts(fields.as_slice(), out)
         }
         OpKind::Filter { expr } => write!(out, "filter {expr}"),
+        OpKind::Csv {
+            delimiter,
+            header,
+            parser,
+        } => {
+            write!(out, "csv {delimiter} {header}")?;
+            show_parser(parser, out)
+        }
+        OpKind::KeyValue {
+            delimiter,
+            pair_delimiter,
+            parser,
+        } => {
+            write!(out, "pairs {delimiter}")?;
+            if let Some(between) = pair_delimiter {
+                write!(out, " {between}")?;
+            }
+            show_parser(parser, out)
+        }
         OpKind::Json { parser } => {
             out.push_str("json")?;
             show_parser(parser, out)
@@ -417,10 +467,37 @@ fn show_kind(kind: &OpKind, out: &mut String) -> Result<(), AllocError> {
             write!(out, "regex {regex}")?;
             show_parser(parser, out)
         }
+        OpKind::Time(time) => show_time(time, out),
+        OpKind::Severity(severity) => show_severity(severity, out),
+        OpKind::Syslog {
+            year,
+            location,
+            parser,
+        } => {
+            show_protocol(*year, *location, out)?;
+            show_parser(parser, out)
+        }
         OpKind::Router { routes, default } => {
             out.push_str("router ")?;
             show_routes(routes, out)?;
             show_targets(" else ", default, out)
+        }
+        OpKind::Recombine {
+            combine_field,
+            first,
+            mark,
+            combine_with,
+            max_batch_size,
+            newest,
+            source_identifier,
+        } => {
+            let end = if *first { "first" } else { "last" };
+            write!(
+                out,
+                "recombine {combine_field} {end} {mark} with [{combine_with}] most {max_batch_size} "
+            )?;
+            out.push_str(if *newest { "newest" } else { "oldest" })?;
+            show_source(source_identifier, out)
         }
     }
 }

@@ -23,8 +23,14 @@ impl Keys for TimeKeys {
     ghost test = { λ _. is_key };
 
     fn has(&self, name: &str) -> bool {
-        name == "parse_from" || name == "layout_type" || name == "layout" || name == "location"
+        is_key(name)
     }
+}
+
+pub fn is_key(name: &str) -> bool
+    ensures { result ≡ times.is_key name.now }
+{
+    name == "parse_from" || name == "layout_type" || name == "layout" || name == "location"
 }
 
 fn type_named(name: &str) -> Option<LayoutType>
@@ -149,7 +155,7 @@ fn location_named(name: &str) -> Option<i32>
     }
 }
 
-fn location(alloc: Global, object: &Value, at: &str) -> Result<i32, SettingsFault>
+pub fn location(alloc: Global, object: &Value, at: &str) -> Result<i32, SettingsFault>
     ensures { Gives (λ location. location) result
         (kinds.may at.now (codes "location") (kinds.name times.location_named) (pos 0) (view object.now)) }
 {

@@ -78,7 +78,7 @@ counted_is nanos instant e =
     let inside = (decides_instant nanos).0 given.0 in
     (inside, not_negative nanos inside.0 ∙ ap pos given.1)
 
-layout_tells : (reading : Reading Said) (instant : ℕ) → instant_read reading ≡ Some instant → IsTimeOf reading (Ok instant)
+pub layout_tells : (reading : Reading Said) (instant : ℕ) → instant_read reading ≡ Some instant → IsTimeOf reading (Ok instant)
 layout_tells (Ok read) instant e =
     elim (cases_Bool (has_day read.0)) [
       | inl day ↦

@@ -114,10 +114,6 @@ check_daemon_set() {
     local pods=var/log/pods/shop_web-1_0a1b/nginx
     python3 -c 'import yaml' 2>/dev/null || { skip "python3 has no yaml"; return 0; }
     settings_of_pods | sed 's#"/var/#"var/#g' >settings.json && [ -s settings.json ] || return 1
-    if grep -q -F -e '"container"' settings.json && "$root/tests/e2e/from_filelog" not_yet | grep -q -x container; then
-        skip "the program has no container"
-        return 0
-    fi
     mkdir -p "$pods"
     echo '2024-05-01T10:00:00.5Z stdout F {"level":"warn","msg":"low"}' >"$pods/0.log.20240501-100001"
     echo '2024-05-01T10:00:02Z stderr F plain' >"$pods/0.log"

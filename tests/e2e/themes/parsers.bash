@@ -23,6 +23,29 @@ check_regex_parser() {
         gives "$(one regex_parser "$pattern,\"on_error\":\"drop\"")" 'one\n'
 }
 
+check_csv_parser() {
+    local header='"header":"id,msg"'
+    gives "$(one csv_parser "$header")" '7,"a,b"\n, b\n"""x""",\n' \
+        '["7,\"a,b\"", {"id": "7", "msg": "a,b"}, {}]' '[", b", {"id": "", "msg": " b"}, {}]' '["\"\"\"x\"\"\",", {"id": "\"x\"", "msg": ""}, {}]' &&
+        gives "$(one csv_parser "$header")" '7\na,b,c\n1,2\r3,4\n' '["7", {}, {}]' '["a,b,c", {}, {}]' '["1,2\r3,4", {}, {}]' &&
+        gives "$(one csv_parser "$header,\"on_error\":\"drop\"")" '7\n1,2\n' '["1,2", {"id": "1", "msg": "2"}, {}]' &&
+        gives "$(one csv_parser '"header":"a;b,c","delimiter":";","parse_to":"body"')" '1;2,3\n' '[{"a": "1", "b,c": "2,3"}, {}, {}]' &&
+        stamped "$(one csv_parser '"header":"t,s","timestamp":{"parse_from":"attributes.t","layout_type":"epoch","layout":"s"},"severity":{"parse_from":"attributes.s"}')" \
+            '1704067200,warn\nx,warn\n' '[{"s": "warn", "t": "1704067200"}, 13, "warn", "1704067200000000000"]' '[{}, null, null, null]'
+}
+
+check_key_value_parser() {
+    gives "$(one key_value_parser)" "a=1 b=\"x y\" c='z=1'\na=1\ta=2 \"k k\"= d=e=f\n" \
+        "[\"a=1 b=\\\"x y\\\" c='z=1'\", {\"a\": \"1\", \"b\": \"x y\", \"c\": \"z=1\"}, {}]" \
+        '["a=1\ta=2 \"k k\"= d=e=f", {"a": "2", "d": "e=f", "k k": ""}, {}]' &&
+        gives "$(one key_value_parser)" 'a=1 b\na=1 b="x\n=1\n""=1\n' '["a=1 b", {}, {}]' '["a=1 b=\"x", {}, {}]' '["=1", {}, {}]' '["\"\"=1", {}, {}]' &&
+        gives "$(one key_value_parser '"delimiter":": ","pair_delimiter":";"')" 'a: 1 ; b: 2;;a: x y;\na: 1;b\n' \
+            '["a: 1 ; b: 2;;a: x y;", {"a": "x y", "b": "2"}, {}]' '["a: 1;b", {}, {}]' &&
+        gives "$(one key_value_parser '"on_error":"drop"')" 'b\na=1\n' '["a=1", {"a": "1"}, {}]' &&
+        stamped "$(one key_value_parser '"parse_to":"body","timestamp":{"parse_from":"body.t","layout_type":"epoch","layout":"s"},"severity":{"parse_from":"body.s"}')" \
+            't=1704067200 s=warn\nt=x s=warn\n' '[{}, 13, "warn", "1704067200000000000"]' '[{}, null, null, null]'
+}
+
 check_where_members_are_put() {
     local log='{"a":1,"b":{"c":2}}\n' text='"{\"a\":1,\"b\":{\"c\":2}}"'
     local add='"include_file_name":false,"operators":[{"type":"add","field":"attributes.m","value":%s},{"type":"json_parser","parse_to":"%s"}]'
@@ -44,4 +67,20 @@ check_parsers_refused() {
         ends 3 'operator 0 layout' "$front\"regex\":\"a\",\"timestamp\":{\"parse_from\":\"body\",\"layout\":\"%q\"}}]}" &&
         ends 3 'settings missing operators[0].regex' "${front%,}}]}" &&
         ends 3 'settings missing operators[0].timestamp.layout' "$front\"regex\":\"(\",\"timestamp\":{\"parse_from\":\"body\"}}]}"
+}
+
+check_delimiters_refused() {
+    local csv='{"include":["app.log"],"operators":[{"type":"csv_parser"' pairs='{"include":["app.log"],"operators":[{"type":"key_value_parser"'
+    ends 3 'settings missing operators[0].header' "$csv}]}" &&
+        ends 3 'settings out-of-range operators[0].header' "$csv,\"header\":\"a,b,a\"}]}" &&
+        ends 3 'settings out-of-range operators[0].header' "$csv,\"header\":\"a,,b\"}]}" &&
+        ends 3 'settings out-of-range operators[0].delimiter' "$csv,\"header\":1,\"delimiter\":\"::\"}]}" &&
+        ends 3 'settings out-of-range operators[0].delimiter' "$csv,\"header\":\"a\",\"delimiter\":\"\\n\"}]}" &&
+        ends 3 'settings wrong-kind operators[0].delimiter' "$pairs,\"delimiter\":7}]}" &&
+        ends 3 'settings out-of-range operators[0].delimiter' "$pairs,\"delimiter\":\"\"}]}" &&
+        ends 3 'settings out-of-range operators[0].delimiter' "$pairs,\"delimiter\":\"'\"}]}" &&
+        ends 3 'settings out-of-range operators[0].pair_delimiter' "$pairs,\"pair_delimiter\":\"=\"}]}" &&
+        ends 3 'settings unknown operators[0].header' "$pairs,\"header\":\"a\"}]}" &&
+        ends 3 'operator 0 path' "$csv,\"header\":\"a\",\"parse_from\":\"x\"}]}" &&
+        ends 3 'operator 0 layout' "$pairs,\"timestamp\":{\"parse_from\":\"body\",\"layout\":\"%q\"}}]}"
 }

@@ -2,7 +2,7 @@ use Rattle.std.proofs.Common.{◌≡◌, ◌+◌, ◌-◌, ◌++◌, List, ℕ, 
 use Rattle.std.proofs.lemmas.List.{length-take-le}
 use Rattle.std.proofs.lemmas.Result.{err_from_is_err_and}
 use Rattle.std.specs.Prelude.{Err}
-use Rattle.op_kinds.specs.States.{states_spelling}
+use Rattle.op_kinds.specs.StateTexts.{state_text}
 use Rattle.standing.specs.AreRules.{AreRules}
 use Rattle.standing.specs.Rows.{Row}
 use Rattle.standing.specs.Tokens.{used}
@@ -21,7 +21,7 @@ loop-from-init g c =
     let text = c.args.setup.now.settings.now in
     let states = c.args.feeding.now.state.states.items in
     let laws : AreRules (rules_in c.args.setup.now) = c.a_pipeline_is_rules.ensures text c.requires.setup.0 in
-    let good : IsTrue ((rules_in c.args.setup.now).is_state (feeding_row c.args.feeding.now).state) = c.a_row_tells_its_state.ensures.restored text (states_spelling states) states (record { kinds = c.requires.sane.states; spelled = refl }) in
+    let good : IsTrue ((rules_in c.args.setup.now).is_state (feeding_row c.args.feeding.now).state) = c.a_row_tells_its_state.ensures.restored text (state_text states) states (record { kinds = c.requires.sane.states; told = refl }) in
     let offset : ℕ = c.args.feeding.now.offset in
     record {
       reading = subst (λ (l : List ℕ). IsReading trees disks c.args.setup.now c.args.file c.args.feeding.now c.args.feeding.now c.args.end.now c.args.end.now offset l c.args.tree.now c.args.tree.now c.args.disk.now c.args.disk.now) (sym c.new-carried.ensures.items)
@@ -44,7 +44,7 @@ returns-then-not-is_whole-clause-ok g c =
     let text = c.args.setup.now.settings.now in
     let states = c.args.feeding.now.state.states.items in
     let laws : AreRules (rules_in c.args.setup.now) = c.a_pipeline_is_rules.ensures text c.requires.setup.0 in
-    let good : IsTrue ((rules_in c.args.setup.now).is_state (feeding_row c.args.feeding.now).state) = c.a_row_tells_its_state.ensures.restored text (states_spelling states) states (record { kinds = c.requires.sane.states; spelled = refl }) in
+    let good : IsTrue ((rules_in c.args.setup.now).is_state (feeding_row c.args.feeding.now).state) = c.a_row_tells_its_state.ensures.restored text (state_text states) states (record { kinds = c.requires.sane.states; told = refl }) in
     let not_whole : c.read_piece-count.result.1 ≡ Whole → ⊥ = c.is_whole.ensures.no c.if-not-is_whole.true in
     let buffer = c.read_piece-count.new.buffer in
     let none : take c.read_piece-count.result.0 buffer ≡ [] = ap (λ (n : ℕ). take n buffer) (c.read_piece-count.ensures.none not_whole) in
@@ -94,7 +94,7 @@ returns-in_err-feed_carried-clause-full g c = λ size is.
     let text = c.args.setup.now.settings.now in
     let states = c.args.feeding.now.state.states.items in
     let laws : AreRules (rules_in c.args.setup.now) = c.a_pipeline_is_rules.ensures text c.requires.setup.0 in
-    let good : IsTrue ((rules_in c.args.setup.now).is_state (feeding_row c.args.feeding.now).state) = c.a_row_tells_its_state.ensures.restored text (states_spelling states) states (record { kinds = c.requires.sane.states; spelled = refl }) in
+    let good : IsTrue ((rules_in c.args.setup.now).is_state (feeding_row c.args.feeding.now).state) = c.a_row_tells_its_state.ensures.restored text (state_text states) states (record { kinds = c.requires.sane.states; told = refl }) in
     let buffer = c.read_piece-count.new.buffer in
     let piece : List ℕ = take c.read_piece-count.result.0 buffer in
     let count_is : length piece ≡ c.read_piece-count.result.0 = length-take-le c.read_piece-count.result.0 buffer c.read_piece-count.ensures.within.0 in
@@ -115,7 +115,7 @@ loop-from-preserved g c =
     let rules = rules_in c.args.setup.now in
     let states = c.args.feeding.now.state.states.items in
     let laws : AreRules (rules_in c.args.setup.now) = c.a_pipeline_is_rules.ensures text c.requires.setup.0 in
-    let good : IsTrue ((rules_in c.args.setup.now).is_state (feeding_row c.args.feeding.now).state) = c.a_row_tells_its_state.ensures.restored text (states_spelling states) states (record { kinds = c.requires.sane.states; spelled = refl }) in
+    let good : IsTrue ((rules_in c.args.setup.now).is_state (feeding_row c.args.feeding.now).state) = c.a_row_tells_its_state.ensures.restored text (state_text states) states (record { kinds = c.requires.sane.states; told = refl }) in
     let most : ℕ = length c.args.buffer.now in
     let offset : ℕ = c.args.feeding.now.offset in
     let count : ℕ = c.read_piece-count.result.0 in

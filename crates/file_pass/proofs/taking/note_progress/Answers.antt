@@ -8,12 +8,12 @@ use Rattle.file_pass.proofs.Listing.{set_same}
 use Rattle.file_pass.proofs.Flagging.{unchanged_none, unchanged_set}
 use Rattle.file_pass.proofs.taking.note_progress.Goals as goal
 
-pub returns-then-feeding-row-clause-flags : goal.returns-then-feeding-row-clause-flags
-returns-then-feeding-row-clause-flags c =
+pub returns-in_ok-bytes-clause-flags : goal.returns-in_ok-bytes-clause-flags
+returns-in_ok-bytes-clause-flags c =
     let feeding = c.args.feeding.now in
     let further : c.row.result.now.offset < feeding.offset = omega (arith, c.if-feeding-row.true) in
     subst (λ (rows : List Row). KeepsUnchanged c.args.taking.now.tracker c.args.taking.now.changed.items rows (slice_set c.args.taking.now.changed.items c.args.place true)) (sym (c.advance.ensures c.row.result.now c.row.ensures))
-    (unchanged_set c.args.taking.now.tracker c.args.taking.now.changed.items c.args.place c.row.result.now (with_progress feeding.offset feeding.state.records feeding.state.lines c.new.result.items c.row.result.now) c.row.ensures (record { front = omega arith; offset = omega (arith, further) }) (inr further))
+    (unchanged_set c.args.taking.now.tracker c.args.taking.now.changed.items c.args.place c.row.result.now (with_progress feeding.offset feeding.state.records feeding.state.lines _ c.row.result.now) c.row.ensures (record { front = omega arith; offset = omega (arith, further) }) (inr further))
 
 pub returns-else-feeding-row-clause-row : goal.returns-else-feeding-row-clause-row
 returns-else-feeding-row-clause-row c = λ row at.

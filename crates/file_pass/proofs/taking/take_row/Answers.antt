@@ -41,7 +41,7 @@ returns-clause-ok g c =
     c.read_on.new.feeding c.read_on.new.end c.in_ok-ending.ending c.has_more.result (c.read_on.new.feeding.state.lines - row.lines) c.note_progress.new.taking.tracker c.args.disk.now c.read_on.new.disk on
     c.has_more.ensures.whole c.has_more.ensures.not_whole
     (lines_later c.args.setup.now laws row c.in_ok-feeding.feeding c.read_on.new.feeding on.given (c.requires.sane.rows c.args.place row c.row-row.ensures).state c.in_ok-feeding.ensures.row on.row)
-    (c.note_progress.ensures.row row c.row-row.ensures) c.read_on.ensures.tree.taken_then)
+    (c.in_ok-note_progress.ensures.row row c.row-row.ensures) c.read_on.ensures.tree.taken_then)
 
 pub returns-clause-sane : goal.returns-clause-sane
 returns-clause-sane g c =
@@ -49,10 +49,13 @@ returns-clause-sane g c =
     let laws : AreRules (rules_in c.args.setup.now) = c.a_pipeline_is_rules.ensures c.args.setup.now.settings.now c.requires.setup.0 in
     sane_on_row g.T.Tree.meaning g.D.Disk.meaning c.args.setup.now laws c.args.file c.requires.size c.args.place row c.args.taking.now c.note_progress.new.taking c.requires.sane c.row-row.ensures c.in_ok-feeding.feeding c.read_on.new.feeding
     c.in_ok-feeding.ensures.row c.read_on.new.end c.in_ok-ending.ending c.args.tree.now c.read_on.new.tree c.args.disk.now c.read_on.new.disk c.in_ok-ending.ensures.ok
-    c.in_ok-ending.ensures.sane (c.note_progress.ensures.row row c.row-row.ensures) c.note_progress.ensures.long c.note_progress.ensures.end c.note_progress.ensures.counts
+    c.in_ok-ending.ensures.sane (c.in_ok-note_progress.ensures.short row c.row-row.ensures) (c.in_ok-note_progress.ensures.row row c.row-row.ensures) c.note_progress.ensures.long c.note_progress.ensures.end c.note_progress.ensures.counts
 
 pub returns-clause-tree : goal.returns-clause-tree
 returns-clause-tree g c = tree_wider g.T.Tree.meaning _ _ _ c.args.tree.now c.read_on.new.tree c.requires.room.1 c.read_on.ensures.tree
 
 pub returns-then-file-row-clause-flags : goal.returns-then-file-row-clause-flags
 returns-then-file-row-clause-flags g c = unchanged_none c.args.taking.now.tracker c.args.taking.now.changed.items
+
+pub returns-in_err-note_progress-clause-tree : goal.returns-in_err-note_progress-clause-tree
+returns-in_err-note_progress-clause-tree g c = tree_wider g.T.Tree.meaning _ _ _ c.args.tree.now c.read_on.new.tree c.requires.room.1 c.read_on.ensures.tree

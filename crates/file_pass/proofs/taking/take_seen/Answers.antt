@@ -10,7 +10,6 @@ use Rattle.file_pass.proofs.Filling.{seen_fills}
 use Rattle.file_pass.proofs.Finding.{settled_within}
 use Rattle.file_pass.proofs.Joining.{finds_idle, finds_same}
 use Rattle.file_pass.proofs.Opening.{seen_compressed, seen_full}
-use Rattle.file_pass.proofs.RowLemmas.{fresh_none}
 use Rattle.file_pass.proofs.taking.take_seen.Goals as goal
 
 pub returns-then-starts_with-clause-ok : goal.returns-then-starts_with-clause-ok
@@ -30,7 +29,7 @@ returns-in_ok-found-in-Some-clause-ok g c =
     let plain : is_compressed c.args.front.now ≡ false = sym c.starts_with.ensures.value ∙ c.if-starts_with.false in
     rw (sym c.in_ok-place.ensures.end)
     (finds_same g.T.Tree.meaning g.D.Disk.meaning _ _ c.in_ok-found-in-Some.found c.settle.new.taking.end c.take_row.new.taking.end c.args.tree.now c.take_row.new.tree c.args.disk.now c.take_row.new.disk
-    (λ count added x y taken. seen_taken c.args.setup.now (fresh_none c.args.setup.now laws) c.args.path.now c.args.file c.args.front.now plain some c.args.taking.now.tracker c.settle.new.taking.tracker c.take_row.new.taking.tracker c.in-Some.place added c.in_ok-found-in-Some.found count x y
+    (λ count added x y taken. seen_taken c.args.setup.now c.args.path.now c.args.file c.args.front.now plain some c.args.taking.now.tracker c.settle.new.taking.tracker c.take_row.new.taking.tracker c.in-Some.place added c.in_ok-found-in-Some.found count x y
     (rw c.in-Some.is at c.in_ok-place.ensures.settles) taken) c.in_ok-found-in-Some.ensures.ok)
 
 pub returns-in_err-found-in-Some-clause-full : goal.returns-in_err-found-in-Some-clause-full
@@ -41,7 +40,7 @@ returns-in_err-found-in-Some-clause-full g c = λ size is.
     let same : OutputFull size ≡ c.in_err-found-in-Some.field-0.0 = rw is at c.from_residual-in_err-found-in-Some.ensures.1 in
     rw (sym c.in_ok-place.ensures.end)
     (told_weaker _ _ (g.T.Tree.meaning.world c.args.tree.now) (g.T.Tree.meaning.world c.take_row.new.tree)
-    (λ x y fills. seen_fills c.args.setup.now laws (fresh_none c.args.setup.now laws) c.args.path.now c.args.file c.args.front.now plain some c.args.taking.now.tracker c.settle.new.taking.tracker c.in-Some.place c.settle.new.taking.end size x y
+    (λ x y fills. seen_fills c.args.setup.now laws c.args.path.now c.args.file c.args.front.now plain some c.args.taking.now.tracker c.settle.new.taking.tracker c.in-Some.place c.settle.new.taking.end size x y
     (λ row at. (c.in_ok-place.ensures.sane.rows c.in-Some.place row at).state) (rw c.in-Some.is at c.in_ok-place.ensures.settles) fills)
     (c.in_err-found-in-Some.ensures.full size (ap Err (sym same))))
 

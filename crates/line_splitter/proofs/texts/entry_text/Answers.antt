@@ -9,7 +9,7 @@ returns-then-from-to-clause-none c =
 
 pub returns-clause-some : goal.returns-clause-some
 returns-clause-some c =
-    c.in_ok-from_utf8_lossy.ensures.lossy
+    c.in_ok-text_of.ensures
     ∙ sym (entry_text_is c.args.leading c.args.trailing c.args.token.now c.trim-from.result.0 c.trim-from.result.1 c.trim-from.ensures.from c.trim-from.ensures.to)
 
 pub returns-clause-not_empty : goal.returns-clause-not_empty

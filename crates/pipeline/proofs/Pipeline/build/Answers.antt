@@ -1,10 +1,15 @@
 use Rattle.std.proofs.Common.{List, ℕ, subst}
 use Rattle.std.proofs.lemmas.Result.{err_from_is_err_and}
+use Rattle.op_kinds.proofs.Compilable.{compilable}
 use Rattle.pipeline.proofs.Building.{operators_refused}
 use Rattle.pipeline.specs.BuildFaults.{IsOperatorFault}
 use Rattle.pipeline.specs.Globs.{ArePatterns}
 use Rattle.settings_text.specs.declared.settings.OpSpec.{OpSpec}
 use Rattle.pipeline.proofs.Pipeline.build.Goals as goal
+
+pub graph_of-requires-clause-compilable : goal.graph_of-requires-clause-compilable
+graph_of-requires-clause-compilable c = λ place operator there.
+    compilable operator.kind (c.requires.operators place operator (rw c.as_slice-3.ensures at there)).kind
 
 pub returns-in_err-graph-clause-fault : goal.returns-in_err-graph-clause-fault
 returns-in_err-graph-clause-fault c =

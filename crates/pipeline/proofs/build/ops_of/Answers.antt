@@ -17,7 +17,7 @@ returns-then-not-branch-clause-fault c =
     }
 
 pub compile-requires : goal.compile-requires
-compile-requires c = c.requires.routes c.loop-place.place c.index-specs-place.result (spec_at c.args.specs.now c.loop-place.place c.index-specs-place.result c.loop-place-test.true c.index-specs-place.is)
+compile-requires c = c.requires.compilable c.loop-place.place c.index-specs-place.result (spec_at c.args.specs.now c.loop-place.place c.index-specs-place.result c.loop-place-test.true c.index-specs-place.is)
 
 pub returns-in-Err-clause-fault : goal.returns-in-Err-clause-fault
 returns-in-Err-clause-fault c =

@@ -3,8 +3,10 @@ use Rattle.graph_core.specs.Traces.{start_states}
 use Rattle.line_splitter.proofs.CutLemmas.{used_by-cuts, cuts-append}
 use Rattle.line_splitter.specs.Cuts.{cuts, used_by, IsCutRule}
 use Rattle.pipeline.proofs.Feeding.{GraphLaws}
-use Rattle.pipeline.proofs.Ruled.{fits_whole, same_mark, nothing_is, given_in_parts, spelled_so, fresh_spelled_so}
-use Rattle.pipeline.specs.AsRules.{is_nothing}
+use Rattle.pipeline.proofs.Rows.{is_told, first_told}
+use Rattle.pipeline.proofs.Ruled.{fits_whole, same_mark, goes_on_so, given_in_parts, stays_so, kept_in_parts}
+use Rattle.op_kinds.specs.StateTexts.{states_in}
+use Rattle.op_kinds.specs.States.{states_spelling, kinds_of}
 use Rattle.pipeline.specs.Parts.{settings_of, network}
 use Rattle.pipeline.specs.Tokens.{first_cut_of}
 use Rattle.standing.proofs.ExampleLemmas.{all_used, cuts_go_on}
@@ -25,13 +27,12 @@ returns c = λ settings_text keeps.
         going_on = cuts_go_on first rule;
       };
       operators = record {
-        fresh_is_state = ap is_nothing (fresh_spelled_so settings pipeline.graph graph);
-        state_goes_on = λ path before state tokens is. ap is_nothing (spelled_so settings pipeline.graph graph path before tokens);
-        none_made = λ path before state is. sym (graph.begin (start_states (network pipeline)) []).items;
-        made_in_parts = λ path before state tokens more is. given_in_parts settings pipeline.graph graph path before tokens more;
-        state_stays = λ path before state is. spelled_so settings pipeline.graph graph path before [] ∙ nothing_is state is;
-        state_in_parts = λ path before state tokens more is.
-            spelled_so settings pipeline.graph graph path before (tokens ++ more) ∙ sym (spelled_so settings pipeline.graph graph path (before + length tokens) more);
+        fresh_is_state = is_told pipeline.graph (states_spelling (start_states (network pipeline))) (start_states (network pipeline)) (first_told pipeline.graph);
+        state_goes_on = λ path before state tokens is. goes_on_so settings pipeline.graph graph path before state tokens is;
+        none_made = λ path before state is. sym (graph.begin (states_in (kinds_of pipeline.graph) state) []).items;
+        made_in_parts = λ path before state tokens more is. given_in_parts settings pipeline.graph graph path before state tokens more is;
+        state_stays = λ path before state is. stays_so settings pipeline.graph graph path before state is;
+        state_in_parts = λ path before state tokens more is. kept_in_parts settings pipeline.graph graph path before state tokens more is;
       };
       lines = record {
         not_empty = λ mark. let one = c.line_is_one_line.ensures.one mark.id mark.number mark.entry in omega (arith, ap length one.ends, length-append one.content (10 ∷ []));

@@ -1,4 +1,4 @@
-use Rattle.std.proofs.Common.{◌≡◌, ℕ, List, subst}
+use Rattle.std.proofs.Common.{ℕ, List, subst}
 use Rattle.std.specs.Prelude.{IsUtf8}
 use Rattle.entry_model.specs.Datum.{Datum, datum}
 use Rattle.entry_model.specs.Lawful.{IsLawful}

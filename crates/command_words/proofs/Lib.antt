@@ -1,0 +1,10 @@
+mod Faults
+mod Words
+mod CommandLine
+mod Commands
+mod Numbers
+mod Found
+mod Adding
+mod Taken
+mod Failed
+mod Parsed

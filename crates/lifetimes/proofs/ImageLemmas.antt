@@ -1,0 +1,124 @@
+-- What an image may have come to, call by call.
+use Rattle.std.proofs.Common.{◌≡◌, ℕ, ◌+◌, ◌≤◌, ◌<◌, List, Bool, IsTrue, Option, Some, None, refl, subst, arith, inl, inr}
+use Rattle.checkpoint_journal.specs.JournalOf.{log_of, HasJournal}
+use Rattle.checkpoint_journal.specs.Written.{IsWorn}
+use Rattle.checkpoint_journal.specs.declared.journal.Journal.{Journal}
+use Rattle.checkpoint_store.specs.declared.Checkpoint.{Checkpoint as Saved}
+use Rattle.lifetimes.specs.Past.{Past, IsLeftAt}
+use Rattle.outside.specs.Image.{Image}
+use Rattle.outside.specs.World.{History}
+use Rattle.outside.specs.declared.disk.DiskFile.{DiskFile}
+use Rattle.outside.specs.declared.disk.DiskFile.TheVariants.{Output}
+use Rattle.poll_core.proofs.ImageLemmas.{found_kept, sequence_kept, sound_still, standing_still, one_sequence}
+use Rattle.poll_core.proofs.SafeLemmas.{stays_sound, steps_sound}
+use Rattle.poll_core.proofs.SessionLemmas.{left_goes_on, found_first}
+use Rattle.poll_core.specs.Found.{IsFound}
+use Rattle.poll_core.specs.IsSession.{IsSession}
+use Rattle.poll_core.specs.Next.{HasNext}
+use Rattle.poll_core.specs.Polled.{IsSoundIn, Stays, Steps, ComesAfter}
+use Rattle.poll_core.specs.Remembers.{HasMemory, EndsWithMemory, IsLeftBy}
+use Rattle.poll_core.specs.Reopens.{Reopens}
+use Rattle.poll_core.specs.Sequence.{HasSequence, no_slot, of_log}
+use Rattle.poll_core.specs.SessionParts.{store_checkpoint, rules_of_session, journal_of_session}
+use Rattle.poll_core.specs.declared.session.Session.{Session}
+use Rattle.slot_store.specs.ChosenSlot.{chosen_slot}
+use Rattle.standing.proofs.MomentLemmas.{apart_before}
+use Rattle.standing.proofs.StandsLemmas.{standing_lasts}
+use Rattle.standing.specs.AreRules.{AreRules}
+use Rattle.standing.specs.Marks.{Mark}
+use Rattle.standing.specs.Moments.{IsLater}
+use Rattle.standing.specs.Rules.{Rules}
+use Rattle.standing.specs.Standing.{Found, nothing, damaged, found, Sound}
+
+-- ---- sequence numbers
+
+journal_number : (image : Image DiskFile) (journal : Journal) (saved : Saved) → HasJournal journal saved image → HasSequence image journal.sequence
+journal_number image journal saved has = of_log (log_of journal) has.base has.records has.log_is
+
+number_of_found : (rules : Rules) (image : Image DiskFile) (there : Found) → IsFound image there → Sound rules there (image Output) → (sequence : ℕ) × HasSequence image sequence
+number_of_found rules image nothing has sound = (0, no_slot has)
+number_of_found rules image damaged has sound = absurd sound
+number_of_found rules image (found checkpoint) has sound = (has.1.0.sequence, journal_number image has.1.0 has.0 has.1.1)
+
+-- an image that is sound has a sequence number
+number_of : (rules : Rules) (image : Image DiskFile) → IsSoundIn rules image → (sequence : ℕ) × HasSequence image sequence
+number_of rules image is = number_of_found rules image is.there is.found is.sound
+
+-- an image has no greater number than this
+abbrev pub NumberedBy : ℕ → Image DiskFile → Type 0
+NumberedBy most image = (sequence : ℕ) → HasSequence image sequence → sequence ≤ most
+
+pub numbered_by : (image : Image DiskFile) (own most : ℕ) → HasSequence image own → own ≤ most → NumberedBy most image
+numbered_by image own most has within = λ sequence have. subst (λ (n : ℕ). n ≤ most) (one_sequence image own sequence has have) within
+
+-- ---- openings
+
+pub left_reopened : (rules : Rules) (past : Past) (old new : Image DiskFile) → Reopens old new → IsLeftAt rules past old → IsLeftAt rules past new
+left_reopened rules past old new reopens left =
+    let was = number_of rules old left.sound in
+    record {
+      sound = record { there = left.sound.there; found = found_kept reopens.logs left.sound.there left.sound.found; sound = sound_still rules old new left.sound.there reopens left.sound.found left.sound.sound };
+      standing = λ apart.
+          let stood = left.standing apart in
+          record { there = stood.there; found = found_kept reopens.logs stood.there stood.found; stands = standing_still rules past.history old new stood.there reopens stood.found stood.stands };
+      numbered = numbered_by new was.0 past.polls (sequence_kept reopens.logs was.0 was.1) (left.numbered was.0 was.1);
+      none_open = λ early. reopens.logs.no_slot (left.none_open early);
+    }
+
+-- ---- the world goes on
+
+pub left_later : (rules : Rules) → AreRules rules → (old new : History) (polls : ℕ) (early : Bool) (image : Image DiskFile) → IsLater old new
+    → IsLeftAt rules (record { history = old; polls = polls; early = early }) image → IsLeftAt rules (record { history = new; polls = polls; early = early }) image
+left_later rules laws old new polls early image later left = record {
+  sound = left.sound;
+  standing = λ apart.
+      let stood = left.standing (apart_before rules.front_size old new later apart) in
+      record { there = stood.there; found = stood.found; stands = standing_lasts rules laws old new stood.there (image Output) later stood.stands };
+  numbered = left.numbered;
+  none_open = left.none_open;
+}
+
+-- ---- polls
+
+stays_numbered : (journal : Option Journal) (saved : Saved) (old new : Image DiskFile) (polls : ℕ) → EndsWithMemory journal saved old → HasMemory journal saved new → NumberedBy polls old → NumberedBy (polls + 1) new
+stays_numbered None saved old new polls ends memory before = numbered_by new 0 (polls + 1) (no_slot memory.0) (omega arith)
+stays_numbered (Some journal) saved old new polls ends memory before =
+    numbered_by new journal.sequence (polls + 1) (journal_number new journal saved memory) (omega (arith, before journal.sequence (journal_number old journal saved ends.journal_is)))
+
+gains_numbered : (journal : Option Journal) (saved after : Saved) (old new : Image DiskFile) (polls : ℕ) → EndsWithMemory journal saved old → HasNext journal after new → NumberedBy polls old → NumberedBy (polls + 1) new
+gains_numbered None saved after old new polls ends next before = numbered_by new next.0.sequence (polls + 1) (journal_number new next.0 after next.1) (omega (arith, next.2))
+gains_numbered (Some journal) saved after old new polls ends next before =
+    numbered_by new next.0.sequence (polls + 1) (journal_number new next.0 after next.1) (omega (arith, next.2, before journal.sequence (journal_number old journal saved ends.journal_is)))
+
+pub worn_never : (journal : Option Journal) (saved : Saved) (image : Image DiskFile) (polls : ℕ) → EndsWithMemory journal saved image → NumberedBy polls image → polls < 18446744073709551615 → IsWorn journal → ⊥
+worn_never None saved image polls ends within few worn = worn
+worn_never (Some journal) saved image polls ends within few worn = omega (arith, within journal.sequence (journal_number image journal saved ends.journal_is), few, worn)
+
+-- A session without a journal opens no slot where it stays.
+stays_closed : (session : Session) (old new : Image DiskFile) → IsLeftBy session old → Stays session old new → chosen_slot old ≡ None → chosen_slot new ≡ None
+stays_closed session old new left stays closed =
+    let none : journal_of_session session ≡ None = found_first (journal_of_session session) (store_checkpoint session) old nothing (left_goes_on session old left).memory closed refl in
+    let memory : HasMemory None (store_checkpoint session) new = subst (λ (journal : Option Journal). HasMemory journal (store_checkpoint session) new) none stays.memory in
+    memory.0
+
+-- what a poll leaves of an image, but for what it stands for
+pub record Kept (rules : Rules) (polls : ℕ) (image : Image DiskFile) : Type 0 where
+  pub sound : IsSoundIn rules image
+  pub numbered : NumberedBy polls image
+
+module _ (session : Session) (is : IsSession session) (rules : Rules) (same : rules_of_session session ≡ rules) (past : Past) (old new : Image DiskFile) (left : IsLeftBy session old) (was : IsLeftAt rules past old) where
+  pub kept_by_stays : Stays session old new → Kept rules (past.polls + 1) new
+  kept_by_stays stays = record {
+    sound = subst (λ (r : Rules). IsSoundIn r new) same (stays_sound session old new is left stays);
+    numbered = stays_numbered (journal_of_session session) (store_checkpoint session) old new past.polls left.memory stays.memory was.numbered;
+  }
+
+  pub kept_by_steps : (after : Saved) (added : List Mark) → ComesAfter session after added → Steps session after added old new → Kept rules (past.polls + 1) new
+  kept_by_steps after added comes (inl stays) = kept_by_stays stays
+  kept_by_steps after added comes (inr gains) = record {
+    sound = subst (λ (r : Rules). IsSoundIn r new) same (steps_sound session after added old new is comes left (inr gains));
+    numbered = gains_numbered (journal_of_session session) (store_checkpoint session) after old new past.polls left.memory gains.memory was.numbered;
+  }
+
+  pub closed_by_stays : IsTrue past.early → Stays session old new → chosen_slot new ≡ None
+  closed_by_stays early stays = stays_closed session old new left stays (was.none_open early)

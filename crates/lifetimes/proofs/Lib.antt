@@ -1,0 +1,11 @@
+pub mod ImageLemmas
+pub mod DiskLemmas
+pub mod TreeLemmas
+pub mod CreatedLemmas
+pub mod OwnLemmas
+pub mod SmallLemmas
+pub mod LargeLemmas
+pub mod PollLemmas
+pub mod RefusalLemmas
+pub mod LifeLemmas
+pub mod RunLemmas

@@ -1,0 +1,9 @@
+pub mod Refusal
+pub mod Answered
+pub mod Script
+pub mod Large
+pub mod Small
+pub mod Course
+pub mod Ended
+pub mod Past
+pub mod Life

@@ -1,0 +1,113 @@
+-- What the past means for the world, for the disk and for a session.
+use Rattle.std.specs.Prelude.{◌≡◌, ◌≤◌, ◌<◌, ℕ, ◌+◌, Bool, ◌&&◌, List, [], length, Option, None, Some, IsTrue, ⊤}
+use Rattle.checkpoint_store.specs.declared.TheConstants.{OUTPUT_LIMIT}
+use Rattle.lifetimes.specs.Course.{GoesBy, MayFill}
+use Rattle.lifetimes.specs.Ended.{history_of, AllReached}
+use Rattle.lifetimes.specs.Refusal.{IsSetup}
+use Rattle.lifetimes.specs.Small.{IsSmall}
+use Rattle.lifetimes.specs.declared.fault.ScriptFault.{ScriptFault}
+use Rattle.lifetimes.specs.declared.fault.ScriptFault.TheVariants.{Setup, NotOpen, AlreadyOpen, NotLawful, Memory}
+use Rattle.mem_world.specs.MemDisk.{disk_images, faults_of, most_faults}
+use Rattle.mem_world.specs.MemTree.{state_of}
+use Rattle.mem_world.specs.declared.disk.MemDisk.{MemDisk}
+use Rattle.mem_world.specs.declared.tree.MemTree.{MemTree}
+use Rattle.outside.specs.Image.{Image}
+use Rattle.outside.specs.World.{Event as WorldEvent, History}
+use Rattle.outside.specs.declared.disk.DiskFile.{DiskFile}
+use Rattle.poll_core.specs.IsSession.{IsSession}
+use Rattle.poll_core.specs.Polled.{IsSoundIn, IsStanding}
+use Rattle.poll_core.specs.Sequence.{HasSequence}
+use Rattle.poll_core.specs.SessionParts.{rules_of_session, limit_of}
+use Rattle.poll_core.specs.StandsOn.{StandsOn}
+use Rattle.poll_core.specs.declared.session.Session.{Session}
+use Rattle.slot_store.specs.ChosenSlot.{chosen_slot}
+use Rattle.slot_store.specs.Synced.{EachLeft}
+use Rattle.standing.specs.Apart.{Apart}
+use Rattle.standing.specs.AreRules.{AreRules}
+use Rattle.standing.specs.Rules.{Rules}
+
+-- ---- the world
+
+-- These steps wait, and no call fails.
+pub record IsTreeAt (plan : List (ℕ × WorldEvent)) (tree : MemTree) : Type 0 where
+  pub waiting : (state_of tree).waiting ≡ plan
+  pub plan_is : (state_of tree).plan ≡ record { steps = plan; since = length (history_of tree) }
+  pub faults : (state_of tree).faults ≡ 0
+  pub spare : (state_of tree).spare ≡ 0
+
+-- ---- the disk
+
+-- what counts of the past for what a crash may leave
+pub record Past : Type 0 where
+  pub history : History
+  pub polls : ℕ
+  -- each poll was stopped before its fourth call
+  pub early : Bool
+
+-- The image may be left: it is sound, and stands where files can be told apart. No more commits than polls were made, and none
+-- in polls that were stopped early.
+pub record IsLeftAt (rules : Rules) (past : Past) (image : Image DiskFile) : Type 0 where
+  pub sound : IsSoundIn rules image
+  pub standing : Apart rules.front_size past.history → IsStanding rules past.history image
+  pub numbered : (sequence : ℕ) → HasSequence image sequence → sequence ≤ past.polls
+  pub none_open : IsTrue past.early → chosen_slot image ≡ None
+
+abbrev pub LeavesAt : Rules → Past → MemDisk → Type 0
+LeavesAt rules past disk = EachLeft disk_images disk (IsLeftAt rules past)
+
+-- no call fails
+pub record IsWell (disk : MemDisk) : Type 0 where
+  pub faults : faults_of disk ≡ 0
+  pub bound : most_faults disk ≡ Some 0
+
+pub record IsDiskAt (rules : Rules) (past : Past) (disk : MemDisk) : Type 0 where
+  pub leaves : LeavesAt rules past disk
+  pub well : IsWell disk
+
+-- one more poll, which committed at most once
+abbrev pub polled : Past → History → Bool → Past
+polled past history early = record { history = history; polls = past.polls + 1; early = past.early && early }
+
+-- ---- the session
+
+-- what every session asks of its disk
+pub record IsReady (session : Session) (disk : MemDisk) : Type 0 where
+  pub session_is : IsSession session
+  pub stands : StandsOn disk_images session disk
+
+pub record IsOpened (rules : Rules) (session : Session) : Type 0 where
+  pub rules_are : rules_of_session session ≡ rules
+  pub limit : limit_of session ≡ OUTPUT_LIMIT
+
+-- A poll that nothing disturbed took all files of a small history as a whole.
+abbrev pub ReachesAll : Rules → History → MemDisk → Type 0
+ReachesAll rules history disk = Apart rules.front_size history → IsSmall history → AllReached rules history disk
+
+-- The poll's session goes on, or there is none and the output may have been full.
+abbrev pub GoesOn : Rules → List (ℕ × WorldEvent) → History → MemDisk → Option Session → Type 0
+GoesOn rules plan history disk None = MayFill rules history
+GoesOn rules plan history disk (Some next) = IsOpened rules next × (plan ≡ [] → ReachesAll rules history disk)
+
+-- ---- polls
+
+-- The session polls this tree and this disk, behind this past.
+pub record MayPoll (rules : Rules) (plan : List (ℕ × WorldEvent)) (past : Past) (session : Session) (tree : MemTree) (disk : MemDisk) : Type 0 where
+  pub laws : AreRules rules
+  pub opened : IsOpened rules session
+  pub tree_is : IsTreeAt plan tree
+  pub history_is : past.history ≡ history_of tree
+  pub few : past.polls < 18446744073709551615
+  pub disk_is : IsDiskAt rules past disk
+
+-- The tree went on by the plan, no call failed, and nothing waits any more.
+pub record IsTreePolled (plan : List (ℕ × WorldEvent)) (old new : MemTree) : Type 0 where
+  pub goes : GoesBy plan (history_of old) (history_of new)
+  pub at : IsTreeAt [] new
+
+-- why no session could be opened
+abbrev pub CantOpenBy : List ℕ → ScriptFault → Type 0
+CantOpenBy text (Setup fault) = IsSetup text fault
+CantOpenBy text (NotOpen at) = ⊥
+CantOpenBy text (AlreadyOpen at) = ⊥
+CantOpenBy text (NotLawful at) = ⊥
+CantOpenBy text Memory = ⊤

@@ -1,6 +1,0 @@
-use Rattle.op_kinds.proofs.Readings.{layout_answers}
-use Rattle.op_kinds.proofs.parser_keys.layout.Goals as goal
-
-pub returns-in-Err-clause-answers : goal.returns-in-Err-clause-answers
-returns-in-Err-clause-answers c =
-    rw c.from.ensures (layout_answers c.args.text.now c.in-Err.fault (rw c.as_str.ensures at c.in-Err.ensures.fault))

@@ -1,0 +1,22 @@
+use Rattle.std.proofs.Common.{◌≡◌, ◌+◌, ◌-◌, ◌≤◌, length, arith}
+use Rattle.std.specs.List.{position_or_len}
+use Rattle.otlp_json.specs.Escaped.{needs_escape}
+use Rattle.otlp_json.proofs.Plain.{found_there, none_there, none_to_the_end}
+use Rattle.otlp_json.proofs.lanes.plain_length_by_16.Goals as goal
+
+pub returns-then-found-ne0 : goal.returns-then-found-ne0
+returns-then-found-ne0 c =
+    let d = c.args.text.now in
+    omega (arith, found_there d 0 16 c.escaped_of_16-found.result (omega arith) (omega arith) (omega arith) c.escaped_of_16-found.ensures c.if-found-ne0.true)
+
+pub returns-then-found-ne0-2 : goal.returns-then-found-ne0-2
+returns-then-found-ne0-2 c =
+    let d = c.args.text.now in
+    let front : 0 + 16 ≤ position_or_len needs_escape d = none_there d 0 16 c.escaped_of_16-found.result (omega arith) (omega arith) c.escaped_of_16-found.ensures c.if-found-ne0.false in
+    found_there d (length d - 16) 16 c.escaped_of_16-found-2.result (omega arith) (omega arith) (omega arith) c.escaped_of_16-found-2.ensures c.if-found-ne0-2.true
+
+pub returns : goal.returns
+returns c =
+    let d = c.args.text.now in
+    let front : 0 + 16 ≤ position_or_len needs_escape d = none_there d 0 16 c.escaped_of_16-found.result (omega arith) (omega arith) c.escaped_of_16-found.ensures c.if-found-ne0.false in
+    none_to_the_end d (length d - 16) 16 c.escaped_of_16-found-2.result (omega arith) (omega arith) c.escaped_of_16-found-2.ensures c.if-found-ne0-2.false

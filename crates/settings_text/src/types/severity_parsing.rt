@@ -1,0 +1,23 @@
+// The type `severity_parser`.
+ghost use Rattle.std.specs.Prelude.{◌≡◌};
+ghost use Rattle.serde_json.specs.View.{view};
+ghost use Rattle.settings_text.specs.Outcome.{Gives};
+ghost use Rattle.settings_text.specs.Types.SeverityParsing as severity_parsing;
+
+use crate::fault::SettingsFault;
+use crate::settings::OpKind;
+use crate::severities;
+use serde_json::Value;
+use std::alloc::Global;
+
+pub fn is_key(name: &str) -> bool
+    ensures { result ≡ severity_parsing.is_key name.now }
+{
+    severities::is_key(name)
+}
+
+pub fn read(alloc: Global, object: &Value, at: &str) -> Result<OpKind, SettingsFault>
+    ensures { Gives (λ kind. kind) result (severity_parsing.read at.now (view object.now)) }
+{
+    Ok(OpKind::Severity(severities::read(alloc, object, at)?))
+}
