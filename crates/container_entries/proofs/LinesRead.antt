@@ -1,18 +1,18 @@
 -- What the lines of containers say, by their grammars and computed.
-use Rattle.std.proofs.Common.{◌≡◌, ◌≢◌, ℕ, pos, ◌<◌, List, [], ◌∷◌, ◌++◌, length, take, drop, Bool, true, false, cond, Option, None, Some, Ok, Err, inl, inr, refl, sym, ap, subst, ◌∙◌}
+use Rattle.std.proofs.Common.{◌≡◌, ◌≢◌, ℕ, pos, ◌<◌, List, [], ◌∷◌, ◌++◌, length, take, drop, Bool, true, false, cond, Option, None, Some, Ok, inl, inr, refl, sym, ap, subst, ◌∙◌}
 use Rattle.std.specs.Prelude.{nat_lt, codes, option_map, option_and_then}
 use Rattle.std.specs.List.{position_or_len, before_first, after_first}
 use Rattle.std.specs.Str.{bytes_eq}
-use Rattle.std.proofs.lemmas.Bool.{ltb-true, lt-ltb, cases_Bool}
+use Rattle.std.proofs.lemmas.Bool.{ltb-true, lt-ltb}
 use Rattle.std.proofs.lemmas.List.{take-append-drop}
 use Rattle.std.proofs.lemmas.Slice.Eq.{bytes_eq-Decides}
 use Rattle.container_parser.specs.CriLines.{Content, IsContent, Said, IsSaid, IsCriLine, tagged_partial}
-use Rattle.container_parser.specs.DockerLines.{IsDockerRecord, IsDockerLine, text_at}
-use Rattle.container_parser.specs.Lines.{said_by, IsLine, IsLineFault, IsCriFaultOf, IsDockerFaultOf}
+use Rattle.container_parser.specs.DockerLines.{IsDockerRecord, text_at}
+use Rattle.container_parser.specs.Lines.{said_by, IsLine, IsLineFault}
 use Rattle.container_parser.specs.Times.{IsTime}
 use Rattle.container_parser.specs.Words.{is_space}
 use Rattle.container_parser.specs.declared.fault.ContainerFault.{ContainerFault}
-use Rattle.container_parser.specs.declared.fault.ContainerFault.TheVariants.{NotDocker, NotCri, Memory}
+use Rattle.container_parser.specs.declared.fault.ContainerFault.TheVariants.{Memory}
 use Rattle.container_parser.specs.declared.format.Format.{Format}
 use Rattle.container_parser.specs.declared.format.Format.TheVariants.{Docker, Crio, Containerd}
 use Rattle.container_parser.specs.declared.line.ContainerLine.{ContainerLine}
@@ -28,7 +28,7 @@ use Rattle.time_severity.proofs.Told.{layout_told, tells}
 use Rattle.time_severity.specs.declared.time_op.TimeKind.TheVariants.{Layout}
 use Rattle.container_entries.specs.Computed.{instant_in, line_with, tagged, streamed, cri_line, with_log, with_stream, with_instant, docker_record, record_in, of_outcome, docker_line, line_read}
 use Rattle.container_entries.specs.Told.{read_as}
-use Rattle.container_entries.proofs.Options.{none_some, same_some, then_from, map_from}
+use Rattle.container_entries.proofs.Options.{none_some, then_from, map_from}
 
 -- ---- times
 

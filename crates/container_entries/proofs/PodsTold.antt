@@ -1,9 +1,9 @@
 -- To which pod the path of a log belongs, by its components and computed.
-use Rattle.std.proofs.Common.{◌≡◌, ◌≢◌, ℕ, zero, suc, ◌<◌, List, [], ◌∷◌, ◌++◌, length, get_or, Bool, true, false, ◌==◌, cond, eqb, Option, None, Some, inl, inr, refl, sym, ap, subst, ◌∙◌, append_assoc, arith}
+use Rattle.std.proofs.Common.{◌≡◌, ◌≢◌, ℕ, zero, suc, ◌<◌, List, [], ◌∷◌, ◌++◌, length, get_or, Bool, true, false, ◌==◌, cond, Option, None, Some, inl, inr, refl, sym, ap, subst, ◌∙◌, append_assoc, arith}
 use Rattle.std.specs.Prelude.{◌&&◌, option_map, option_and_then}
 use Rattle.std.specs.Char.{is_ascii_digit}
 use Rattle.std.proofs.lemmas.Bool.{eqb-true, eq-eqb, ne_eqb, eqb-false, and_parts, and_from}
-use Rattle.container_parser.specs.Pods.{is_part_byte, is_container_byte, is_log_end, are_names, IsFolder, IsFile, IsFront, IsComponent, AreLast, IsPodPath, IsPodOf}
+use Rattle.container_parser.specs.Pods.{is_part_byte, is_container_byte, is_log_end, are_names, IsFront, IsComponent, IsPodPath, IsPodOf}
 use Rattle.container_parser.specs.Words.{Lacks, is_made_of}
 use Rattle.container_parser.specs.declared.pod.Pod.{Pod}
 use Rattle.container_parser.proofs.Splits.{made_lacks}

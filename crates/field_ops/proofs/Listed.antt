@@ -2,12 +2,12 @@
 use Rattle.std.proofs.Common.{◌≡◌, ◌≢◌, ℕ, List, [], ◌∷◌, ◌++◌, Some, None, inl, inr, ◌⊎◌, refl, sym, ap, subst, ◌∙◌, rules}
 use Rattle.std.specs.Prelude.{⊤, All, Option, unwrap_or, option_map, option_and_then}
 use Rattle.std.proofs.lemmas.List.Elements.{All-head, All-tail}
-use Rattle.entry_model.specs.Datum.{Datum, null, boolean, int, text, list, fields, Members, no_members}
-use Rattle.entry_model.specs.LogRecord.{LogRecord, members_in}
+use Rattle.entry_model.specs.Datum.{Datum, null, fields, Members, no_members}
+use Rattle.entry_model.specs.LogRecord.{LogRecord}
 use Rattle.field_paths.proofs.Places.{put_there, put_elsewhere}
 use Rattle.field_paths.specs.AreApart.{AreApart, Fork}
-use Rattle.field_paths.specs.Change.{room_in, on_the_way, with_value, of_map, with_root, set_at, with_empty_map}
-use Rattle.field_paths.specs.Members.{member_at, with_member}
+use Rattle.field_paths.specs.Change.{room_in, on_the_way, with_value, with_root, set_at, with_empty_map}
+use Rattle.field_paths.specs.Members.{with_member}
 use Rattle.field_paths.specs.Place.{Place}
 use Rattle.field_paths.specs.ValueAt.{datum_at, value_at, root_value}
 use Rattle.field_paths.specs.declared.path.Root.{Root}

@@ -1,10 +1,10 @@
 -- An entry with some roots of another, and what is put into those.
-use Rattle.std.proofs.Common.{◌≡◌, ℕ, List, [], ◌∷◌, ◌∙◌, ap, sym, refl}
+use Rattle.std.proofs.Common.{◌≡◌, List, [], ◌∷◌, ◌∙◌, ap, sym, refl}
 use Rattle.std.specs.Prelude.{Bool, true, false, cond, ◌||◌, Option, None, Some, unwrap_or}
 use Rattle.std.specs.Option.{option_and_then}
-use Rattle.entry_model.specs.Datum.{Datum, null, boolean, int, text, list, fields, Members}
+use Rattle.entry_model.specs.Datum.{Datum, null, boolean, int, text, list, fields}
 use Rattle.entry_model.specs.LogRecord.{LogRecord}
-use Rattle.field_paths.specs.Change.{with_value, with_root, set_at, with_empty_map}
+use Rattle.field_paths.specs.Change.{with_value, with_root, with_empty_map}
 use Rattle.field_paths.specs.Place.{Place}
 use Rattle.field_paths.specs.ValueAt.{root_value, datum_at}
 use Rattle.field_paths.specs.declared.path.Root.{Root}

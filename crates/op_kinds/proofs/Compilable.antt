@@ -1,7 +1,7 @@
 -- What settings say can be compiled.
-use Rattle.std.proofs.Common.{ℕ, ◌≤◌, arith}
-use Rattle.op_kinds.specs.Compilable.{IsCompilable, HasDelimiters, HasBatches}
-use Rattle.settings_text.specs.Limits.{KindKeepsLimits, route_count}
+use Rattle.std.proofs.Common.{◌≤◌, arith}
+use Rattle.op_kinds.specs.Compilable.{IsCompilable}
+use Rattle.settings_text.specs.Limits.{KindKeepsLimits}
 use Rattle.settings_text.specs.declared.settings.OpKind.{OpKind}
 use Rattle.settings_text.specs.declared.settings.OpKind.TheVariants as kind
 

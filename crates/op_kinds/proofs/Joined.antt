@@ -1,5 +1,5 @@
 -- What joining an entry did.
-use Rattle.std.proofs.Common.{◌≡◌, ℕ, List, [], ◌++◌, Option, None, Some, Result, Ok, Err, refl, sym, ap, subst, ◌∙◌}
+use Rattle.std.proofs.Common.{◌≡◌, ℕ, List, [], ◌++◌, Result, Ok, Err, refl, ap, subst, ◌∙◌}
 use Rattle.std.specs.Prelude.{option_map}
 use Rattle.entry_model.specs.LogRecord.{LogRecord, log_record}
 use Rattle.entry_model.specs.declared.entry.Entry.{Entry}

@@ -9,7 +9,7 @@ use Rattle.op_kinds.specs.Said.{as_pairs, said, first_from, stands, first_cut, c
 use Rattle.op_kinds.specs.Faults.{of_parse_fault}
 use Rattle.op_kinds.specs.declared.row.RowFault.TheVariants as row
 use Rattle.text_parsers.specs.Cuts.{Delimiter, delimiter_len, begins_with, StandsAt, IsUncut, IsFirstCut}
-use Rattle.text_parsers.specs.Pairs.{Delimiters, IsPair, ArePairs, no_pairs, one_pair, cleaned, IsPieceFault, no_delimiter, no_key, IsFirstFault, here, behind, IsCutInto, IsPairsText, IsPairsFault, unclosed, no_pieces, no_pair, no_memory}
+use Rattle.text_parsers.specs.Pairs.{Delimiters, IsPair, ArePairs, no_pairs, one_pair, cleaned, no_delimiter, no_key, IsFirstFault, here, behind, IsCutInto, IsPairsText, IsPairsFault, unclosed, no_pieces, no_pair, no_memory}
 use Rattle.text_parsers.specs.Pieces.{Piece, piece, ArePieces, uncut, cut, filled}
 use Rattle.settings_text.specs.Types.KeyValueParsing.{KeepsLimits}
 use Rattle.text_parsers.proofs.Quoting.{open_quote-more}

@@ -1,10 +1,10 @@
 -- What was read of the keys of a parser.
-use Rattle.std.proofs.Common.{◌≡◌, ℕ, List, [], ◌∷◌, ◌++◌, Bool, Option, None, Some, Ok, map, refl, sym, ap, subst, ◌∙◌, rules}
+use Rattle.std.proofs.Common.{◌≡◌, ℕ, List, [], ◌∷◌, ◌++◌, Bool, Option, None, Some, refl, sym, ap, ◌∙◌, rules}
 use Rattle.std.specs.Prelude.{ℤ}
 use Rattle.field_paths.proofs.Faults.{one_path}
 use Rattle.field_paths.specs.Place.{Place}
 use Rattle.op_kinds.proofs.Readings.{all_are_read, one_is_read, two_are_read}
-use Rattle.op_kinds.specs.Parsers.{count_named, IsLayout, IsTimeKind, IsStampOf, IsStamp, IsGradingOf, IsGrading, IsParser, rule_of}
+use Rattle.op_kinds.specs.Parsers.{IsLayout, IsTimeKind, IsStampOf, IsStamp, IsGradingOf, IsGrading, IsParser}
 use Rattle.op_kinds.specs.Parsing.{Stamp, Parsing, stamp, parsing}
 use Rattle.op_kinds.specs.Readings.{path, layout, count, AreRead, layout_reading, time_readings, severity_readings, parser_readings}
 use Rattle.op_kinds.specs.Said.{Reader}
@@ -13,9 +13,7 @@ use Rattle.settings_text.specs.declared.parsing.LayoutType.TheVariants.{Strptime
 use Rattle.settings_text.specs.declared.parsing.ParserKeys.{ParserKeys}
 use Rattle.settings_text.specs.declared.parsing.SeveritySpec.{SeveritySpec}
 use Rattle.settings_text.specs.declared.parsing.TimeSpec.{TimeSpec}
-use Rattle.time_layout.specs.LayoutText.{layout_parts}
 use Rattle.time_layout.specs.Meaning.{Meaning}
-use Rattle.time_layout.specs.declared.epoch.EpochKind.{EpochKind}
 use Rattle.time_layout.specs.declared.parts.Part.{Part}
 use Rattle.time_severity.specs.Gradings.{Grading}
 use Rattle.time_severity.specs.Rules.{Rule}

@@ -1,6 +1,6 @@
 -- A part of a container's line is taken.
-use Rattle.std.proofs.Common.{◌≡◌, ℕ, suc, ◌≤◌, List, [], ◌∷◌, ◌++◌, length, Bool, true, false, cond, Option, None, Some, Result, Ok, Err, IfOk, arith, refl, sym, ap, subst, ◌∙◌}
-use Rattle.std.specs.Prelude.{not, codes, option_map, option_and_then, max}
+use Rattle.std.proofs.Common.{◌≡◌, ℕ, ◌≤◌, List, [], ◌∷◌, ◌++◌, Bool, true, false, cond, Option, None, Some, Result, Ok, Err, IfOk, arith, refl, sym, ap, subst, ◌∙◌}
+use Rattle.std.specs.Prelude.{not, codes, option_map}
 use Rattle.std.specs.Ordering.{match_ordering, nat_cmp}
 use Rattle.std.specs.Cmp.Lexicographic.{slice_cmp}
 use Rattle.std.specs.declared.alloc.AllocError.{AllocError}
@@ -9,13 +9,11 @@ use Rattle.std.specs.declared.cmp.Ordering.TheVariants.{Less, Equal, Greater}
 use Rattle.container_entries.specs.Told.{with_pod, pod_asked, told_by}
 use Rattle.container_parser.specs.declared.line.ContainerLine.{ContainerLine}
 use Rattle.container_parser.specs.declared.pod.Pod.{Pod}
-use Rattle.entry_model.specs.Datum.{Datum, text, Members, no_members, member}
-use Rattle.entry_model.specs.Lawful.{nesting, members_nesting, NestsWithin}
+use Rattle.entry_model.specs.Datum.{text, Members, no_members, member}
+use Rattle.entry_model.specs.Lawful.{members_nesting, NestsWithin}
 use Rattle.entry_model.specs.LogRecord.{LogRecord}
 use Rattle.field_paths.specs.Members.{with_member}
 use Rattle.field_paths.specs.PathText.{IsPathText, root_name}
-use Rattle.field_paths.specs.declared.path.Root.TheVariants.{Body}
-use Rattle.field_paths.specs.Place.{Place}
 use Rattle.op_kinds.specs.Applied.{Effect, IsApplied, effect}
 use Rattle.op_kinds.specs.Containers.{whole_body, parts_joined, part_joined}
 use Rattle.op_kinds.specs.Grouping.{arrival, if_taken, joined_in}
@@ -27,7 +25,7 @@ use Rattle.recombine.proofs.JudgeLemmas.{shallow_is, is_shallow_then, taken_then
 use Rattle.recombine.specs.Group.{Group}
 use Rattle.recombine.specs.Joining.{Joining}
 use Rattle.recombine.specs.Recombined as join
-use Rattle.recombine.specs.Recombined.{Arrival, joined_text, is_shallow, recombined}
+use Rattle.recombine.specs.Recombined.{joined_text, is_shallow}
 use Rattle.state_codec.specs.declared.TheConstants.{LEVELS}
 
 -- ---- texts nest nothing

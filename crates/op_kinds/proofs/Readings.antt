@@ -26,7 +26,6 @@ use Rattle.time_layout.specs.LayoutFaults.{IsFaultOf}
 use Rattle.time_layout.specs.LayoutText.{layout_parts}
 use Rattle.time_layout.specs.declared.fault.LayoutFault.{LayoutFault}
 use Rattle.time_layout.specs.declared.fault.LayoutFault.TheVariants as layout_fault
-use Rattle.time_layout.specs.declared.parts.Part.{Part}
 
 -- ---- members of lists
 

@@ -1,5 +1,5 @@
 -- What texts of one record say, by the grammar of text_parsers and computed.
-use Rattle.std.proofs.Common.{◌≡◌, ◌≢◌, ℕ, List, [], ◌∷◌, length, ◌==◌, Bool, true, false, Option, None, Some, arith, rules, refl, sym, ap, subst, ◌∙◌, eqb-true, eq-eqb}
+use Rattle.std.proofs.Common.{◌≡◌, ◌≢◌, ℕ, List, [], ◌∷◌, length, ◌==◌, Bool, true, false, Option, None, Some, rules, refl, sym, ap, ◌∙◌, eqb-true, eq-eqb}
 use Rattle.std.specs.Prelude.{if◌then◌else◌}
 use Rattle.entry_model.specs.Datum.{Datum, null, boolean, int, text, list, fields, Members, members_of}
 use Rattle.json_text.specs.Grammar.{put_all}

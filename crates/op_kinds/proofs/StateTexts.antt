@@ -1,8 +1,8 @@
 -- Texts that stand for states.
-use Rattle.std.proofs.Common.{◌≡◌, ◌≢◌, ℕ, zero, suc, ◌+◌, ◌<◌, ◌==◌, List, [], ◌∷◌, ◌++◌, Bool, true, false, true≢false, cond, get_or, length, Ok, Err, arith, refl, sym, ap, subst, ◌∙◌}
+use Rattle.std.proofs.Common.{◌≡◌, ◌≢◌, ℕ, zero, suc, ◌+◌, ◌<◌, ◌==◌, List, [], ◌∷◌, ◌++◌, Bool, true, false, true≢false, cond, get_or, Ok, Err, arith, refl, sym, ap, subst, ◌∙◌}
 use Rattle.std.specs.Prelude.{◌&&◌, not, map}
 use Rattle.std.specs.Str.{bytes_eq}
-use Rattle.std.proofs.lemmas.Bool.{eqb-true, ne_eqb, and_parts, and_from}
+use Rattle.std.proofs.lemmas.Bool.{ne_eqb, and_parts, and_from}
 use Rattle.std.proofs.lemmas.Slice.Eq.{bytes_eq-Decides}
 use Rattle.graph_core.specs.declared.NodeSpec.{NodeSpec}
 use Rattle.op_kinds.specs.Flat.{flat_states}
@@ -10,7 +10,7 @@ use Rattle.op_kinds.specs.Kept.{Kept, keeps_groups}
 use Rattle.op_kinds.specs.Operator.{Operator}
 use Rattle.op_kinds.specs.States.{kinds_of, states_spelling, all_at, fresh_states, SpellOf, Spell, SpellNoneOf}
 use Rattle.op_kinds.specs.StateTexts.{no_byte, flat, or_fresh, states_in, kinds_in, are_told, state_text, same_kind, are_of_kinds, is_state_text, Tells}
-use Rattle.op_kinds.proofs.States.{Are, fresh_kinds, fresh_spelled, first_kind, other_kinds, read_is_spelled, spelled_is_read}
+use Rattle.op_kinds.proofs.States.{Are, fresh_spelled, first_kind, other_kinds, read_is_spelled, spelled_is_read}
 use Rattle.state_codec.proofs.Numbers.{IsBytes}
 use Rattle.state_codec.specs.Reading.{Reading}
 

@@ -1,8 +1,8 @@
 -- States of operators as bytes: what is read is what is spelled, and what is spelled is read again.
-use Rattle.std.proofs.Common.{◌≡◌, ℕ, suc, ◌+◌, ◌-◌, ◌<◌, ◌≤◌, List, [], ◌∷◌, ◌++◌, Bool, true, false, true≢false, length, take, drop, map, Ok, Err, arith, refl, sym, ap, subst, ◌∙◌, inl, append_assoc, add-one, drop-cons, length-append, length-drop}
+use Rattle.std.proofs.Common.{◌≡◌, ℕ, ◌+◌, ◌-◌, ◌<◌, ◌≤◌, List, [], ◌∷◌, ◌++◌, Bool, true, false, true≢false, length, take, drop, map, Ok, Err, arith, refl, sym, ap, subst, ◌∙◌, inl, append_assoc, drop-cons, length-append, length-drop}
 use Rattle.std.proofs.Math.Seq.{take-suc}
 use Rattle.std.proofs.lemmas.List.{append-nil, drop_all}
-use Rattle.std.specs.Prelude.{flat_map, slice_index_or, Result, is_ok, is_err, if◌then◌else◌}
+use Rattle.std.specs.Prelude.{slice_index_or, Result, is_ok, is_err, if◌then◌else◌}
 use Rattle.graph_core.specs.declared.NodeSpec.{NodeSpec}
 use Rattle.op_kinds.specs.Kept.{Kept, nothing, groups, keeps_groups, fresh_kept}
 use Rattle.op_kinds.specs.Operator.{Operator, has_groups}
@@ -11,7 +11,6 @@ use Rattle.recombine.proofs.SpellingLemmas.{fair_groups, groups_reader}
 use Rattle.recombine.specs.Group.{Group}
 use Rattle.recombine.specs.Reading.{groups_at}
 use Rattle.recombine.specs.Restores.{IsPart, Restores}
-use Rattle.recombine.specs.Spelling.{groups_spelling}
 use Rattle.recombine.specs.Told.{IsRead, Finds}
 use Rattle.state_codec.proofs.Fair.{Fair, Local, Blame, fair_bind, fair_ok, err_is}
 use Rattle.state_codec.proofs.Numbers.{IsBytes, Takes, takes_both, bind_ok, ok_is, err_or_ok}

@@ -1,7 +1,7 @@
 // Operators that join entries, and those that read the lines of containers, with their answers, worked out by hand from the
 // tables of keys.
 use crate::operator_tests::with_operator;
-use crate::tests::answer;
+use crate::shown::answer;
 use std::alloc::Global;
 use std::test::Fail;
 

@@ -46,6 +46,8 @@ mod place;
 mod settings;
 mod severities;
 #[cfg(test)]
+mod shown;
+#[cfg(test)]
 mod tests;
 mod texts;
 #[cfg(test)]

@@ -1,6 +1,6 @@
 // Operators with their answers, each worked out by hand from the tables of keys.
 use crate::read;
-use crate::tests::answer;
+use crate::shown::answer;
 use std::alloc::{AllocError, Global};
 use std::test::Fail;
 

@@ -1,5 +1,5 @@
 // Parsers with their answers, each worked out by hand from the tables of keys.
-use crate::tests::answer;
+use crate::shown::answer;
 use crate::{LayoutType, MapRule, MapWant, ParserKeys, SeveritySpec, TimeSpec};
 use std::alloc::{AllocError, Global};
 use std::process::Abort;

@@ -1,5 +1,5 @@
 use Rattle.std.proofs.Common.{sym}
-use Rattle.container_parser.specs.declared.fault.ContainerFault.TheVariants.{NotDocker, NotCri, Memory}
+use Rattle.container_parser.specs.declared.fault.ContainerFault.TheVariants.{NotDocker}
 use Rattle.container_entries.proofs.LinesRead.{line_is_read, line_is_none}
 use Rattle.container_entries.proofs.reading.read_as.Goals as goal
 

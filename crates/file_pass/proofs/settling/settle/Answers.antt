@@ -1,6 +1,5 @@
-use Rattle.std.proofs.Common.{◌∙◌, sym, ap, inl, length, List}
+use Rattle.std.proofs.Common.{◌∙◌, sym, ap, length, List}
 use Rattle.std.proofs.lemmas.List.{length-set}
-use Rattle.std.specs.Prelude.{Some}
 use Rattle.file_tracker.specs.Places.{with_front}
 use Rattle.file_tracker.specs.declared.row.Row.{Row}
 use Rattle.file_pass.proofs.Saning.{sane_found, sane_settled}

@@ -1,4 +1,3 @@
-use Rattle.std.proofs.Common.{sym, subst}
 use Rattle.std.specs.Prelude.{option_map}
 use Rattle.expr_lang.specs.TreeOf.{tree_of}
 use Rattle.op_kinds.specs.Readings.{condition_readings}

@@ -1,5 +1,5 @@
 use Rattle.std.proofs.Common.{◌∙◌, ap, List}
-use Rattle.entry_model.specs.LogRecord.{LogRecord, log_record}
+use Rattle.entry_model.specs.LogRecord.{log_record}
 use Rattle.field_paths.specs.Place.{Place}
 use Rattle.field_ops.specs.Roots.{is_body, is_attributes, is_resource, any_root, with_roots}
 use Rattle.field_ops.specs.Rows.{with_listed}
