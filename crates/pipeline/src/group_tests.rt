@@ -1,7 +1,8 @@
 // Entries that are joined, worked out by hand; and each log taken in two pieces, with a restart between them.
 use crate::Pipeline;
+use crate::one_operator::line;
 use crate::tests::build;
-use std::alloc::{AllocError, Global};
+use std::alloc::Global;
 use std::test::Fail;
 
 // Settings, the path of a file and its bytes.
@@ -88,13 +89,6 @@ fn restarts_change_nothing(rt: HostRuntime) -> Result<(), Fail> {
         }
     }
     Ok(())
-}
-
-// A line of the output.
-fn line(alloc: Global, number: u64, resource: &str, record: &str) -> Result<String, AllocError> {
-    format!(in alloc;
-        "{{\"resourceLogs\":[{{\"resource\":{{\"attributes\":[{resource}]}},\"scopeLogs\":[{{\"logRecords\":[{{{record}}}],\"scope\":{{\"attributes\":[{{\"key\":\"agent.file\",\"value\":{{\"intValue\":\"7\"}}}},{{\"key\":\"agent.line\",\"value\":{{\"intValue\":\"{number}\"}}}}],\"name\":\"stanza_agent\"}}}}]}}]}}\n"
-    )
 }
 
 // The place of a log, and its first lines: the attributes of the resource, and the record.

@@ -24,6 +24,8 @@ pub mod laws;
 #[cfg(test)]
 mod multiline_tests;
 #[cfg(test)]
+mod one_operator;
+#[cfg(test)]
 mod parser_tests;
 mod restore;
 mod splitter;

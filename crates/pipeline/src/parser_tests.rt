@@ -1,8 +1,6 @@
 // Parsed lines and refused parsers, worked out by hand.
-use crate::BuildFault;
-use crate::tests::{build, fed};
+use crate::one_operator::{are_refused, come_out, given, line, stay};
 use op_kinds::OpCause;
-use std::alloc::{AllocError, Global};
 use std::test::Fail;
 
 // A `json_parser`'s further keys, a line, and the resource's attributes and the record that come out of an entry with the
@@ -180,28 +178,6 @@ const NO_RECORDS: &[(&str, &str)] = &[
 const GROUPS: &str =
     r#"regex_parser","regex":"(?P<t>\\S+) (?P<sev>\\w+) (?P<m>.*)","timestamp":{"parse_from":"attributes.t","layout":"%Y-%m-%dT%H:%M:%S%z"},"severity":{"parse_from":"attributes.sev"}"#;
 
-// Settings whose one operator is of this type, with what follows it.
-pub fn with_type(alloc: Global, operator: &str) -> Result<String, AllocError> {
-    format!(in alloc;
-        "{{\"include\":[\"a\"],\"include_file_name\":false,\"attributes\":{{\"k\":\"kept\"}},\"operators\":[{{\"type\":\"{operator}}}]}}"
-    )
-}
-
-// The first line of the output.
-pub fn line(alloc: Global, resource: &str, record: &str) -> Result<String, AllocError> {
-    format!(in alloc;
-        "{{\"resourceLogs\":[{{\"resource\":{{\"attributes\":[{resource}]}},\"scopeLogs\":[{{\"logRecords\":[{{{record}}}],\"scope\":{{\"attributes\":[{{\"key\":\"agent.file\",\"value\":{{\"intValue\":\"7\"}}}},{{\"key\":\"agent.line\",\"value\":{{\"intValue\":\"1\"}}}}],\"name\":\"stanza_agent\"}}}}]}}]}}\n"
-    )
-}
-
-// What comes out of a line.
-pub fn given(alloc: Global, operator: &str, text: &str) -> Result<Vec<u8>, Fail> {
-    let settings = with_type(alloc, operator)?;
-    let whole = format!(in alloc; "{text}\n")?;
-    let (_records, _lines, out) = fed(alloc, settings.as_str(), whole.as_bytes(), b"")?;
-    Ok(out)
-}
-
 #[test]
 fn objects_are_put_in(rt: HostRuntime) -> Result<(), Fail> {
     let alloc = rt.alloc();
@@ -209,7 +185,7 @@ fn objects_are_put_in(rt: HostRuntime) -> Result<(), Fail> {
         let operator = format!(in alloc; "json_parser\"{keys}")?;
         let out = given(alloc, operator.as_str(), text)?;
         assert!(rt;
-            out.as_slice() == line(alloc, resource, record)?.as_bytes(),
+            out.as_slice() == line(alloc, 1, resource, record)?.as_bytes(),
             "{keys} {text}"
         );
     }
@@ -238,54 +214,28 @@ fn groups_are_put_in(rt: HostRuntime) -> Result<(), Fail> {
     let out = given(alloc, GROUPS, "2024-01-01T00:00:00Z warn disk low")?;
     let record =
         r#""attributes":[{"key":"k","value":{"stringValue":"kept"}},{"key":"m","value":{"stringValue":"disk low"}},{"key":"sev","value":{"stringValue":"warn"}},{"key":"t","value":{"stringValue":"2024-01-01T00:00:00Z"}}],"body":{"stringValue":"2024-01-01T00:00:00Z warn disk low"},"severityNumber":13,"severityText":"warn","timeUnixNano":"1704067200000000000""#;
-    assert!(rt; out.as_slice() == line(alloc, "", record)?.as_bytes());
+    assert!(rt; out.as_slice() == line(alloc, 1, "", record)?.as_bytes());
     let same = given(alloc, GROUPS, "x warn disk low")?;
     assert!(rt; same.as_slice() == given(alloc, "noop\"", "x warn disk low")?.as_slice());
     let idle = r#"regex_parser","regex":"(?P<k>\\w+)=(?P<v>\\d*)""#;
     let record =
         r#""attributes":[{"key":"k","value":{"stringValue":"n"}},{"key":"v","value":{"stringValue":""}}],"body":{"stringValue":"n="}"#;
-    assert!(rt; given(alloc, idle, "n=")?.as_slice() == line(alloc, "", record)?.as_bytes());
+    assert!(rt; given(alloc, idle, "n=")?.as_slice() == line(alloc, 1, "", record)?.as_bytes());
     assert!(rt; given(alloc, idle, "?")?.as_slice() == given(alloc, "noop\"", "?")?.as_slice());
     Ok(())
 }
 
 #[test]
 fn records_and_pairs_are_put_in(rt: HostRuntime) -> Result<(), Fail> {
-    let alloc = rt.alloc();
-    for (operator, text, record) in RECORDS {
-        let out = given(alloc, operator, text)?;
-        assert!(rt;
-            out.as_slice() == line(alloc, "", record)?.as_bytes(),
-            "{operator} {text}"
-        );
-    }
-    Ok(())
+    come_out(&rt, rt.alloc(), RECORDS)
 }
 
 #[test]
 fn entries_without_records_or_pairs_are_unchanged(rt: HostRuntime) -> Result<(), Fail> {
-    let alloc = rt.alloc();
-    for (operator, text) in NO_RECORDS {
-        let out = given(alloc, operator, text)?;
-        assert!(rt; !out.is_empty(), "{operator} {text}");
-        assert!(rt;
-            out.as_slice() == given(alloc, "noop\"", text)?.as_slice(),
-            "{operator} {text}"
-        );
-    }
-    Ok(())
+    stay(&rt, rt.alloc(), NO_RECORDS)
 }
 
 #[test]
 fn the_least_cause_is_told(rt: HostRuntime) -> Result<(), Fail> {
-    let alloc = rt.alloc();
-    for (operator, cause) in CAUSES {
-        let found = build(alloc, with_type(alloc, operator)?.as_str())?.err();
-        let expected = Some(BuildFault::Operator {
-            place: 0,
-            cause: *cause,
-        });
-        assert!(rt; found == expected, "{operator}");
-    }
-    Ok(())
+    are_refused(&rt, rt.alloc(), CAUSES)
 }

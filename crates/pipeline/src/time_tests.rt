@@ -1,10 +1,6 @@
 // Lines with times, severities and messages of syslog, worked out by hand.
-use crate::BuildFault;
-use crate::parser_tests::{given, line, with_type};
-use crate::tests::build;
+use crate::one_operator::{are_refused, come_out, given, stay};
 use op_kinds::OpCause;
-use std::alloc::Global;
-use std::process::Abort;
 use std::test::Fail;
 
 // An operator behind its type, a line, and the record that comes out of an entry with the attribute `k`, which is `kept`.
@@ -196,17 +192,6 @@ const CAUSES: &[(&str, OpCause)] = &[
     ),
 ];
 
-fn come_out(rt: &impl Abort, alloc: Global, table: &[(&str, &str, &str)]) -> Result<(), Fail> {
-    for (operator, text, record) in table {
-        let out = given(alloc, operator, text)?;
-        assert!(rt;
-            out.as_slice() == line(alloc, "", record)?.as_bytes(),
-            "{operator} {text}"
-        );
-    }
-    Ok(())
-}
-
 #[test]
 fn times_are_told(rt: HostRuntime) -> Result<(), Fail> {
     come_out(&rt, rt.alloc(), TIMES)
@@ -225,14 +210,7 @@ fn messages_are_put_in(rt: HostRuntime) -> Result<(), Fail> {
 #[test]
 fn entries_that_tell_nothing_are_unchanged(rt: HostRuntime) -> Result<(), Fail> {
     let alloc = rt.alloc();
-    for (operator, text) in UNCHANGED {
-        let out = given(alloc, operator, text)?;
-        assert!(rt; !out.is_empty(), "{operator} {text}");
-        assert!(rt;
-            out.as_slice() == given(alloc, "noop\"", text)?.as_slice(),
-            "{operator} {text}"
-        );
-    }
+    stay(&rt, alloc, UNCHANGED)?;
     let dropped = r#"time_parser","parse_from":"body","layout":"%Y-%m-%d","on_error":"drop""#;
     assert!(rt; given(alloc, dropped, "x")?.is_empty());
     Ok(())
@@ -240,14 +218,5 @@ fn entries_that_tell_nothing_are_unchanged(rt: HostRuntime) -> Result<(), Fail> 
 
 #[test]
 fn stamps_that_cannot_be_read_are_refused(rt: HostRuntime) -> Result<(), Fail> {
-    let alloc = rt.alloc();
-    for (operator, cause) in CAUSES {
-        let found = build(alloc, with_type(alloc, operator)?.as_str())?.err();
-        let expected = Some(BuildFault::Operator {
-            place: 0,
-            cause: *cause,
-        });
-        assert!(rt; found == expected, "{operator}");
-    }
-    Ok(())
+    are_refused(&rt, rt.alloc(), CAUSES)
 }
