@@ -116,11 +116,12 @@ check_daemon_set() {
     settings_of_pods | sed 's#"/var/#"var/#g' >settings.json && [ -s settings.json ] || return 1
     mkdir -p "$pods"
     echo '2024-05-01T10:00:00.5Z stdout F {"level":"warn","msg":"low"}' >"$pods/0.log.20240501-100001"
-    echo '2024-05-01T10:00:02Z stderr F plain' >"$pods/0.log"
+    # The blank at the end of a part stays where the parts are joined.
+    printf '2024-05-01T10:00:0%s\n' '1Z stderr P half ' '2Z stderr F plain' >"$pods/0.log"
     echo '2024-05-01T09:00:00Z stdout F old' | gzip >"$pods/0.log.20240501-090001.gz"
     quietly && "$root/examples/show" | sed 's/, k8s.namespace.*0a1b | / | /' | diff - <(
-        printf '1 | plain | log.file.name=0.log, log.file.path=%s/0.log, log.iostream=stderr' "$pods"
-        echo ' | k8s.container.name=nginx, k8s.container.restart_count="0" | time=2024-05-01T10:00:02.000000000Z'
+        printf '1 | half plain | log.file.name=0.log, log.file.path=%s/0.log, log.iostream=stderr' "$pods"
+        echo ' | k8s.container.name=nginx, k8s.container.restart_count="0" | time=2024-05-01T10:00:01.000000000Z'
         printf '1 | "{\\"level\\":\\"warn\\",\\"msg\\":\\"low\\"}" | level=warn, log.file.name=0.log.20240501-100001, '
         printf 'log.file.path=%s/0.log.20240501-100001, log.iostream=stdout, msg=low' "$pods"
         echo ' | k8s.container.name=nginx, k8s.container.restart_count="0" | severity=13 warn, time=2024-05-01T10:00:00.500000000Z'
