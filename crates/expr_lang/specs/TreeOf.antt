@@ -18,4 +18,4 @@ tree (Compares' at compared p left q right) = comparison compared at (tree left)
 tree (Matches' at p left pattern) = matching at (tree left) (regex_source pattern.regex)
 
 abbrev pub tree_of : Expr → Tree
-tree_of expr = tree expr.root
+tree_of expr = tree expr.root.now

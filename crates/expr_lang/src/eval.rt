@@ -7,6 +7,7 @@ ghost use Rattle.expr_lang.specs.OperandOf.{seen_as};
 ghost use Rattle.expr_lang.specs.TreeOf.{tree, tree_of};
 
 use crate::kinds::{Operand, compare};
+use crate::pattern::Searches;
 use crate::tree::{Expr, Node};
 use entry_model::Entry;
 use std::alloc::{AllocError, Global};
@@ -52,7 +53,7 @@ impl Expr {
         ensures ok { IfOk result (Gives (answers (tree_of self.now) (log_record entry.now))) }
         ensures fault { IfErr result (Refuses (answers (tree_of self.now) (log_record entry.now))) }
     {
-        match value_of(alloc, &self.root, entry)? {
+        match value_of(alloc, self.root, entry, &self.searches)? {
             Operand::Bool(true) => Ok(Answer::True),
             Operand::Bool(false) => Ok(Answer::False),
             _ => Ok(Answer::Other),
@@ -60,7 +61,12 @@ impl Expr {
     }
 }
 
-fn value_of<'e>(alloc: Global, node: &'e Node, entry: &'e Entry) -> Result<Operand<'e>, ExprFault>
+fn value_of<'e>(
+    alloc: Global,
+    node: &'static Node,
+    entry: &'e Entry,
+    searches: &Searches,
+) -> Result<Operand<'e>, ExprFault>
     ensures ok { IfOk result (λ operand. Gives (meaning (tree node.now) (log_record entry.now)) (seen_as operand)) }
     ensures fault { IfErr result (Refuses (meaning (tree node.now) (log_record entry.now))) }
 {
@@ -73,21 +79,21 @@ fn value_of<'e>(alloc: Global, node: &'e Node, entry: &'e Entry) -> Result<Opera
         Node::SeverityNumber => Ok(Operand::Int(i64::from(entry.severity.number))),
         Node::SeverityText => Ok(Operand::Text(&entry.severity_text)),
         Node::Not { at, operand } => {
-            let truth = truth_of(value_of(alloc, operand, entry)?, *at)?;
+            let truth = truth_of(value_of(alloc, operand, entry, searches)?, *at)?;
             Ok(Operand::Bool(!truth))
         }
         Node::And { at, left, right } => {
-            if !truth_of(value_of(alloc, left, entry)?, *at)? {
+            if !truth_of(value_of(alloc, left, entry, searches)?, *at)? {
                 return Ok(Operand::Bool(false));
             }
-            let truth = truth_of(value_of(alloc, right, entry)?, *at)?;
+            let truth = truth_of(value_of(alloc, right, entry, searches)?, *at)?;
             Ok(Operand::Bool(truth))
         }
         Node::Or { at, left, right } => {
-            if truth_of(value_of(alloc, left, entry)?, *at)? {
+            if truth_of(value_of(alloc, left, entry, searches)?, *at)? {
                 return Ok(Operand::Bool(true));
             }
-            let truth = truth_of(value_of(alloc, right, entry)?, *at)?;
+            let truth = truth_of(value_of(alloc, right, entry, searches)?, *at)?;
             Ok(Operand::Bool(truth))
         }
         Node::Compares {
@@ -96,18 +102,18 @@ fn value_of<'e>(alloc: Global, node: &'e Node, entry: &'e Entry) -> Result<Opera
             left,
             right,
         } => {
-            let left = value_of(alloc, left, entry)?;
-            let right = value_of(alloc, right, entry)?;
+            let left = value_of(alloc, left, entry, searches)?;
+            let right = value_of(alloc, right, entry, searches)?;
             match compare(*comparison, left, right) {
                 Some(truth) => Ok(Operand::Bool(truth)),
                 None => Err(ExprFault::WrongKind { at: *at }),
             }
         }
         Node::Matches { at, left, pattern } => {
-            let Operand::Text(text) = value_of(alloc, left, entry)? else {
+            let Operand::Text(text) = value_of(alloc, left, entry, searches)? else {
                 return Err(ExprFault::WrongKind { at: *at });
             };
-            Ok(Operand::Bool(pattern.is_in(alloc, text.as_str())?))
+            Ok(Operand::Bool(searches.find(alloc, *at, pattern, text.as_str())?))
         }
     }
 }

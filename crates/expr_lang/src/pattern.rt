@@ -1,9 +1,14 @@
-// Patterns of regular expressions.
+// Patterns of regular expressions, and what searches texts for them.
+ghost use Rattle.std.specs.Prelude.{◌≡◌, IfOk};
+ghost use Rattle.regex.specs.Strings.{matcher_pattern, regex_pattern, regex_source};
 ghost use Rattle.expr_lang.specs.IsReadByDefault.{IsReadByDefault};
+ghost use Rattle.expr_lang.specs.Patterns.{is_found};
 
 use crate::ExprReadFault;
-use regex::Regex;
+use regex::{Matcher, Regex};
 use std::alloc::{AllocError, Global};
+use std::cell::RefCell;
+use std::collections::BTreeMap;
 
 /// A pattern that is compiled, with the options of `regex` as they are by default.
 #[derive(Drop)]
@@ -12,10 +17,23 @@ pub struct Pattern {
     pub ghost read: { IsReadByDefault regex },
 }
 
+/// What searches texts for a pattern.
+#[derive(Drop)]
+struct Search<'p> {
+    pattern: &'p Pattern,
+    matcher: Matcher<'p>,
+    pub ghost same: { ∥ matcher_pattern matcher ≡ regex_pattern pattern.now.regex ∥₁ },
+}
+
+/// The searches for the patterns of an expression, by the places of their operators. Each is kept from its first text on,
+/// since making one costs as much as many searches.
+#[derive(Drop)]
+pub struct Searches {
+    by_place: RefCell<BTreeMap<usize, Box<Search<'static>>>>,
+}
+
 impl Pattern {
-    ghost use Rattle.std.specs.Prelude.{◌≡◌, IfOk, IfErr};
-    ghost use Rattle.regex.specs.Strings.{regex_source};
-    ghost use Rattle.expr_lang.specs.Patterns.{is_found};
+    ghost use Rattle.std.specs.Prelude.{IfErr};
     ghost use Rattle.expr_lang.specs.PatternFault.{IsPatternFault};
 
     /// The pattern of a text that stands at `at`.
@@ -30,11 +48,73 @@ impl Pattern {
         }
     }
 
-    /// Whether it is found anywhere in the text.
-    pub fn is_in(&self, alloc: Global, text: &str) -> Result<bool, AllocError>
-        ensures { IfOk result (λ found. found ≡ is_found (regex_source self.now.regex) text.now) }
+    fn source(&self) -> &str
+        ensures { result.now ≡ regex_source self.now.regex }
     {
-        let mut matcher = self.regex.matcher(alloc)?;
-        Ok(matcher.is_match(text))
+        self.regex.as_str()
+    }
+}
+
+impl<'p> Search<'p> {
+    fn new(alloc: Global, pattern: &'p Pattern) -> Result<Search<'p>, AllocError>
+        ensures { IfOk result (λ search. search.pattern.now ≡ pattern.now) }
+    {
+        let matcher = pattern.regex.matcher(alloc)?;
+        Ok(Search { pattern, matcher })
+    }
+
+    /// Whether the pattern is found anywhere in the text.
+    fn is_in(&mut self, text: &str) -> bool
+        ensures { result ≡ is_found (regex_source self.old.pattern.now.regex) text.now }
+    {
+        self.matcher.is_match(text)
+    }
+}
+
+impl Searches {
+    pub fn new(alloc: Global) -> Searches {
+        Searches {
+            by_place: RefCell::new(BTreeMap::new(alloc)),
+        }
+    }
+
+    /// Whether the pattern of the operator at `at` is found anywhere in the text.
+    pub fn find(
+        &self,
+        alloc: Global,
+        at: usize,
+        pattern: &'static Pattern,
+        text: &str,
+    ) -> Result<bool, AllocError>
+        ensures { IfOk result (λ found. found ≡ is_found (regex_source pattern.now.regex) text.now) }
+    {
+        if let Ok(mut searches) = self.by_place.try_borrow_mut() {
+            if let Some(search) = searches.get_mut(&at) {
+                if search.pattern.source() == pattern.source() {
+                    return Ok(search.is_in(text));
+                }
+            }
+        }
+        self.find_anew(alloc, at, pattern, text)
+    }
+
+    /// As `find`, by a search that is made now. It is kept where the others aren't lent.
+    #[cold]
+    #[inline(never)]
+    fn find_anew(
+        &self,
+        alloc: Global,
+        at: usize,
+        pattern: &'static Pattern,
+        text: &str,
+    ) -> Result<bool, AllocError>
+        ensures { IfOk result (λ found. found ≡ is_found (regex_source pattern.now.regex) text.now) }
+    {
+        let mut search = Box::new(alloc, Search::new(alloc, pattern)?)?;
+        let found = search.is_in(text);
+        if let Ok(mut searches) = self.by_place.try_borrow_mut() {
+            searches.insert(at, search)?;
+        }
+        Ok(found)
     }
 }

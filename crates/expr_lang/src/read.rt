@@ -64,6 +64,8 @@ impl Expr {
     /// missing, at the word that opens a level too many, or at 4,096 where the text is longer and has no earlier fault.
     /// `Pattern` at the quote of a pattern that isn't one of `regex`, or nests too deep for it, where no fault comes
     /// earlier. A pattern that is too large for `regex` is want of memory.
+    ///
+    /// The tree's memory is kept until the program ends, so an expression is to be read once and used often.
     pub fn read(alloc: Global, text: &str) -> Result<Expr, ExprReadFault>
         ensures ok { IfOk result (λ expr. IsExpression text.now (tree_of expr)) }
         ensures fault { IfErr result (IsReadFault text.now) }
@@ -73,7 +75,7 @@ impl Expr {
                 if text.len() > MAX_LENGTH {
                     return Err(ExprReadFault::Syntax { at: MAX_LENGTH });
                 }
-                Ok(Expr { root })
+                Ok(Expr::new(alloc, root)?)
             }
             Err(fault) => Err(within(fault, text.len())),
         }

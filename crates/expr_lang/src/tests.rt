@@ -146,6 +146,29 @@ fn answers_parts_and_members(rt: HostRuntime) -> Result<(), Fail> {
     check_answers(&rt, rt.alloc(), &table)
 }
 
+// One expression for several entries in turn, whose patterns are of one length.
+#[test]
+fn answers_entries_in_turn(rt: HostRuntime) -> Result<(), Fail> {
+    let alloc = rt.alloc();
+    let expr = Expr::read(alloc, "body matches 'a+b' and not (body matches 'c.d')")?;
+    let table = [
+        ("xaaby", Answer::True),
+        ("ab c d", Answer::False),
+        ("", Answer::False),
+        ("ccd", Answer::False),
+        ("ab", Answer::True),
+        ("a b", Answer::False),
+        ("cdab", Answer::True),
+        ("c\ndab", Answer::True),
+        ("céd ab", Answer::False),
+    ];
+    for (body, answer) in table {
+        let entry = Entry::new(alloc, Text::from_str(alloc, body)?)?;
+        assert_eq!(rt; expr.eval(alloc, &entry)?, answer, "at {body}");
+    }
+    Ok(())
+}
+
 #[test]
 fn answers_truths(rt: HostRuntime) -> Result<(), Fail> {
     let table = [

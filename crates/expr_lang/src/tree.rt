@@ -1,13 +1,19 @@
 // What an expression was read as.
-use crate::pattern::Pattern;
+ghost use Rattle.std.specs.Prelude.{◌≡◌, IfOk};
+ghost use Rattle.expr_lang.specs.TreeOf.{tree, tree_of};
+
+use crate::pattern::{Pattern, Searches};
 use crate::token::Comparison;
 use entry_model::Value;
 use field_paths::FieldPath;
+use std::alloc::{AllocError, Global};
 
 /// A condition on entries.
 #[derive(Drop)]
 pub struct Expr {
-    pub(crate) root: Node,
+    /// Never freed, so that searches for its patterns can be kept beside it.
+    pub(crate) root: &'static Node,
+    pub(crate) searches: Searches,
 }
 
 /// A part of an expression. `at` is the place of its operator.
@@ -42,4 +48,14 @@ pub enum Node {
         left: Box<Node>,
         pattern: Pattern,
     },
+}
+
+impl Expr {
+    pub(crate) fn new(alloc: Global, root: Node) -> Result<Expr, AllocError>
+        ensures { IfOk result (λ expr. tree_of expr ≡ tree root) }
+    {
+        let root: &'static Node = Box::leak(Box::new(alloc, root)?);
+        let searches = Searches::new(alloc);
+        Ok(Expr { root, searches })
+    }
 }

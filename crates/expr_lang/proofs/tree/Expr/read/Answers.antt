@@ -8,5 +8,6 @@ returns-in-Err-clause-fault c = rw c.within.ensures (fault_is c.args.text.now c.
 pub returns-then-text-gt-MAX_LENGTH-clause-fault : goal.returns-then-text-gt-MAX_LENGTH-clause-fault
 returns-then-text-gt-MAX_LENGTH-clause-fault c = too_long_tree c.args.text.now c.in-Ok.root (let l = c.if-text-gt-MAX_LENGTH.true in omega (arith, l)) c.in-Ok.ensures.ok
 
-pub returns-else-text-gt-MAX_LENGTH-clause-ok : goal.returns-else-text-gt-MAX_LENGTH-clause-ok
-returns-else-text-gt-MAX_LENGTH-clause-ok c = expression_is c.args.text.now c.in-Ok.root c.in-Ok.ensures.ok (let l = c.if-text-gt-MAX_LENGTH.false in omega (arith, l))
+pub returns-in_ok-new-in-Ok-clause-ok : goal.returns-in_ok-new-in-Ok-clause-ok
+returns-in_ok-new-in-Ok-clause-ok c =
+    rw c.in_ok-new-in-Ok.ensures (expression_is c.args.text.now c.in-Ok.root c.in-Ok.ensures.ok (let l = c.if-text-gt-MAX_LENGTH.false in omega (arith, l)))
