@@ -1,5 +1,5 @@
 -- What joining an entry did.
-use Rattle.std.proofs.Common.{◌≡◌, ℕ, List, [], ◌++◌, Result, Ok, Err, refl, ap, subst, ◌∙◌}
+use Rattle.std.proofs.Common.{◌≡◌, ℕ, List, [], ◌++◌, Result, Ok, Err, IfOk, refl, sym, ap, subst, ◌∙◌}
 use Rattle.std.specs.Prelude.{option_map}
 use Rattle.entry_model.specs.LogRecord.{LogRecord, log_record}
 use Rattle.entry_model.specs.declared.entry.Entry.{Entry}
@@ -18,6 +18,11 @@ use Rattle.recombine.specs.declared.fault.StepFault.TheVariants.{NotText, TooDee
 -- what a step made of these groups, which sent on nothing before
 abbrev pub stepped : List Group → List Group → List LogRecord → List LogRecord → Effect
 stepped before after out out_then = record { groups = before; groups_then = after; out = out; out_then = out_then }
+
+-- what holds of the answer that is told
+pub if_ok_at : {T E : Type 0} (result : Result T E) (x : T) (P : T → Type 0) → IfOk result (λ y. y ≡ x) → P x → IfOk result P
+if_ok_at (Ok _) x P is holds = subst P (sym is) holds
+if_ok_at (Err _) x P is holds = tt
 
 module _ (joining : Joining) (arrival : Arrival) (entry : LogRecord) (kept : Kept) where
   joined_so : (r : Result Made Refusal) (gs' : List Group) (none sent : List LogRecord) (kept_then : Kept) (out out_then : List (ℕ × LogRecord))

@@ -88,9 +88,7 @@ impl Step for AnyOp {
     }
 
     fn copy(&self, alloc: Global, item: &Record) -> Result<Record, AllocError> {
-        Ok(Record {
-            entry: item.entry.copy(alloc)?,
-        })
+        Record::new(alloc, item.entry.copy(alloc)?)
     }
 
     fn step(

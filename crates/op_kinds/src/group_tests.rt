@@ -56,7 +56,7 @@ fn groups_are_kept(rt: HostRuntime) -> Result<(), Fail> {
     let entry = Entry::new(alloc, Text::from_str(alloc, "hello")?)?;
     first
         .op
-        .step(alloc, &mut state, Record::new(entry), &mut out)?;
+        .step(alloc, &mut state, Record::new(alloc, entry)?, &mut out)?;
     assert!(rt; out.is_empty() && !is_fresh(&state));
     let mut spelled = Vec::new(alloc);
     let unopened = last.op.start(alloc)?;

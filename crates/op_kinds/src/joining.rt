@@ -34,22 +34,27 @@ pub(crate) fn join(
     match recombine.step(alloc, &mut opened, mark, source, entry, &mut sent) {
         Ok(()) => {
             *state = OpState::with_groups(opened);
-            put_out(sent, out)?;
+            put_out(alloc, sent, out)?;
             Ok(Applied::Done)
         }
-        Err(StepFault::NotText { entry }) => Ok(given_back(state, opened, entry)),
-        Err(StepFault::TooDeep { entry }) => Ok(given_back(state, opened, entry)),
+        Err(StepFault::NotText { entry }) => given_back(alloc, state, opened, entry),
+        Err(StepFault::TooDeep { entry }) => given_back(alloc, state, opened, entry),
         Err(StepFault::Memory) => Err(AllocError),
     }
 }
 
 /// Holds the groups again that were taken, and gives an entry back.
-fn given_back(state: &mut OpState, opened: Groups, entry: Entry) -> Applied
+fn given_back(
+    alloc: Global,
+    state: &mut OpState,
+    opened: Groups,
+    entry: Entry,
+) -> Result<Applied, AllocError>
     ensures kept { state.new ≡ kept.with_groups state.old opened }
-    ensures given { result ≡ Applied.Faulty (log_record entry) }
+    ensures given { IfOk result (λ applied. applied ≡ Applied.Faulty (log_record entry)) }
 {
     state.put_groups(opened);
-    Applied::Faulty(Record::new(entry))
+    Ok(Applied::Faulty(Record::new(alloc, entry)?))
 }
 
 /// Ends all open groups, and puts out what they make.
@@ -64,15 +69,19 @@ pub(crate) fn close(
     let mut opened = state.take_groups(alloc);
     let mut sent = Vec::new(alloc);
     recombine.close(alloc, &mut opened, &mut sent)?;
-    put_out(sent, out)
+    put_out(alloc, sent, out)
 }
 
 /// Puts entries out on the one port.
-pub(crate) fn put_out(entries: Vec<Entry>, out: &mut Vec<(u16, Record)>) -> Result<(), AllocError>
+pub(crate) fn put_out(
+    alloc: Global,
+    entries: Vec<Entry>,
+    out: &mut Vec<(u16, Record)>,
+) -> Result<(), AllocError>
     ensures { OnOk result (out.new.items ≡ out.old.items ++ on_one_port (seen entries.items)) }
 {
     for entry in entries {
-        out.push((0, Record::new(entry)))?;
+        out.push((0, Record::new(alloc, entry)?))?;
     }
     Ok(())
 }

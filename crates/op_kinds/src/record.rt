@@ -1,11 +1,13 @@
 // An entry on its way.
 use entry_model::Entry;
+use std::alloc::{AllocError, Global};
 use std::marker::Model;
 
-/// An entry on its way through the operators. Contracts see it as its log record.
+/// An entry on its way through the operators, in a place of its own: from operator to operator it isn't moved in memory.
+/// Contracts see it as its log record.
 #[derive(Drop)]
 pub struct Record {
-    pub(crate) entry: Entry,
+    pub(crate) entry: Box<Entry>,
 }
 
 impl Model for Record {
@@ -16,22 +18,30 @@ impl Model for Record {
 
     ghost coded = { record_code };
 
-    ghost view = { λ r. log_record r.entry };
+    ghost view = { λ r. log_record r.entry.value };
 }
 
 impl Record {
-    ghost use Rattle.std.specs.Prelude.{◌≡◌};
+    ghost use Rattle.std.specs.Prelude.{◌≡◌, IfOk};
     ghost use Rattle.entry_model.specs.LogRecord.{log_record};
 
-    pub fn new(entry: Entry) -> Record
-        ensures { result ≡ log_record entry }
+    pub fn new(alloc: Global, entry: Entry) -> Result<Record, AllocError>
+        ensures { IfOk result (λ made. made ≡ log_record entry) }
     {
-        Record { entry }
+        Ok(Record {
+            entry: Box::new(alloc, entry)?,
+        })
     }
 
     pub fn entry(&self) -> &Entry
         ensures { log_record result.now ≡ self.now }
     {
         &self.entry
+    }
+
+    pub(crate) fn into_entry(self) -> Entry
+        ensures { log_record result ≡ self }
+    {
+        Box::into_inner(self.entry)
     }
 }

@@ -49,7 +49,7 @@ fn messages_have_their_severities(rt: HostRuntime) -> Result<(), Fail> {
     assert!(rt; ops.len() == 1);
     for op in &ops {
         for (text, number, name) in SEVERITIES {
-            let item = Record::new(Entry::new(alloc, Text::from_str(alloc, text)?)?);
+            let item = Record::new(alloc, Entry::new(alloc, Text::from_str(alloc, text)?)?)?;
             let mut state = op.start(alloc)?;
             let mut out = Vec::new(alloc);
             op.step(alloc, &mut state, item, &mut out)?;

@@ -119,7 +119,7 @@ pub fn compiled(
 // The ports on which an entry comes out whose body is `hello`, and whether it is as it was.
 fn sent(alloc: Global, op: &AnyOp) -> Result<(Vec<u16>, bool), Fail> {
     let entry = Entry::new(alloc, Text::from_str(alloc, "hello")?)?;
-    let item = Record::new(entry.copy(alloc)?);
+    let item = Record::new(alloc, entry.copy(alloc)?)?;
     let mut state = op.start(alloc)?;
     let mut out = Vec::new(alloc);
     op.step(alloc, &mut state, item, &mut out)?;

@@ -102,7 +102,7 @@ impl Pipeline {
         let entry = self.entry(alloc, shared, state.records, body)?;
         let mut made = Vec::new(alloc);
         self.graph
-            .push(alloc, &mut state.states, Record::new(entry), &mut made)?;
+            .push(alloc, &mut state.states, Record::new(alloc, entry)?, &mut made)?;
         append_lines(alloc, id, &mut state.lines, &made, out)?;
         Ok(())
     }

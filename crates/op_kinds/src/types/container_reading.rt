@@ -104,10 +104,10 @@ impl Container {
         ensures { IfOk result (IsApplied (option_map with_groups (containers.whole_line (open_groups state.old) self.now.op.by_path item line)) item
             (effect state.old state.new out.old.items out.new.items)) }
     {
-        let entry = told_by(alloc, self.op.by_path, line, item.entry)?;
+        let entry = told_by(alloc, self.op.by_path, line, item.into_entry())?;
         let opened = state.take_groups(alloc);
         *state = OpState::with_groups(opened);
-        out.push((0, Record::new(entry)))?;
+        out.push((0, Record::new(alloc, entry)?))?;
         Ok(Applied::Done)
     }
 
@@ -127,7 +127,7 @@ impl Container {
         }
         let source = line.stream.share()?;
         let last = !line.partial;
-        let entry = told_by(alloc, self.op.by_path, line, item.entry)?;
+        let entry = told_by(alloc, self.op.by_path, line, item.into_entry())?;
         join(alloc, &self.parts, state, last, &source, entry, out)
     }
 }

@@ -94,7 +94,7 @@ impl Join {
             state,
             mark,
             &source,
-            item.entry,
+            item.into_entry(),
             out,
         )
     }

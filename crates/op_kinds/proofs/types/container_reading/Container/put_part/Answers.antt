@@ -17,4 +17,4 @@ returns c =
     part_so (open_groups c.args.state.now) c.args.self.now.op.by_path c.args.line c.args.item _ _ _ _ _ _
     (subst (λ (e : LogRecord). is_shallow e ≡ true) c.entry.ensures (shallow_is (log_record c.entry.result.now) (c.nests_within.ensures.depth.0 c.if-not-nests_within.false)))
     c.args.self.now.joined c.in_ok-source.ensures refl
-    (c.in_ok-entry.ensures ∙ ap (λ (r : LogRecord). told_by c.args.self.now.op.by_path c.args.line r) c.item.view_is) c.join.ensures
+    (c.in_ok-entry.ensures ∙ ap (λ (r : LogRecord). told_by c.args.self.now.op.by_path c.args.line r) c.into_entry.ensures) c.join.ensures
