@@ -11,3 +11,4 @@ pub mod SplitsOfRecords
 pub mod SplitsOfStrings
 pub mod SplitsOfTails
 pub mod SplitsOfValues
+pub mod Templates

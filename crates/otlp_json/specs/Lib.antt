@@ -5,4 +5,5 @@ pub mod IsOf64Bits
 pub mod OutputLine
 pub mod OutputLines
 pub mod RecordText
+pub mod Template
 pub mod ValueText

@@ -1,7 +1,8 @@
 //! The agent's output lines: one JSON object a log record, in the [OTLP/JSON encoding] of OTLP 1.x.
 //!
 //! The one contract for the layer above is that of [`line`]: what it appends is exactly the definition
-//! `output_line`, for every entry.
+//! `output_line`, for every entry. A [`Template`] has what the lines of a file's texts share, and [`Template::line`] appends
+//! the same bytes.
 //!
 //! [OTLP/JSON encoding]: https://opentelemetry.io/docs/specs/otlp/#json-protobuf-encoding
 #![tactic(auto)]
@@ -10,18 +11,21 @@ ghost use Rattle.std.specs.Prelude.{◌≡◌, ◌++◌, OnOk, OnErr};
 ghost use Rattle.entry_model.specs.LogRecord.{log_record};
 ghost use Rattle.otlp_json.specs.HasFront.{HasFront};
 ghost use Rattle.otlp_json.specs.OutputLine.{output_line, line_tail};
+ghost use Rattle.otlp_json.specs.Template.{file_text, end_text};
 
 pub mod integers;
 mod lanes;
 pub mod laws;
 mod record;
 mod string;
+mod template;
 #[cfg(test)]
 mod tests;
 mod value;
 
 use entry_model::Entry;
 use std::alloc::{AllocError, Global};
+pub use template::Template;
 
 /// Appends the line of an entry with its LF. `id` is the file's, and `number` the line's among the lines of that
 /// file, from 1.
@@ -63,9 +67,25 @@ fn append_tail(id: u32, number: u64, out: &mut Vec<u8>) -> Result<(), AllocError
     ensures ok { OnOk result (out.new.items ≡ out.old.items ++ line_tail id number) }
     ensures front { HasFront out.old.items out.new.items }
 {
+    append_file(id, out)?;
+    append_end(number, out)
+}
+
+// Up to the line's number.
+pub(crate) fn append_file(id: u32, out: &mut Vec<u8>) -> Result<(), AllocError>
+    ensures ok { OnOk result (out.new.items ≡ out.old.items ++ file_text id) }
+    ensures front { HasFront out.old.items out.new.items }
+{
     out.extend_from_slice(b"\"agent.file\",\"value\":{\"intValue\":\"")?;
     string::append_decimal(u64::from(id), out)?;
-    out.extend_from_slice(b"\"}},{\"key\":\"agent.line\",\"value\":{\"intValue\":\"")?;
+    out.extend_from_slice(b"\"}},{\"key\":\"agent.line\",\"value\":{\"intValue\":\"")
+}
+
+// From the line's number on.
+pub(crate) fn append_end(number: u64, out: &mut Vec<u8>) -> Result<(), AllocError>
+    ensures ok { OnOk result (out.new.items ≡ out.old.items ++ end_text number) }
+    ensures front { HasFront out.old.items out.new.items }
+{
     string::append_decimal(number, out)?;
     out.extend_from_slice(b"\"}}],\"name\":\"stanza_agent\"}}]}]}\n")
 }

@@ -2,12 +2,13 @@
 ghost use Rattle.std.specs.Prelude.{◌≡◌, ◌++◌, OnOk};
 ghost use Rattle.entry_model.specs.Datum.{datum};
 ghost use Rattle.entry_model.specs.LogRecord.{log_record, members_in};
+ghost use Rattle.field_paths.specs.MapOf.{members_seen};
 ghost use Rattle.otlp_json.specs.HasFront.{HasFront};
 ghost use Rattle.otlp_json.specs.RecordText.{attributes_text, body_text, severity_number_text, severity_name_text, time_text, record_text};
 
 use crate::string::{append_decimal, append_escaped};
 use crate::value::{append_members, append_value};
-use entry_model::{Entry, Value};
+use entry_model::{Entry, Fields, Value};
 use std::alloc::AllocError;
 
 pub fn append_record(entry: &Entry, out: &mut Vec<u8>) -> Result<(), AllocError>
@@ -31,6 +32,14 @@ pub fn append_attributes(attributes: &Value, out: &mut Vec<u8>) -> Result<(), Al
     let Value::Map(fields) = attributes else {
         return out.extend_from_slice(b"[]");
     };
+    append_fields(fields, out)
+}
+
+pub fn append_fields(fields: &Fields, out: &mut Vec<u8>) -> Result<(), AllocError>
+    ensures ok { OnOk result (out.new.items
+        ≡ out.old.items ++ attributes_text (members_seen fields.now.entries)) }
+    ensures front { HasFront out.old.items out.new.items }
+{
     out.extend_from_slice(b"[")?;
     append_members(fields, out)?;
     out.extend_from_slice(b"]")

@@ -1,5 +1,5 @@
 // Lines of known entries, each written by hand from the OTLP/JSON encoding.
-use crate::line;
+use crate::{Template, line};
 use entry_model::{Entry, Fields, Severity, Text, Value, Values};
 use std::alloc::{AllocError, Global};
 use std::test::Fail;
@@ -326,5 +326,30 @@ fn escapes_at_each_place(rt: HostRuntime) -> Result<(), Fail> {
         }
         front.push('-')?;
     }
+    Ok(())
+}
+
+const OF_TEXTS: &[u8] =
+    b"{\"resourceLogs\":[{\"resource\":{\"attributes\":[{\"key\":\"host\",\"value\":{\"stringValue\":\"h\"}}]},\"scopeLogs\":[{\"logRecords\":[{\"attributes\":[{\"key\":\"a\",\"value\":{\"stringValue\":\"x\"}},{\"key\":\"n\",\"value\":{\"intValue\":\"41\"}},{\"key\":\"z\",\"value\":{\"stringValue\":\"y\"}}],\"body\":{\"stringValue\":\"one\\\"\"}}],\"scope\":{\"attributes\":[{\"key\":\"agent.file\",\"value\":{\"intValue\":\"7\"}},{\"key\":\"agent.line\",\"value\":{\"intValue\":\"12\"}}],\"name\":\"stanza_agent\"}}]}]}\n";
+
+// A text by a template, whose number stands between other attributes in the place of one that had its name, and one without
+// attributes and number.
+#[test]
+fn texts_by_a_template(rt: HostRuntime) -> Result<(), Fail> {
+    let alloc = rt.alloc();
+    let resource = texts(alloc, &[("host", "h")])?;
+    let attributes = texts(alloc, &[("a", "x"), ("n", "old"), ("z", "y")])?;
+    let name = Text::from_str(alloc, "n")?;
+    let numbered = Template::new(alloc, 7, &resource, attributes, Some(name))?;
+    let mut out = Vec::new(alloc);
+    numbered.line(12, 41, "one\"", &mut out)?;
+    assert_eq!(rt; out.as_slice(), OF_TEXTS);
+
+    let none = Fields::new(alloc);
+    let plain = Template::new(alloc, 7, &none, Fields::new(alloc), None)?;
+    out.clear();
+    plain.line(12, 41, "two", &mut out)?;
+    let wanted = expected(alloc, ",\"body\":{\"stringValue\":\"two\"}")?;
+    assert_eq!(rt; out.as_slice(), wanted.as_slice());
     Ok(())
 }

@@ -1,4 +1,4 @@
-use Rattle.std.proofs.Common.{◌≤◌, ◌-◌, length}
+use Rattle.std.proofs.Common.{◌≤◌, ◌-◌}
 use Rattle.std.specs.List.{position_or_len}
 use Rattle.otlp_json.specs.Escaped.{needs_escape}
 use Rattle.otlp_json.proofs.lanes.plain_length_by_32.Given as goal

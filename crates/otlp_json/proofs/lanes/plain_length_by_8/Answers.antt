@@ -1,4 +1,4 @@
-use Rattle.std.proofs.Common.{◌≡◌, ◌+◌, ◌-◌, ◌≤◌, length, arith}
+use Rattle.std.proofs.Common.{◌+◌, ◌-◌, ◌≤◌, length, arith}
 use Rattle.std.specs.List.{position_or_len}
 use Rattle.otlp_json.specs.Escaped.{needs_escape}
 use Rattle.otlp_json.proofs.Plain.{found_there, none_there, none_to_the_end}

@@ -1,16 +1,11 @@
 use Rattle.std.proofs.Common.{codes, refl}
-use Rattle.std.proofs.lemmas.List.{append_assoc}
 use Rattle.otlp_json.proofs.Appended.{last_extended}
 use Rattle.entry_model.proofs.Data.{datum_map}
 use Rattle.otlp_json.proofs.Members.{no_members_in}
 use Rattle.otlp_json.proofs.record.append_attributes.Goals as goal
 
 pub returns-clause-ok : goal.returns-clause-ok
-returns-clause-ok c =
-    let last = c.extend_from_slice-3 in
-    rw (c.in-Map.is, datum_map c.in-Map.fields)
-    (last_extended last.result c.append_members.new.out.items last.new.self.items (codes "]") _ last.ensures.items
-    (rw (c.in_ok-append_members.ensures.ok, c.in_ok-extend_from_slice.ensures.items) (simp append_assoc)))
+returns-clause-ok c = rw (c.in-Map.is, datum_map c.in-Map.fields) c.append_fields.ensures.ok
 
 pub returns-in_default-clause-ok : goal.returns-in_default-clause-ok
 returns-in_default-clause-ok c =
