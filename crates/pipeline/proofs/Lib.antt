@@ -7,3 +7,4 @@ pub mod StateKinds
 pub mod GlobsRead
 pub mod Ruled
 pub mod Rows
+pub mod Texts

@@ -2,6 +2,7 @@ pub mod Tokens
 pub mod NextToken
 pub mod Splitters
 pub mod Entries
+pub mod Sources
 pub mod Wired
 pub mod Listed
 pub mod Globs

@@ -1,22 +1,29 @@
 // From bytes to lines.
-ghost use Rattle.std.specs.Prelude.{◌≡◌, ℕ, ◌+◌, ◌-◌, ◌^◌, ◌≤◌, [], ◌∷◌, ◌++◌, List, length, string_bytes, OnOk, IfOk};
+ghost use Rattle.std.specs.Prelude.{◌≡◌, ℕ, ◌+◌, ◌-◌, ◌^◌, ◌≤◌, [], ◌∷◌, ◌++◌, List, length, string_bytes, Option, OnOk, IfOk};
+ghost use Rattle.entry_model.specs.Datum.{Members};
 ghost use Rattle.field_paths.specs.MapOf.{members_seen};
 ghost use Rattle.graph_core.specs.Traces.{inputs, Served};
+ghost use Rattle.otlp_json.specs.OutputLine.{output_line};
 ghost use Rattle.otlp_json.specs.OutputLines.{output_lines};
+ghost use Rattle.otlp_json.specs.Template.{IsTemplate, numbered, text_record};
 ghost use Rattle.pipeline.specs.Entries.{file_attributes, records_behind, record_with};
 ghost use Rattle.pipeline.specs.Fed.{Fed, GoesOn};
 ghost use Rattle.pipeline.specs.GraphOutput.{StandsFor};
 ghost use Rattle.pipeline.specs.NextToken.{IsNext};
 ghost use Rattle.pipeline.specs.Parts.{settings_of, network, HaveKinds};
+ghost use Rattle.pipeline.specs.Sources.{IsSource};
 ghost use Rattle.pipeline.specs.Tokens.{first_cut_of, tokens_of, used_of};
+ghost use Rattle.pipeline.specs.declared.source.Source.TheVariants.{Lines};
 
+use crate::source::Source;
+use crate::text::text_in;
 use crate::{FileState, Pipeline};
 use entry_model::Fields;
 use graph_core::laws as graph;
 use line_splitter::{Token, entry_text};
 use op_kinds::Record;
 use otlp_json::laws::{line_is_one_line, lines_append};
-use otlp_json::line;
+use otlp_json::{Template, line};
 use std::alloc::{AllocError, Global};
 
 impl Pipeline {
@@ -54,11 +61,11 @@ impl Pipeline {
         graph::begin(&self.graph);
         graph::go_on(&self.graph);
         lines_append();
-        let shared = self.file_attributes(alloc, path)?;
+        let source = self.source(alloc, id, path)?;
         let mut at = 0;
         while let Some(token) = self.next_token(alloc, &bytes[at..])? {
             let rest = &bytes[at..];
-            self.feed_token(alloc, state, id, &shared, &rest[token.from..token.to], out)?;
+            self.feed_token(alloc, state, id, &source, &rest[token.from..token.to], out)?;
             at += token.after;
         }
         Ok(at)
@@ -73,6 +80,70 @@ impl Pipeline {
     }
 
     fn feed_token(
+        &self,
+        alloc: Global,
+        state: &mut FileState,
+        id: u32,
+        source: &Source,
+        token: &[u8],
+        out: &mut Vec<u8>,
+    ) -> Result<(), AllocError>
+        requires states { HaveKinds self.now state.old.states.items }
+        requires lines { state.old.lines ≤ 2 ^ 40 + length out.old.items }
+        requires records { state.old.records + 1 ≤ 2 ^ 62 }
+        ensures fed { OnOk result ((path : List ℕ) → IsSource self.now id path source.now
+            → Fed (settings_of self.now) (network self.now) id path (token.now ∷ []) state.old state.new out.old.items out.new.items) }
+        ensures lines { OnOk result ((path : List ℕ) → IsSource self.now id path source.now
+            → state.new.lines + length out.old.items ≤ state.old.lines + length out.new.items) }
+        ensures records { OnOk result (state.new.records ≡ state.old.records + 1) }
+        ensures states { OnOk result (HaveKinds self.now state.new.states.items) }
+        ensures many { length state.new.states.items ≡ length state.old.states.items }
+    {
+        match source {
+            Source::Lines(template) => self.feed_text(alloc, state, template, token, out),
+            Source::Entries(attributes) => {
+                self.feed_entry(alloc, state, id, attributes, token, out)
+            }
+        }
+    }
+
+    // Without operators.
+    fn feed_text(
+        &self,
+        alloc: Global,
+        state: &mut FileState,
+        template: &Template,
+        token: &[u8],
+        out: &mut Vec<u8>,
+    ) -> Result<(), AllocError>
+        requires states { HaveKinds self.now state.old.states.items }
+        requires lines { state.old.lines ≤ 2 ^ 40 + length out.old.items }
+        requires records { state.old.records + 1 ≤ 2 ^ 62 }
+        ensures fed { OnOk result ((id : ℕ) (path : List ℕ) → IsSource self.now id path (Lines template.now)
+            → Fed (settings_of self.now) (network self.now) id path (token.now ∷ []) state.old state.new out.old.items out.new.items) }
+        ensures lines { OnOk result ((id : ℕ) (path : List ℕ) → IsSource self.now id path (Lines template.now)
+            → state.new.lines + length out.old.items ≤ state.old.lines + length out.new.items) }
+        ensures records { OnOk result (state.new.records ≡ state.old.records + 1) }
+        ensures states { state.new.states.items ≡ state.old.states.items }
+    {
+        lines_append();
+        line_is_one_line();
+        state.records += 1;
+        let leading = self.settings.preserve_leading_whitespaces;
+        let trailing = self.settings.preserve_trailing_whitespaces;
+        if let Some(text) = text_in(token, leading, trailing) {
+            append_text(state, template, text, out)?;
+            return Ok(());
+        }
+        let Some(text) = entry_text(alloc, token, leading, trailing)? else {
+            return Ok(());
+        };
+        append_text(state, template, text.as_str(), out)?;
+        Ok(())
+    }
+
+    // Through the operators.
+    fn feed_entry(
         &self,
         alloc: Global,
         state: &mut FileState,
@@ -100,12 +171,30 @@ impl Pipeline {
             return Ok(());
         };
         let entry = self.entry(alloc, shared, state.records, body)?;
+        let item = Record::new(alloc, entry)?;
         let mut made = Vec::new(alloc);
-        self.graph
-            .push(alloc, &mut state.states, Record::new(alloc, entry)?, &mut made)?;
+        self.graph.push(alloc, &mut state.states, item, &mut made)?;
         append_lines(alloc, id, &mut state.lines, &made, out)?;
         Ok(())
     }
+}
+
+// Appends the line of a text, whose record has the last number, and counts it.
+fn append_text(
+    state: &mut FileState,
+    template: &Template,
+    text: &str,
+    out: &mut Vec<u8>,
+) -> Result<(), AllocError>
+    requires { state.old.lines ≤ 2 ^ 40 + length out.old.items }
+    ensures line { OnOk result ((id : ℕ) (resource attributes : Members) (name : Option (List ℕ)) → IsTemplate id resource attributes name template.now
+        → out.new.items ≡ out.old.items ++ output_line id (state.old.lines + 1) (text_record resource (numbered name state.old.records attributes) text.now)) }
+    ensures lines { OnOk result (state.new.lines ≡ state.old.lines + 1) }
+    ensures records { state.new.records ≡ state.old.records }
+    ensures states { state.new.states.items ≡ state.old.states.items }
+{
+    state.lines += 1;
+    template.line(state.lines, state.records, text, out)
 }
 
 // Appends the lines of the records, and counts them.

@@ -28,10 +28,12 @@ mod one_operator;
 #[cfg(test)]
 mod parser_tests;
 mod restore;
+mod source;
 mod splitter;
 mod state;
 #[cfg(test)]
 mod tests;
+mod text;
 #[cfg(test)]
 mod time_tests;
 mod wiring;

@@ -136,6 +136,24 @@ const CHAIN: &str =
 const CHAINED: &[u8] =
     b"{\"resourceLogs\":[{\"resource\":{\"attributes\":[{\"key\":\"host\",\"value\":{\"stringValue\":\"h\"}}]},\"scopeLogs\":[{\"logRecords\":[{\"attributes\":[{\"key\":\"env\",\"value\":{\"stringValue\":\"test\"}},{\"key\":\"log.file.name\",\"value\":{\"stringValue\":\"app.log\"}},{\"key\":\"log.file.path\",\"value\":{\"stringValue\":\"logs/app.log\"}},{\"key\":\"log.file.record_number\",\"value\":{\"intValue\":\"2\"}},{\"key\":\"msg\",\"value\":{\"stringValue\":\"hi\"}}],\"body\":{\"intValue\":\"1\"}}],\"scope\":{\"attributes\":[{\"key\":\"agent.file\",\"value\":{\"intValue\":\"7\"}},{\"key\":\"agent.line\",\"value\":{\"intValue\":\"1\"}}],\"name\":\"stanza_agent\"}}]}]}\n";
 
+const PLAIN: &str =
+    "{\"include\":[\"app.log\"],\"include_file_record_number\":true,\"attributes\":{\"env\":\"test\",\"zone\":\"z\"},\"resource\":{\"host\":\"h\"}}";
+
+const PLAIN_LINES: &[u8] =
+    b"{\"resourceLogs\":[{\"resource\":{\"attributes\":[{\"key\":\"host\",\"value\":{\"stringValue\":\"h\"}}]},\"scopeLogs\":[{\"logRecords\":[{\"attributes\":[{\"key\":\"env\",\"value\":{\"stringValue\":\"test\"}},{\"key\":\"log.file.name\",\"value\":{\"stringValue\":\"app.log\"}},{\"key\":\"log.file.record_number\",\"value\":{\"intValue\":\"2\"}},{\"key\":\"zone\",\"value\":{\"stringValue\":\"z\"}}],\"body\":{\"stringValue\":\"hi\"}}],\"scope\":{\"attributes\":[{\"key\":\"agent.file\",\"value\":{\"intValue\":\"7\"}},{\"key\":\"agent.line\",\"value\":{\"intValue\":\"1\"}}],\"name\":\"stanza_agent\"}}]}]}\n{\"resourceLogs\":[{\"resource\":{\"attributes\":[{\"key\":\"host\",\"value\":{\"stringValue\":\"h\"}}]},\"scopeLogs\":[{\"logRecords\":[{\"attributes\":[{\"key\":\"env\",\"value\":{\"stringValue\":\"test\"}},{\"key\":\"log.file.name\",\"value\":{\"stringValue\":\"app.log\"}},{\"key\":\"log.file.record_number\",\"value\":{\"intValue\":\"3\"}},{\"key\":\"zone\",\"value\":{\"stringValue\":\"z\"}}],\"body\":{\"stringValue\":\"\xef\xbf\xbd\"}}],\"scope\":{\"attributes\":[{\"key\":\"agent.file\",\"value\":{\"intValue\":\"7\"}},{\"key\":\"agent.line\",\"value\":{\"intValue\":\"2\"}}],\"name\":\"stanza_agent\"}}]}]}\n";
+
+// Without operators: an empty line, a text, and a byte that isn't UTF-8, at once and in pieces.
+#[test]
+fn plain_lines_have_their_numbers(rt: HostRuntime) -> Result<(), Fail> {
+    let alloc = rt.alloc();
+    let whole = fed(alloc, PLAIN, b"\n hi \n\xff\n", b"")?;
+    assert!(rt; whole.0 == 3 && whole.1 == 2);
+    assert!(rt; whole.2.as_slice() == PLAIN_LINES);
+    let pieces = fed(alloc, PLAIN, b"\n hi \n\xff", b"\xff\n")?;
+    assert!(rt; pieces.2.as_slice() == PLAIN_LINES);
+    Ok(())
+}
+
 #[test]
 fn a_chain_shapes_each_entry(rt: HostRuntime) -> Result<(), Fail> {
     let alloc = rt.alloc();

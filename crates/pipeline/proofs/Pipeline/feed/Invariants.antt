@@ -1,11 +1,13 @@
 use Rattle.std.proofs.Common.{◌≡◌, ◌+◌, ◌-◌, ◌≤◌, length, drop}
 use Rattle.pipeline.specs.Parts.{settings_of, network, HaveKinds}
+use Rattle.pipeline.specs.Sources.{IsSource}
 use Rattle.pipeline.proofs.Feeding.{FeedsOn}
 use Rattle.pipeline.proofs.Pipeline.feed.Given as goal
 
 -- what was fed, and what is left
-abbrev pub invariant-loop-shared : goal.invariant-loop-shared
-invariant-loop-shared l = record {
+abbrev pub invariant-loop-source : goal.invariant-loop-source
+invariant-loop-source l = record {
+  source : IsSource l.self l.id l.path l.source;
   within : l.at ≤ length l.bytes;
   feeds : FeedsOn (settings_of l.self) (network l.self) l.id l.path l.bytes (drop l.at l.bytes) l.at l.fn.state l.state l.fn.out.items l.out.items;
   records : l.state.records ≤ l.fn.state.records + l.at;
@@ -14,5 +16,5 @@ invariant-loop-shared l = record {
   states : length l.state.states.items ≡ length l.fn.state.states.items;
 }
 
-abbrev pub decreases-loop-shared : goal.decreases-loop-shared
-decreases-loop-shared l = length l.bytes - l.at
+abbrev pub decreases-loop-source : goal.decreases-loop-source
+decreases-loop-source l = length l.bytes - l.at

@@ -1,47 +1,15 @@
-use Rattle.std.specs.Prelude.{string_bytes}
-use Rattle.std.proofs.Common.{◌≡◌, ◌+◌, ◌<◌, [], ◌∷◌, ◌++◌, length, refl, sym, ap, subst, ◌∙◌, arith}
-use Rattle.std.proofs.lemmas.List.{append-nil}
-use Rattle.graph_core.specs.Traces.{inputs, Served}
-use Rattle.otlp_json.specs.OutputLines.{output_lines}
-use Rattle.pipeline.specs.Entries.{record_with, text_of}
-use Rattle.pipeline.specs.Parts.{settings_of, network}
-use Rattle.pipeline.proofs.StateKinds.{kinds_kept, as_many}
-use Rattle.pipeline.proofs.Feeding.{record_none, record_one, one_fed}
+use Rattle.std.proofs.Common.{◌≡◌}
+use Rattle.pipeline.proofs.Texts.{on_ok}
 use Rattle.pipeline.proofs.Pipeline.feed_token.Goals as goal
 
-pub returns-in_default-clause-fed : goal.returns-in_default-clause-fed
-returns-in_default-clause-fed c = λ path shared.
-    let none = record_none (settings_of c.args.self.now) path c.args.state.now.records c.args.token.now (rw c.in_default.is at c.in_ok-body.ensures.none) in
-    record {
-      made = [];
-      served = subst (λ records. Served (network c.args.self.now) c.args.state.now.states.items [] (inputs (network c.args.self.now) records) c.args.state.now.states.items []) (sym none) (c.begin.ensures c.args.state.now.states.items []);
-      records = refl;
-      lines = omega arith;
-      written = sym (append-nil c.args.out.now.items) ∙ ap (λ t. c.args.out.now.items ++ t) (sym (c.lines_append.ensures.none c.args.id (c.args.state.now.lines + 1)));
-    }
+pub returns-in-Lines-clause-fed : goal.returns-in-Lines-clause-fed
+returns-in-Lines-clause-fed c = on_ok c.feed_text.result _ _ c.feed_text.ensures.fed (λ fed. λ path is. fed c.args.id path (rw c.in-Lines.is at is))
 
-pub returns-clause-fed : goal.returns-clause-fed
-returns-clause-fed c = λ path shared.
-    let settings = settings_of c.args.self.now in
-    let text : string_bytes c.in-Some.body ≡ text_of settings c.args.token.now = rw c.in-Some.is at c.in_ok-body.ensures.some in
-    let some : 0 < length (text_of settings c.args.token.now) = rw c.in-Some.is at c.in_ok-body.ensures.not_empty in
-    let entry = c.in_ok-entry.ensures path shared ∙ ap (record_with settings path (c.args.state.now.records + 1)) text in
-    let net = network c.args.self.now in
-    let records = c.args.state.now.records in
-    let record_of_it = record_with settings path (records + 1) (text_of settings c.args.token.now) in
-    let item : c.new.result ≡ record_of_it = c.new.ensures ∙ entry in
-    let pushed : Served net c.args.state.now.states.items [] (inputs net (c.new.result ∷ [])) c.push.new.states.items c.push.new.out.items = rw c.new-made.ensures.items at c.in_ok-push.ensures.served in
-    let written : c.append_lines.new.out.items ≡ c.args.out.now.items ++ output_lines c.args.id (c.args.state.now.lines + 1) c.push.new.out.items = rw c.deref.ensures.value at c.in_ok-append_lines.ensures.written in
-    let lines : c.append_lines.new.lines ≡ c.args.state.now.lines + length c.push.new.out.items = rw c.deref.ensures.value at c.in_ok-append_lines.ensures.lines in
-    one_fed settings net c.args.id path c.args.token.now record_of_it c.push.new.out.items _ _ _ _
-    (record_one settings path records c.args.token.now some)
-    (subst (λ i. Served net c.args.state.now.states.items [] (inputs net (i ∷ [])) c.push.new.states.items c.push.new.out.items) item pushed) refl lines written
+pub returns-in-Lines-clause-lines : goal.returns-in-Lines-clause-lines
+returns-in-Lines-clause-lines c = on_ok c.feed_text.result _ _ c.feed_text.ensures.lines (λ lines. λ path is. lines c.args.id path (rw c.in-Lines.is at is))
 
-pub returns-clause-states : goal.returns-clause-states
-returns-clause-states c =
-    let nodes = c.args.self.now.graph in
-    let net = network c.args.self.now in
-    rw (c.in_ok-push.ensures.served.states) (kinds_kept nodes c.args.state.now.states.items (inputs net (c.new.result ∷ [])) c.requires.states)
+pub returns-in-Entries-clause-fed : goal.returns-in-Entries-clause-fed
+returns-in-Entries-clause-fed c = on_ok c.feed_entry.result _ _ c.feed_entry.ensures.fed (λ fed. λ path is. fed path (rw c.in-Entries.is at is))
 
-pub push-requires : goal.push-requires
-push-requires c = as_many c.args.self.now.graph c.args.state.now.states.items c.requires.states
+pub returns-in-Entries-clause-lines : goal.returns-in-Entries-clause-lines
+returns-in-Entries-clause-lines c = on_ok c.feed_entry.result _ _ c.feed_entry.ensures.lines (λ lines. λ path is. lines)

@@ -1,0 +1,20 @@
+-- What is made of a file before its tokens are taken.
+use Rattle.std.specs.Prelude.{◌≡◌, ℕ, List, [], if◌then◌else◌, Option, None, Some, codes}
+use Rattle.field_paths.specs.MapOf.{members_seen}
+use Rattle.otlp_json.specs.Template.{IsTemplate}
+use Rattle.pipeline.specs.Entries.{file_attributes}
+use Rattle.pipeline.specs.Parts.{settings_of}
+use Rattle.pipeline.specs.declared.Pipeline.{Pipeline}
+use Rattle.pipeline.specs.declared.source.Source.{Source}
+use Rattle.pipeline.specs.declared.source.Source.TheVariants.{Lines, Entries}
+use Rattle.settings_text.specs.declared.settings.Settings.{Settings}
+
+-- the attribute that has a record's number, where one is asked for
+abbrev pub number_name : Settings → Option (List ℕ)
+number_name settings = if settings.include_file_record_number then Some (codes "log.file.record_number") else None
+
+-- where there are no operators, the template is that of the file's lines; else the attributes are those of its records
+abbrev pub IsSource : Pipeline → ℕ → List ℕ → Source → Type 0
+IsSource pipeline id path (Lines template) =
+    (pipeline.graph ≡ []) × IsTemplate id (settings_of pipeline).resource (file_attributes (settings_of pipeline) path) (number_name (settings_of pipeline)) template
+IsSource pipeline id path (Entries attributes) = members_seen attributes.entries ≡ file_attributes (settings_of pipeline) path

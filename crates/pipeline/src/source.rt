@@ -1,0 +1,43 @@
+// What is made of a file before its tokens are taken.
+ghost use Rattle.std.specs.Prelude.{◌≡◌, IfOk};
+ghost use Rattle.pipeline.specs.Parts.{settings_of};
+ghost use Rattle.pipeline.specs.Sources.{number_name, IsSource};
+
+use crate::Pipeline;
+use entry_model::{Fields, Text};
+use otlp_json::Template;
+use std::alloc::{AllocError, Global};
+
+/// How tokens become lines.
+#[derive(Drop)]
+pub(crate) enum Source {
+    /// Without operators: each by what the lines share.
+    Lines(Template),
+    /// Through the operators: each as an entry with these attributes.
+    Entries(Fields),
+}
+
+impl Pipeline {
+    pub(crate) fn source(&self, alloc: Global, id: u32, path: &str) -> Result<Source, AllocError>
+        ensures { IfOk result (IsSource self.now id path.now) }
+    {
+        let attributes = self.file_attributes(alloc, path)?;
+        if !self.graph.nodes().is_empty() {
+            return Ok(Source::Entries(attributes));
+        }
+        let resource = self.settings.resource.as_fields();
+        let number = self.number_name(alloc)?;
+        let template = Template::new(alloc, id, resource, attributes, number)?;
+        Ok(Source::Lines(template))
+    }
+
+    // The attribute that has a record's number, where one is asked for.
+    fn number_name(&self, alloc: Global) -> Result<Option<Text>, AllocError>
+        ensures { IfOk result (λ name. name ≡ number_name (settings_of self.now)) }
+    {
+        if !self.settings.include_file_record_number {
+            return Ok(None);
+        }
+        Ok(Some(Text::from_str(alloc, "log.file.record_number")?))
+    }
+}
