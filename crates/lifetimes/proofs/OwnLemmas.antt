@@ -95,7 +95,8 @@ undisturbed events old own = record {
       ap (λ (h : History). bytes h file) before.goes_on ∙ own_bytes before.events moment file (own_front before.events after.events (subst AreOwn parts own));
 }
 
+pub own_by : (old new : History) (goes : GoesBy [] old new) → AreOwn goes.later.events
+own_by old new goes = own_events goes.later.events old (subst (λ (h : History). Follows (record { steps = []; since = length old }) h) goes.later.goes_on goes.follows)
+
 pub undisturbed_by : (old new : History) → GoesBy [] old new → IsUndisturbed old new
-undisturbed_by old new goes =
-    let follows : Follows (record { steps = []; since = length old }) (goes.later.events ++ old) = subst (λ (h : History). Follows (record { steps = []; since = length old }) h) goes.later.goes_on goes.follows in
-    subst (IsUndisturbed old) (sym goes.later.goes_on) (undisturbed goes.later.events old (own_events goes.later.events old follows))
+undisturbed_by old new goes = subst (IsUndisturbed old) (sym goes.later.goes_on) (undisturbed goes.later.events old (own_by old new goes))

@@ -1,0 +1,4 @@
+pub mod Moves
+pub mod Script
+pub mod Playing
+pub mod Shown

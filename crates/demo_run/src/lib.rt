@@ -1,0 +1,14 @@
+//! A demonstration of the agent in memory: rounds of lines in three logs, of which one is rotated, with polls of which some
+//! are stopped.
+//!
+//! **The contract for the layer above.** [`play_rounds`] plays the script of `specs/Script` and tells what its ending has
+//! (`IsDemo` of `specs/Shown`).
+#![tactic(auto)]
+
+mod ending;
+mod playing;
+mod show;
+#[cfg(test)]
+mod tests;
+
+pub use show::{Demo, play_rounds};
