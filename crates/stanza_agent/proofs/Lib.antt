@@ -6,5 +6,6 @@ pub mod OneLine
 pub mod GrowLemmas
 pub mod StandLemmas
 pub mod StatusLemmas
+mod DemoLemmas
 pub mod FollowLemmas
 pub mod FaultLemmas

@@ -1,4 +1,6 @@
 pub mod Words
+pub mod DemoLine
+pub mod DemoEnds
 pub mod Refusal
 pub mod Status
 pub mod Report

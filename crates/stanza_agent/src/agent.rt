@@ -1,5 +1,8 @@
 // The whole program, over any outside.
-ghost use Rattle.std.specs.Prelude.{◌≡◌, ◌≢◌, ◌↔◌, false, Some, IsTrue};
+ghost use Rattle.std.specs.Prelude.{◌≡◌, ◌≢◌, ◌≤◌, ◌⊎◌, ℕ, IfOk, IfErr};
+ghost use Rattle.command_words.specs.Answers.{IsNoCommand};
+ghost use Rattle.command_words.specs.IsCommand.{IsCommand};
+ghost use Rattle.command_words.specs.Words.{texts};
 ghost use Rattle.outside.specs.Count.{Rose};
 ghost use Rattle.outside.specs.Crash.{Passes};
 ghost use Rattle.outside.specs.Image.{Same};
@@ -7,6 +10,7 @@ ghost use Rattle.outside.specs.World.{Told};
 ghost use Rattle.slot_store.specs.OnlyRead.{OnlyRead};
 ghost use Rattle.stanza_agent.specs.Committed.{CommittedEnds};
 ghost use Rattle.stanza_agent.specs.Control.{max_control, TakesAtMost, TakesExactly};
+ghost use Rattle.stanza_agent.specs.DemoEnds.{DemoEnds};
 ghost use Rattle.stanza_agent.specs.Follow.{FollowEnds};
 ghost use Rattle.stanza_agent.specs.Grows.{GrowsBy};
 ghost use Rattle.stanza_agent.specs.Headline.{KeepsStanding};
@@ -14,15 +18,18 @@ ghost use Rattle.stanza_agent.specs.Moment.{meanings, moment};
 ghost use Rattle.stanza_agent.specs.Once.{OnceEnds};
 ghost use Rattle.stanza_agent.specs.Report.{GrowsByPart};
 ghost use Rattle.stanza_agent.specs.Status.{fault_line, IsStatus};
-ghost use Rattle.stanza_agent.specs.Words.{is_committed, is_follow, is_once, IsNoCommand};
+ghost use Rattle.stanza_agent.specs.Words.{IsWordsFault};
 
 use crate::committed::committed;
+use crate::demo::show_demo;
 use crate::fault::Fault;
 use crate::follow::follow;
 use crate::once::once;
 use crate::report::refuse;
+use command_words::laws::words_spell_one_command;
+use command_words::{Command, command_of};
 use outside::{Disk, Sink, Source, Tree};
-use std::alloc::Global;
+use std::alloc::{AllocError, Global};
 
 /// Runs the command that the words are, and answers the exit status.
 ///
@@ -38,23 +45,29 @@ pub fn run_agent<T: Tree, D: Disk, S: Source, K: Sink>(
     ensures answers { IsStatus result }
 
     // One poll: its course, status by status. Wherever it is stopped, nothing that was kept is lost.
-    ensures once { IsTrue (is_once words.now)
+    ensures once { IsCommand (texts words.now) Command.Once
         → OnceEnds (meanings T.meaning D.meaning K.meaning) (moment tree.old disk.old report.old) (moment tree.new disk.new report.new) result }
-    ensures once_crash { IsTrue (is_once words.now) → Passes D.meaning.images (GrowsBy 1) disk.old disk.new }
+    ensures once_crash { IsCommand (texts words.now) Command.Once → Passes D.meaning.images (GrowsBy 1) disk.old disk.new }
 
     // Polls as control lines ask for them.
-    ensures follow { IsTrue (is_follow words.now)
+    ensures follow { IsCommand (texts words.now) Command.Follow
         → FollowEnds (meanings T.meaning D.meaning K.meaning) (S.meaning.rest control.old) (S.meaning.rest control.new) (moment tree.old disk.old report.old) (moment tree.new disk.new report.new) result }
 
     // How much of the output is kept, and nothing is written.
-    ensures committed { IsTrue (is_committed words.now) → CommittedEnds D.meaning K.meaning disk.old report.old report.new result }
-    ensures only_read { IsTrue (is_committed words.now) → OnlyRead D.meaning disk.old disk.new }
+    ensures committed { IsCommand (texts words.now) Command.Committed → CommittedEnds D.meaning K.meaning disk.old report.old report.new result }
+    ensures only_read { IsCommand (texts words.now) Command.Committed → OnlyRead D.meaning disk.old disk.new }
+
+    // A demonstration in memory, in which the disk has no part.
+    ensures demo { (rounds : ℕ) → IsCommand (texts words.now) (Command.Demo rounds)
+        → DemoEnds rounds (K.meaning.written report.old) (K.meaning.written report.new) result }
+    ensures demo_untouched { (rounds : ℕ) → IsCommand (texts words.now) (Command.Demo rounds) → disk.new ≡ disk.old }
 
     // What stands for the files, stands: whatever others do to them meanwhile, and wherever the command is stopped.
     ensures standing { Told (KeepsStanding D.meaning.images disk.old disk.new) (T.meaning.world tree.old) (T.meaning.world tree.new) }
 
-    // 2: the words are no command.
-    ensures usage { (result ≡ 2) ↔ IsNoCommand words.now }
+    // 2: the words are no command. Memory to read them may be wanting.
+    ensures usage { result ≡ 2 → IsNoCommand (texts words.now) }
+    ensures no_command { IsNoCommand (texts words.now) → (result ≡ 2) ⊎ (result ≡ 10) }
     ensures usage_told { result ≡ 2 → Told (GrowsByPart (fault_line Fault.Usage)) (K.meaning.written report.old) (K.meaning.written report.new) }
     ensures usage_untouched { result ≡ 2 → disk.new ≡ disk.old }
 
@@ -71,35 +84,65 @@ pub fn run_agent<T: Tree, D: Disk, S: Source, K: Sink>(
     ensures control_taken { Told (TakesAtMost max_control) (S.meaning.rest control.old) (S.meaning.rest control.new) }
 
     // Only what a command is for is touched.
-    ensures control_untouched { is_follow words.now ≡ false → control.new ≡ control.old }
-    ensures tree_untouched { is_once words.now ≡ false → is_follow words.now ≡ false → tree.new ≡ tree.old }
+    ensures control_untouched { (IsCommand (texts words.now) Command.Follow → ⊥) → control.new ≡ control.old }
+    ensures tree_untouched { (IsCommand (texts words.now) Command.Once → ⊥) → (IsCommand (texts words.now) Command.Follow → ⊥) → tree.new ≡ tree.old }
 {
-    match command_of(words) {
-        Some(Command::Once) => once(alloc, tree, disk, report),
-        Some(Command::Follow) => follow(alloc, tree, disk, control, report),
-        Some(Command::Committed) => committed(alloc, disk, report),
-        None => refuse(alloc, Fault::Usage, report),
+    words_spell_one_command();
+    match command_for(alloc, words) {
+        Ok(command) => run(alloc, command, tree, disk, control, report),
+        Err(fault) => refuse(alloc, fault, report),
     }
 }
 
-enum Command {
-    Once,
-    Follow,
-    Committed,
+// The command that the words spell.
+fn command_for(alloc: Global, words: &[String]) -> Result<Command, Fault>
+    ensures command { IfOk result (IsCommand (texts words.now)) }
+    ensures fault { IfErr result (IsWordsFault (texts words.now)) }
+{
+    match command_of(alloc, words) {
+        Ok(Some(command)) => Ok(command),
+        Ok(None) => Err(Fault::Usage),
+        Err(AllocError) => Err(Fault::Memory),
+    }
 }
 
-fn command_of(words: &[String]) -> Option<Command>
-    ensures once { (result ≡ Some Command.Once) ↔ IsTrue (is_once words.now) }
-    ensures follow { (result ≡ Some Command.Follow) ↔ IsTrue (is_follow words.now) }
-    ensures committed { (result ≡ Some Command.Committed) ↔ IsTrue (is_committed words.now) }
+// Runs a command, and answers the exit status.
+fn run<T: Tree, D: Disk, S: Source, K: Sink>(
+    alloc: Global,
+    command: Command,
+    tree: &mut T,
+    disk: &mut D,
+    control: &mut S,
+    report: &mut K,
+) -> u8
+    requires { (rounds : ℕ) → command ≡ Command.Demo rounds → rounds ≤ 1000 }
+    ensures answers { IsStatus result }
+    ensures no_usage { result ≡ 2 → ⊥ }
+    ensures once { command ≡ Command.Once
+        → OnceEnds (meanings T.meaning D.meaning K.meaning) (moment tree.old disk.old report.old) (moment tree.new disk.new report.new) result }
+    ensures once_crash { command ≡ Command.Once → Passes D.meaning.images (GrowsBy 1) disk.old disk.new }
+    ensures follow { command ≡ Command.Follow
+        → FollowEnds (meanings T.meaning D.meaning K.meaning) (S.meaning.rest control.old) (S.meaning.rest control.new) (moment tree.old disk.old report.old) (moment tree.new disk.new report.new) result }
+    ensures committed { command ≡ Command.Committed → CommittedEnds D.meaning K.meaning disk.old report.old report.new result }
+    ensures only_read { command ≡ Command.Committed → OnlyRead D.meaning disk.old disk.new }
+    ensures demo { (rounds : ℕ) → command ≡ Command.Demo rounds → DemoEnds rounds (K.meaning.written report.old) (K.meaning.written report.new) result }
+    ensures demo_untouched { (rounds : ℕ) → command ≡ Command.Demo rounds → disk.new ≡ disk.old }
+    ensures standing { Told (KeepsStanding D.meaning.images disk.old disk.new) (T.meaning.world tree.old) (T.meaning.world tree.new) }
+    ensures disk_failed { result ≡ 7 → Rose (D.meaning.faults disk.old) (D.meaning.faults disk.new) }
+    ensures disk_stood { result ≢ 7 → D.meaning.faults disk.new ≡ D.meaning.faults disk.old }
+    ensures control_failed { result ≡ 8 → Rose (S.meaning.faults control.old) (S.meaning.faults control.new) }
+    ensures control_stood { result ≢ 8 → S.meaning.faults control.new ≡ S.meaning.faults control.old }
+    ensures report_failed { result ≡ 9 → Rose (K.meaning.faults report.old) (K.meaning.faults report.new) }
+    ensures report_stood { result ≡ 0 → K.meaning.faults report.new ≡ K.meaning.faults report.old }
+    ensures control_long { result ≡ 15 → Told (TakesExactly max_control) (S.meaning.rest control.old) (S.meaning.rest control.new) }
+    ensures control_taken { Told (TakesAtMost max_control) (S.meaning.rest control.old) (S.meaning.rest control.new) }
+    ensures control_untouched { command ≢ Command.Follow → control.new ≡ control.old }
+    ensures tree_untouched { command ≢ Command.Once → command ≢ Command.Follow → tree.new ≡ tree.old }
 {
-    let [word] = words else {
-        return None;
-    };
-    match word.as_str() {
-        "once" => Some(Command::Once),
-        "follow" => Some(Command::Follow),
-        "committed" => Some(Command::Committed),
-        _ => None,
+    match command {
+        Command::Once => once(alloc, tree, disk, report),
+        Command::Follow => follow(alloc, tree, disk, control, report),
+        Command::Committed => committed(alloc, disk, report),
+        Command::Demo(rounds) => show_demo(alloc, rounds, report),
     }
 }

@@ -8,6 +8,7 @@
 mod agent;
 mod committed;
 mod control;
+mod demo;
 mod fault;
 mod follow;
 mod once;

@@ -3,12 +3,14 @@ ghost use Rattle.std.specs.Prelude.{◌≡◌, ◌++◌, codes, decimal, OnOk, I
 ghost use Rattle.outside.specs.Count.{HasCause};
 ghost use Rattle.outside.specs.World.{Told};
 ghost use Rattle.stanza_agent.specs.Committed.{length_line};
+ghost use Rattle.stanza_agent.specs.DemoLine.{demo_line};
 ghost use Rattle.stanza_agent.specs.Refusal.{settings_words, build_words, cause_words, graph_words};
 ghost use Rattle.stanza_agent.specs.Report.{Appends, GrowsByPart};
 ghost use Rattle.stanza_agent.specs.Status.{fault_line, status_of};
 ghost use Rattle.stanza_agent.specs.SummaryLine.{summary_line};
 
 use crate::fault::Fault;
+use demo_run::Demo;
 use graph_core::GraphFault;
 use op_kinds::OpCause;
 use outside::{CallFault, Sink};
@@ -167,6 +169,32 @@ fn line_of_summary(alloc: Global, summary: &Summary) -> Result<String, AllocErro
     push_field(&mut line, " full=", u64::from(summary.full))?;
     push_field(&mut line, " deep=", u64::from(summary.deep))?;
     push_field(&mut line, " output=", summary.output)?;
+    line.push_str("\n")?;
+    Ok(line)
+}
+
+/// Reports what a demonstration shows by its line.
+pub fn report_demo<K: Sink>(alloc: Global, demo: &Demo, report: &mut K) -> Result<(), CallFault>
+    ensures ok { OnOk result (Told (Appends (demo_line demo.now)) (K.meaning.written report.old) (K.meaning.written report.new)) }
+    ensures part { Told (GrowsByPart (demo_line demo.now)) (K.meaning.written report.old) (K.meaning.written report.new) }
+    ensures cause { HasCause result (K.meaning.faults report.old) (K.meaning.faults report.new) }
+{
+    let line = line_of_demo(alloc, demo)?;
+    report_line(alloc, line.as_str(), report)
+}
+
+// The line has its LF.
+#[tactic(auto, unfolding(crate::specs::DemoLine::demo_line))]
+fn line_of_demo(alloc: Global, demo: &Demo) -> Result<String, AllocError>
+    ensures { IfOk result (λ line. string_bytes line ≡ demo_line demo.now) }
+{
+    let mut line = String::new(alloc);
+    push_field(&mut line, "rounds=", u64::from(demo.rounds))?;
+    push_field(&mut line, " polls=", demo.polls)?;
+    push_field(&mut line, " stops=", demo.stops)?;
+    push_field(&mut line, " files=", demo.files)?;
+    push_field(&mut line, " lines=", demo.lines)?;
+    push_field(&mut line, " output=", demo.output)?;
     line.push_str("\n")?;
     Ok(line)
 }

@@ -23,6 +23,8 @@ const AGAIN: &[u8] =
 const GREW: &[u8] =
     b"files=1 lines=1 left=0 gone=0 failed=0 compressed=0 shrunk=0 full=0 deep=0 output=652\n";
 
+const DEMO_OF_TEN: &[u8] = b"rounds=10 polls=11 stops=1 files=3 lines=10 output=3251\n";
+
 // What fails in a run, and at which call.
 #[derive(Clone, Copy)]
 enum Failing {
@@ -35,7 +37,7 @@ enum Failing {
 
 use Failing::{Nothing, Tree};
 
-// The words, the control input, what fails, the status, what is reported first and last, and the output after a crash
+// The words with a space between two, the control input, what fails, the status, what is reported first and last, and the output after a crash
 // that leaves nothing unsynced.
 type Run = (
     &'static str,
@@ -69,6 +71,12 @@ const RUNS: &[Run] = &[
         b"",
     ),
     ("often", b"", Nothing, 2, b"fault 2 usage\n", b"", b""),
+    ("once x", b"", Nothing, 2, b"fault 2 usage\n", b"", b""),
+    ("demo 0", b"", Nothing, 2, b"fault 2 usage\n", b"", b""),
+    ("demo 07", b"", Nothing, 2, b"fault 2 usage\n", b"", b""),
+    ("--help", b"", Nothing, 2, b"fault 2 usage\n", b"", b""),
+    ("demo 10", b"", Nothing, 0, DEMO_OF_TEN, b"", b""),
+    ("demo 10", b"", Failing::Report(1), 9, b"", b"", b""),
     ("follow", b"", Nothing, 0, b"", b"", b""),
     ("follow", b"quit", Nothing, 0, b"", b"", b""),
     ("follow", b"poll\nquit\n", Nothing, 0, POLLED, b"", HELLO),
@@ -170,11 +178,15 @@ impl World {
         }
     }
 
-    fn run(&mut self, alloc: Global, word: &str) -> Result<u8, AllocError> {
-        let words = vec![in alloc; String::from_str(alloc, word)?]?;
+    // The words stand with a space between two.
+    fn run(&mut self, alloc: Global, words: &str) -> Result<u8, AllocError> {
+        let mut given = Vec::new(alloc);
+        for word in words.split(' ') {
+            given.push(String::from_str(alloc, word)?)?;
+        }
         Ok(run_agent(
             alloc,
-            &words,
+            &given,
             &mut self.tree,
             &mut self.disk,
             &mut self.control,

@@ -7,9 +7,8 @@ check_words() {
         run 2 "fault 2 usage$LF" once x &&
         run 2 "fault 2 usage$LF" follow x &&
         run 2 "fault 2 usage$LF" committed x &&
-        run 2 "fault 2 usage$LF" demo 0 &&
-        run 2 "fault 2 usage$LF" demo 07 &&
         run 2 "fault 2 usage$LF" --help &&
+        run 2 "fault 2 usage$LF" once -- &&
         run 2 "fault 2 usage$LF" ONCE &&
         run 2 "fault 2 usage$LF" '' &&
         [ "$(ls)" = "app.log${LF}settings.json" ]
@@ -21,6 +20,7 @@ check_words_that_are_not_utf8() {
         run 2 "fault 2 usage$LF" $'once\xff' &&
         run 2 "fault 2 usage$LF" once $'\xff' &&
         run 2 "fault 2 usage$LF" $'\xff' once &&
+        run 2 "fault 2 usage$LF" demo $'1\xff' &&
         [ "$(ls)" = "app.log${LF}settings.json" ]
 }
 

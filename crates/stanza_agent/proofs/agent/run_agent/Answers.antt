@@ -1,49 +1,61 @@
-use Rattle.std.proofs.Common.{rules, ◌≡◌, true, false, inr}
-use Rattle.stanza_agent.specs.Moment.{meanings}
-use Rattle.stanza_agent.specs.Words.{is_follow}
-use Rattle.stanza_agent.specs.declared.fault.Fault.TheVariants.{Usage}
+use Rattle.std.proofs.Common.{◌∙◌, ap, arith, inl, inr, refl, subst, sym}
+use Rattle.command_words.specs.declared.command.Command.TheVariants.{Once, Follow, Committed, Demo}
+use Rattle.outside.proofs.Passing.{passes_none, passes_weaker}
+use Rattle.stanza_agent.proofs.DemoLemmas.{wants_memory}
+use Rattle.stanza_agent.proofs.GrowLemmas.{grows_more, grows_same}
 use Rattle.stanza_agent.proofs.StandLemmas.{same_stands}
-use Rattle.stanza_agent.proofs.StatusLemmas.{committed_status, follow_status, once_not_long, once_status}
+use Rattle.stanza_agent.specs.Committed.{unread}
+use Rattle.stanza_agent.specs.DemoEnds.{unplayed}
+use Rattle.stanza_agent.specs.Follow as follow
+use Rattle.stanza_agent.specs.Once as once
+use Rattle.stanza_agent.specs.Status.{fault_line, status_of}
 use Rattle.stanza_agent.proofs.agent.run_agent.Goals as goal
 
--- ---- once
+-- ---- the words spell a command
 
-pub returns-in-Some-Once-clause-answers : goal.returns-in-Some-Once-clause-answers
-returns-in-Some-Once-clause-answers g c = (once_status (meanings g.T.Tree.meaning g.D.Disk.meaning g.K.Sink.meaning) _ _ _ c.once.ensures.ends).0
+pub returns-in-Ok-clause-demo : goal.returns-in-Ok-clause-demo
+returns-in-Ok-clause-demo g c = λ rounds is. c.run.ensures.demo rounds (c.words_spell_one_command.ensures _ _ _ c.in-Ok.ensures.command is)
 
-pub returns-in-Some-Once-clause-usage_told : goal.returns-in-Some-Once-clause-usage_told
-returns-in-Some-Once-clause-usage_told g c = λ is. absurd ((once_status (meanings g.T.Tree.meaning g.D.Disk.meaning g.K.Sink.meaning) _ _ _ c.once.ensures.ends).1 is)
+-- ---- they spell none, or memory ran out
 
-pub returns-in-Some-Once-clause-control_long : goal.returns-in-Some-Once-clause-control_long
-returns-in-Some-Once-clause-control_long g c = λ is. absurd (once_not_long (meanings g.T.Tree.meaning g.D.Disk.meaning g.K.Sink.meaning) _ _ _ c.once.ensures.ends is)
+pub returns-in-Err-clause-once : goal.returns-in-Err-clause-once
+returns-in-Err-clause-once g c = λ is.
+    let memory = wants_memory _ c.in-Err.fault Once c.in-Err.ensures.fault is in
+    once.not_opened _ (record {
+      fault = c.in-Err.fault;
+      is = c.refuse.ensures.status;
+      cause = rw memory tt;
+      told = c.refuse.ensures.told;
+      same_tree = refl;
+      untouched = λ _. passes_none c.args.disk.now;
+      crash = passes_weaker (passes_none c.args.disk.now) (λ old new same. rw same (grows_same old));
+    })
 
--- ---- follow
+pub returns-in-Err-clause-once_crash : goal.returns-in-Err-clause-once_crash
+returns-in-Err-clause-once_crash g c = λ _. passes_weaker (passes_none c.args.disk.now) (λ old new same. rw same (grows_more 0 1 old old (omega arith) (grows_same old)))
 
-pub returns-in-Some-Follow-clause-answers : goal.returns-in-Some-Follow-clause-answers
-returns-in-Some-Follow-clause-answers g c = (follow_status (meanings g.T.Tree.meaning g.D.Disk.meaning g.K.Sink.meaning) _ _ _ _ _ c.follow.ensures.ends).0
+pub returns-in-Err-clause-follow : goal.returns-in-Err-clause-follow
+returns-in-Err-clause-follow g c = λ is.
+    let memory = wants_memory _ c.in-Err.fault Follow c.in-Err.ensures.fault is in
+    follow.not_opened (record {
+      fault = c.in-Err.fault;
+      is = c.refuse.ensures.status;
+      cause = rw memory tt;
+      told = c.refuse.ensures.told;
+      same_tree = refl;
+      untouched = λ _. passes_none c.args.disk.now;
+      crash = passes_weaker (passes_none c.args.disk.now) (λ old new same. rw same (grows_same old));
+    }) refl
 
-pub returns-in-Some-Follow-clause-usage : goal.returns-in-Some-Follow-clause-usage
-returns-in-Some-Follow-clause-usage g c =
-    let yes : is_follow c.args.words.now ≡ true = search rules in (
-      λ is. absurd ((follow_status (meanings g.T.Tree.meaning g.D.Disk.meaning g.K.Sink.meaning) _ _ _ _ _ c.follow.ensures.ends).1 is),
-      λ no. let not : is_follow c.args.words.now ≡ false = no.not_follow in absurd (cc (yes, not)),
-    )
+pub returns-in-Err-clause-committed : goal.returns-in-Err-clause-committed
+returns-in-Err-clause-committed g c = λ is.
+    let memory = wants_memory _ c.in-Err.fault Committed c.in-Err.ensures.fault is in
+    unread _ (record { fault = c.in-Err.fault; is = c.refuse.ensures.status; cause = rw memory tt; told = c.refuse.ensures.told })
 
-pub returns-in-Some-Follow-clause-usage_told : goal.returns-in-Some-Follow-clause-usage_told
-returns-in-Some-Follow-clause-usage_told g c = λ is. absurd ((follow_status (meanings g.T.Tree.meaning g.D.Disk.meaning g.K.Sink.meaning) _ _ _ _ _ c.follow.ensures.ends).1 is)
+pub returns-in-Err-clause-demo : goal.returns-in-Err-clause-demo
+returns-in-Err-clause-demo g c = λ rounds is.
+    let memory = wants_memory _ c.in-Err.fault (Demo rounds) c.in-Err.ensures.fault is in
+    rw (c.refuse.ensures.status ∙ ap status_of memory) (unplayed (rw memory at c.refuse.ensures.told))
 
-pub returns-in-Some-Follow-clause-usage_untouched : goal.returns-in-Some-Follow-clause-usage_untouched
-returns-in-Some-Follow-clause-usage_untouched g c = λ is. absurd ((follow_status (meanings g.T.Tree.meaning g.D.Disk.meaning g.K.Sink.meaning) _ _ _ _ _ c.follow.ensures.ends).1 is)
-
--- ---- committed
-
-pub returns-in-Some-Committed-clause-answers : goal.returns-in-Some-Committed-clause-answers
-returns-in-Some-Committed-clause-answers g c = (committed_status g.D.Disk.meaning g.K.Sink.meaning _ _ _ _ c.committed.ensures.ends).0
-
-pub returns-in-Some-Committed-clause-standing : goal.returns-in-Some-Committed-clause-standing
-returns-in-Some-Committed-clause-standing g c = same_stands g.D.Disk.meaning.images c.args.disk.now c.committed.new.disk (g.T.Tree.meaning.world c.args.tree.now) (λ from image early left. g.met.D.Disk.counts_now c.args.disk.now from image early left) c.committed.ensures.only_read.crash
-
--- ---- no command
-
-pub returns-in-None-clause-answers : goal.returns-in-None-clause-answers
-returns-in-None-clause-answers g c = inr (inr (Usage, c.refuse.ensures.status))
+pub returns-in-Err-clause-standing : goal.returns-in-Err-clause-standing
+returns-in-Err-clause-standing g c = same_stands g.D.Disk.meaning.images c.args.disk.now c.args.disk.now (g.T.Tree.meaning.world c.args.tree.now) (λ from image early left. g.met.D.Disk.counts_now c.args.disk.now from image early left) (passes_none c.args.disk.now)
