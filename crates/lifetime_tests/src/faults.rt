@@ -1,8 +1,9 @@
 // Scripts without an ending.
 use crate::scripts::Do::{Add, Make, Name, Open, Poll, Remove, Stop};
-use crate::scripts::{APP, Do, play};
-use lifetimes::ScriptFault;
+use crate::scripts::{APP, AT_ONCE, Do, script_of};
+use lifetimes::{ScriptFault, run_script};
 use poll_core::OpenFault;
+use std::alloc::Global;
 use std::test::Fail;
 
 const NO_JSON: &[u8] = b"{";
@@ -68,25 +69,23 @@ const FAULTS: [(&[u8], &[Do], Why); 22] = [
     (NO_GLOB, &[], Why::Build),
 ];
 
-#[test]
-fn a_fault_names_its_event(rt: HostRuntime) -> Result<(), Fail> {
-    let alloc = rt.alloc();
-    for (place, (settings, events, fault)) in FAULTS.iter().enumerate() {
-        let given = match play(alloc, settings, events)? {
-            Ok(_) => Why::Ends,
-            Err(fault) => reason(&fault),
-        };
-        assert_eq!(rt; given, *fault, "script {place}");
+// How the script of these events ends.
+fn answer_of(alloc: Global, settings: &[u8], events: &[Do]) -> Result<Why, Fail> {
+    let script = script_of(alloc, events, AT_ONCE)?;
+    match run_script(alloc, settings, &script) {
+        Ok(_ending) => Ok(Why::Ends),
+        Err(fault) => Ok(reason(&fault)),
     }
-    Ok(())
 }
 
-// The order of the two counts of a script that ends.
 #[test]
-fn an_opening_and_a_poll_are_one_poll_and_no_stop(rt: HostRuntime) -> Result<(), Fail> {
-    let alloc = rt.alloc();
-    let ending = play(alloc, APP, &[Open, Poll])??;
-    assert_eq!(rt; (ending.polls, ending.stops), (1, 0));
-    assert_eq!(rt; ending.marks.as_slice(), [0, 0].as_slice());
+fn a_fault_names_its_event(rt: HostRuntime) -> Result<(), Fail> {
+    for (place, (settings, events, wanted)) in FAULTS.iter().enumerate() {
+        assert_eq!(rt;
+            answer_of(rt.alloc(), settings, events)?,
+            *wanted,
+            "script {place}"
+        );
+    }
     Ok(())
 }

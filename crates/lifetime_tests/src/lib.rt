@@ -2,9 +2,17 @@
 #![tactic(auto)]
 
 #[cfg(test)]
+mod cases;
+#[cfg(test)]
 mod containers;
 #[cfg(test)]
+mod endings;
+#[cfg(test)]
 mod faults;
+#[cfg(test)]
+mod growing;
+#[cfg(test)]
+mod lines;
 #[cfg(test)]
 mod rotations;
 #[cfg(test)]
@@ -13,5 +21,9 @@ mod rounds;
 mod scripts;
 #[cfg(test)]
 mod stops;
+#[cfg(test)]
+mod sweeps;
+#[cfg(test)]
+mod torn;
 #[cfg(test)]
 mod within;

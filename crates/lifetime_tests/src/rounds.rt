@@ -1,10 +1,9 @@
 // Rounds of lines over three files, of which one is rotated and some polls are stopped.
-use crate::scripts::kept;
-use checkpoint_journal::peek;
-use entry_model::Text;
-use lifetimes::{Event, run_script};
-use mem_world::{FileName, WorldStep};
-use outside::DiskFile;
+ghost use Rattle.std.specs.Prelude.{◌<◌};
+
+use crate::endings::left_behind;
+use crate::scripts::{append, create, put, rename};
+use lifetimes::Event;
 use std::alloc::Global;
 use std::test::Fail;
 
@@ -20,25 +19,29 @@ struct Files {
 fn add_line(
     alloc: Global,
     script: &mut Vec<Event>,
-    mut files: Files,
+    files: Files,
     round: u32,
 ) -> Result<Files, Fail> {
     let kind = round % 3;
+    let files = named(alloc, script, files, kind)?;
+    let line = format!(in alloc; "r{round} k{kind}\n")?;
+    let step = append(alloc, files.named[kind as usize], line.as_bytes())?;
+    put(script, Event::World(step))?;
+    Ok(files)
+}
+
+// There is a file of this kind.
+fn named(alloc: Global, script: &mut Vec<Event>, mut files: Files, kind: u32) -> Result<Files, Fail>
+    requires { kind < 3 }
+{
     let place = kind as usize;
     if files.named[place] == 0 {
         files.named[place] = files.next;
         files.next = files.next.saturating_add(1);
         let path = format!(in alloc; "d{kind}.log")?;
-        script.push(Event::World(WorldStep::Create {
-            file: FileName(files.named[place]),
-            path: Text::new(path)?,
-        }))?;
+        let step = create(alloc, files.named[place], &path)?;
+        put(script, Event::World(step))?;
     }
-    let line = format!(in alloc; "r{round} k{kind}\n")?;
-    script.push(Event::World(WorldStep::Append {
-        file: FileName(files.named[place]),
-        bytes: Vec::from_slice(alloc, line.as_bytes())?,
-    }))?;
     Ok(files)
 }
 
@@ -49,12 +52,23 @@ fn rotate(
     round: u32,
 ) -> Result<Files, Fail> {
     let path = format!(in alloc; "d0.log.{round}")?;
-    script.push(Event::World(WorldStep::Rename {
-        file: FileName(files.named[0]),
-        path: Text::new(path)?,
-    }))?;
+    let step = rename(alloc, files.named[0], &path)?;
+    put(script, Event::World(step))?;
     files.named[0] = 0;
     Ok(files)
+}
+
+// A poll that is stopped, and the opening behind it.
+fn stop(script: &mut Vec<Event>, round: u32) -> Result<(), Fail> {
+    put(
+        script,
+        Event::Stop {
+            calls: round % 13,
+            outcome: round % 5,
+        },
+    )?;
+    put(script, Event::Poll)?;
+    put(script, Event::Reopen)
 }
 
 fn rounds(alloc: Global, count: u32) -> Result<Vec<Event>, Fail> {
@@ -63,21 +77,16 @@ fn rounds(alloc: Global, count: u32) -> Result<Vec<Event>, Fail> {
         named: [0; 3],
         next: 1,
     };
-    script.push(Event::Reopen)?;
+    put(&mut script, Event::Reopen)?;
     for round in 1..count.saturating_add(1) {
         files = add_line(alloc, &mut script, files, round)?;
         if round % 10 == 0 {
             files = rotate(alloc, &mut script, files, round)?;
         }
         if round % 7 == 0 {
-            script.push(Event::Stop {
-                calls: round % 13,
-                outcome: round % 5,
-            })?;
-            script.push(Event::Poll)?;
-            script.push(Event::Reopen)?;
+            stop(&mut script, round)?;
         }
-        script.push(Event::Poll)?;
+        put(&mut script, Event::Poll)?;
     }
     Ok(script)
 }
@@ -85,17 +94,14 @@ fn rounds(alloc: Global, count: u32) -> Result<Vec<Event>, Fail> {
 #[test]
 fn ten_rounds_keep_ten_lines(rt: HostRuntime) -> Result<(), Fail> {
     let alloc = rt.alloc();
-    let script = rounds(alloc, 10)?;
-    let mut ending = run_script(alloc, ROUNDS, &script)?;
-    assert_eq!(rt; (ending.polls, ending.stops), (11, 1));
-    assert_eq!(rt; kept(alloc, &mut ending.disk)?, Some(3251));
-    let (_, checkpoint) = peek(alloc, &mut ending.disk)?.ok_or("no slot is open")?;
-    assert_eq!(rt; checkpoint.rows.as_slice().len(), 3);
+    let left = left_behind(alloc, ROUNDS, &rounds(alloc, 10)?)?;
+    assert_eq!(rt; (left.polls, left.stops), (11, 1));
+    assert_eq!(rt; left.kept, Some(3251));
+    assert_eq!(rt; left.output.len(), 3251);
     let mut lines = 0u64;
-    for row in checkpoint.rows.as_slice() {
-        lines = lines.saturating_add(row.lines);
+    for (_, _, count) in &left.files {
+        lines = lines.saturating_add(*count);
     }
-    assert_eq!(rt; lines, 10);
-    assert_eq!(rt; ending.disk.bytes(DiskFile::Output).len(), 3251);
+    assert_eq!(rt; (left.files.len(), lines), (3, 10));
     Ok(())
 }

@@ -1,10 +1,8 @@
-// How scripts are written down, and what they leave.
-use checkpoint_journal::peek;
+// How scripts are written down.
 use entry_model::Text;
-use lifetimes::{Ending, Event, ScriptFault, run_script};
-use mem_world::{FileName, MemDisk, WorldStep};
-use outside::DiskFile;
-use std::alloc::Global;
+use lifetimes::Event;
+use mem_world::{FileName, WorldStep};
+use std::alloc::{AllocError, Global};
 use std::test::Fail;
 
 pub(crate) const APP: &[u8] = b"{\"include\":[\"app.log\"],\"start_at\":\"beginning\"}";
@@ -20,138 +18,93 @@ pub(crate) enum Do {
     Add(u32, &'static str),
     Name(u32, &'static str),
     Remove(u32),
+    /// This step, within the next poll behind so many calls on the tree.
     Within(u32, &'static Do),
     Poll,
+    /// The number of calls on the disk that pass, and the outcome of the crash.
     Stop(u32, u32),
+    /// The stop that is tried in this script.
+    Tried,
     Open,
 }
 
+/// The calls that pass and the outcome of a stop.
+pub(crate) type Stopped = (u32, u32);
+
+/// For scripts that try no stop.
+pub(crate) const AT_ONCE: Stopped = (0, 0);
+
+pub(crate) fn create(alloc: Global, file: u32, path: &str) -> Result<WorldStep, AllocError> {
+    let path = Text::from_str(alloc, path)?;
+    Ok(WorldStep::Create {
+        file: FileName(file),
+        path,
+    })
+}
+
+pub(crate) fn append(alloc: Global, file: u32, bytes: &[u8]) -> Result<WorldStep, AllocError> {
+    let bytes = Vec::from_slice(alloc, bytes)?;
+    Ok(WorldStep::Append {
+        file: FileName(file),
+        bytes,
+    })
+}
+
+pub(crate) fn rename(alloc: Global, file: u32, path: &str) -> Result<WorldStep, AllocError> {
+    let path = Text::from_str(alloc, path)?;
+    Ok(WorldStep::Rename {
+        file: FileName(file),
+        path,
+    })
+}
+
+fn remove(file: u32) -> WorldStep {
+    WorldStep::Remove {
+        file: FileName(file),
+    }
+}
+
 impl Do {
+    // Of another process.
     fn step(self, alloc: Global) -> Result<WorldStep, Fail> {
-        match self {
-            Do::Make(file, path) => Ok(WorldStep::Create {
-                file: FileName(file),
-                path: Text::from_str(alloc, path)?,
-            }),
-            Do::Add(file, bytes) => Ok(WorldStep::Append {
-                file: FileName(file),
-                bytes: Vec::from_slice(alloc, bytes.as_bytes())?,
-            }),
-            Do::Name(file, path) => Ok(WorldStep::Rename {
-                file: FileName(file),
-                path: Text::from_str(alloc, path)?,
-            }),
-            Do::Remove(file) => Ok(WorldStep::Remove {
-                file: FileName(file),
-            }),
-            _ => Err(Fail::from("no step of the world")),
-        }
+        let step = match self {
+            Do::Make(file, path) => create(alloc, file, path),
+            Do::Add(file, bytes) => append(alloc, file, bytes.as_bytes()),
+            Do::Name(file, path) => rename(alloc, file, path),
+            Do::Remove(file) => Ok(remove(file)),
+            _ => return Err(Fail::from("no step of another process")),
+        };
+        Ok(step?)
     }
 
-    fn event(self, alloc: Global) -> Result<Event, Fail> {
+    pub(crate) fn event(self, alloc: Global, tried: Stopped) -> Result<Event, Fail> {
         match self {
-            Do::Within(calls, step) => Ok(Event::During {
-                calls,
-                step: step.step(alloc)?,
-            }),
+            Do::Within(calls, step) => {
+                let step = step.step(alloc)?;
+                Ok(Event::During { calls, step })
+            }
             Do::Poll => Ok(Event::Poll),
             Do::Stop(calls, outcome) => Ok(Event::Stop { calls, outcome }),
+            Do::Tried => Ok(Event::Stop {
+                calls: tried.0,
+                outcome: tried.1,
+            }),
             Do::Open => Ok(Event::Reopen),
             step => Ok(Event::World(step.step(alloc)?)),
         }
     }
 }
 
-/// These events, and those behind them.
-pub(crate) fn add(alloc: Global, script: &mut Vec<Event>, events: &[Do]) -> Result<(), Fail> {
-    for event in events {
-        script.push(event.event(alloc)?)?;
-    }
+pub(crate) fn put(script: &mut Vec<Event>, event: Event) -> Result<(), Fail> {
+    script.push(event)?;
     Ok(())
 }
 
-pub(crate) fn play(
-    alloc: Global,
-    settings: &[u8],
-    events: &[Do],
-) -> Result<Result<Ending, ScriptFault>, Fail> {
+/// The script of these events, in which this stop is tried.
+pub(crate) fn script_of(alloc: Global, events: &[Do], tried: Stopped) -> Result<Vec<Event>, Fail> {
     let mut script = Vec::new(alloc);
-    add(alloc, &mut script, events)?;
-    Ok(run_script(alloc, settings, &script))
-}
-
-/// How much of the output the disk's checkpoint keeps, or none where no slot is open.
-pub(crate) fn kept(alloc: Global, disk: &mut MemDisk) -> Result<Option<u64>, Fail> {
-    match peek(alloc, disk)? {
-        Some((_, checkpoint)) => Ok(Some(checkpoint.output_length)),
-        None => Ok(None),
+    for event in events {
+        put(&mut script, event.event(alloc, tried)?)?;
     }
-}
-
-/// A line of the output: the id of its file, its number, the last component of the path, and the body.
-pub(crate) type Line = (u32, u32, &'static str, &'static str);
-
-fn put_line(alloc: Global, out: &mut Vec<u8>, line: &Line) -> Result<(), Fail> {
-    let (id, number, name, body) = line;
-    let text = format!(in alloc;
-        "{{\"resourceLogs\":[{{\"resource\":{{\"attributes\":[]}},\"scopeLogs\":[{{\"logRecords\":[{{\"attributes\":[{{\"key\":\"log.file.name\",\"value\":{{\"stringValue\":\"{name}\"}}}}],\"body\":{{\"stringValue\":\"{body}\"}}}}],\"scope\":{{\"attributes\":[{{\"key\":\"agent.file\",\"value\":{{\"intValue\":\"{id}\"}}}},{{\"key\":\"agent.line\",\"value\":{{\"intValue\":\"{number}\"}}}}],\"name\":\"stanza_agent\"}}}}]}}]}}\n"
-    )?;
-    out.extend_from_slice(text.as_bytes())?;
-    Ok(())
-}
-
-/// What is kept of the output is these lines, or, where there are none, nothing at all may have been kept.
-pub(crate) fn keeps(alloc: Global, disk: &mut MemDisk, lines: &[Line]) -> Result<bool, Fail> {
-    let mut text = Vec::new(alloc);
-    for line in lines {
-        put_line(alloc, &mut text, line)?;
-    }
-    let size = kept(alloc, disk)?.unwrap_or(0);
-    let output = disk.bytes(DiskFile::Output);
-    if size != text.len() as u64 || output.len() < text.len() {
-        return Ok(false);
-    }
-    match output.get(..text.len()) {
-        Some(front) => Ok(front == text.as_slice()),
-        None => Ok(false),
-    }
-}
-
-/// A script, and what it leaves: how many polls and stops there were, the marks, and the lines that are kept.
-#[derive(Clone, Copy)]
-pub(crate) struct Case {
-    pub(crate) name: &'static str,
-    pub(crate) settings: &'static [u8],
-    pub(crate) events: &'static [Do],
-    pub(crate) polls: u64,
-    pub(crate) stops: u64,
-    pub(crate) marks: &'static [u64],
-    pub(crate) lines: &'static [Line],
-}
-
-/// What of the case isn't as it is to be, or nothing.
-pub(crate) fn differs(alloc: Global, case: &Case) -> Result<&'static str, Fail> {
-    let Ending {
-        tree,
-        mut disk,
-        polls,
-        stops,
-        marks,
-    } = play(alloc, case.settings, case.events)??;
-    if polls != case.polls {
-        return Ok("polls");
-    }
-    if stops != case.stops {
-        return Ok("stops");
-    }
-    if marks.as_slice() != case.marks {
-        return Ok("marks");
-    }
-    if tree.events() != marks.last().copied().unwrap_or(0) {
-        return Ok("the last mark");
-    }
-    if !keeps(alloc, &mut disk, case.lines)? {
-        return Ok("lines");
-    }
-    Ok("")
+    Ok(script)
 }
