@@ -2,6 +2,10 @@
 #![tactic(auto)]
 
 #[cfg(test)]
+mod folders;
+#[cfg(test)]
 mod opening;
 #[cfg(test)]
 mod polling;
+#[cfg(test)]
+mod stopping;

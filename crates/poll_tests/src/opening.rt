@@ -154,23 +154,37 @@ const TABLE: &[(Kept, usize, &[u8], Answer)] = &[
     (Damaged, 4, NO_GLOB, Answer::Build),
 ];
 
+// What opening answers, and how long the output and the first slot are then.
+fn opened(
+    alloc: Global,
+    kept: Kept,
+    output: usize,
+    settings: &[u8],
+) -> Result<(Answer, usize, usize), Fail> {
+    let mut disk = kept.disk(alloc, output)?;
+    let answer = open(alloc, &mut disk, settings);
+    if disk.bytes(DiskFile::Settings) != ASKED {
+        return Err(Fail::from("the settings changed"));
+    }
+    Ok((
+        answer,
+        disk.bytes(DiskFile::Output).len(),
+        disk.bytes(DiskFile::SlotA).len(),
+    ))
+}
+
 #[test]
 fn a_session_is_opened_or_refused_for_one_reason(rt: HostRuntime) -> Result<(), Fail> {
     let alloc = rt.alloc();
-    for (kept, output, settings, answer) in TABLE {
-        let mut disk = kept.disk(alloc, *output)?;
-        assert_eq!(rt; open(alloc, &mut disk, settings), *answer);
+    for (row, (kept, output, settings, answer)) in TABLE.iter().enumerate() {
         // Only a session cuts what stands behind.
         let (size, behind) = match answer {
             Opens(size) => (*size as usize, 0),
             _ => (*output, kept.behind()),
         };
-        assert_eq!(rt; disk.bytes(DiskFile::Output).len(), size);
-        assert_eq!(rt;
-            disk.bytes(DiskFile::SlotA).len(),
-            kept.bytes(alloc)?.len().saturating_add(behind)
-        );
-        assert_eq!(rt; disk.bytes(DiskFile::Settings), ASKED);
+        let slot = kept.bytes(alloc)?.len().saturating_add(behind);
+        let given = opened(alloc, *kept, *output, settings)?;
+        assert_eq!(rt; given, (*answer, size, slot), "row {row}");
     }
     Ok(())
 }
@@ -198,23 +212,48 @@ fn reopened(alloc: Global, calls: Option<u32>, failing: u32, outcome: u32) -> Re
     Ok(first)
 }
 
+// A stop before this call answers what a failure of it does: nothing, or a session.
+fn is_settled(alloc: Global, call: u32, outcome: u32) -> Result<bool, Fail> {
+    let stopped = reopened(alloc, Some(call), 0, outcome)?;
+    let failed = reopened(alloc, None, call.saturating_add(1), outcome)?;
+    Ok(failed == stopped && (stopped == Opens(4) || stopped == Answer::Fails))
+}
+
 #[test]
 fn a_stop_or_a_failure_within_opening_loses_nothing(rt: HostRuntime) -> Result<(), Fail> {
-    let alloc = rt.alloc();
     for call in 0..40u32 {
         for outcome in 0..5u32 {
-            let stopped = reopened(alloc, Some(call), 0, outcome)?;
-            let failed = reopened(alloc, None, call + 1, outcome)?;
-            assert_eq!(rt; failed, stopped, "call {call}");
-            assert!(rt;
-                stopped == Opens(4) || stopped == Answer::Fails,
-                "call {call}"
-            );
+            let settled = is_settled(rt.alloc(), call, outcome)?;
+            assert!(rt; settled, "call {call}, outcome {outcome}");
         }
     }
-    assert_eq!(rt; reopened(alloc, Some(2), 0, 0)?, Answer::Fails);
-    assert_eq!(rt; reopened(alloc, Some(40), 0, 0)?, Opens(4));
     Ok(())
+}
+
+#[test]
+fn a_stop_within_opening_fails_and_a_late_one_does_not(rt: HostRuntime) -> Result<(), Fail> {
+    assert_eq!(rt; reopened(rt.alloc(), Some(2), 0, 0)?, Answer::Fails);
+    assert_eq!(rt; reopened(rt.alloc(), Some(40), 0, 0)?, Opens(4));
+    Ok(())
+}
+
+// A disk whose newer slot and the output with it weren't synced is opened, and crashes: the output then, and the sequence number.
+fn crashed(alloc: Global, newer: &[u8], outcome: u32) -> Result<(Vec<u8>, u64), Fail> {
+    let mut disk = Rows(1, &[b""], 0).disk(alloc, 1)?;
+    if disk.bytes(DiskFile::Output).is_empty() {
+        return Err(Fail::from("no output"));
+    }
+    disk.write_at(alloc, DiskFile::Output, 1, b"yz")?;
+    disk.write_at(alloc, DiskFile::SlotB, 0, newer)?;
+    if open(alloc, &mut disk, ASKED) != Opens(2) {
+        return Err(Fail::from("the newer slot isn't chosen"));
+    }
+    let mut disk = disk.crash(alloc, outcome)?;
+    let output = Vec::from_slice(alloc, disk.bytes(DiskFile::Output))?;
+    match peek(alloc, &mut disk)? {
+        Some((journal, _)) => Ok((output, journal.sequence)),
+        None => Err(Fail::from("no journal")),
+    }
 }
 
 // A newer slot that was not synced is settled before it is chosen.
@@ -223,17 +262,9 @@ fn what_was_not_synced_is_settled_first(rt: HostRuntime) -> Result<(), Fail> {
     let alloc = rt.alloc();
     let newer = slot(alloc, 2, &checkpoint(alloc, 2, &[b""])?)?;
     for outcome in 0..5u32 {
-        let mut disk = Rows(1, &[b""], 0).disk(alloc, 1)?;
-        if disk.bytes(DiskFile::Output).is_empty() {
-            return Err(Fail::from("no output"));
-        }
-        disk.write_at(alloc, DiskFile::Output, 1, b"yz")?;
-        disk.write_at(alloc, DiskFile::SlotB, 0, &newer)?;
-        assert_eq!(rt; open(alloc, &mut disk, ASKED), Opens(2));
-        let mut disk = disk.crash(alloc, outcome)?;
-        assert_eq!(rt; disk.bytes(DiskFile::Output), b"xy".as_slice());
-        let (journal, _) = peek(alloc, &mut disk)?.ok_or("no journal")?;
-        assert_eq!(rt; journal.sequence, 2);
+        let (output, sequence) = crashed(alloc, &newer, outcome)?;
+        assert_eq!(rt; output.as_slice(), b"xy".as_slice(), "outcome {outcome}");
+        assert_eq!(rt; sequence, 2, "outcome {outcome}");
     }
     Ok(())
 }

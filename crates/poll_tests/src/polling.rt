@@ -1,8 +1,10 @@
+// What polls answer.
+use crate::folders::Do::{Add, AddLong, Fail as Failing, Make, Name, Poll, Remove};
+use crate::folders::{Do, Folder, LIMIT, Polled};
 use checkpoint_journal::peek;
-use entry_model::Text;
-use mem_world::{FileName, MemDisk, MemTree, WorldStep};
+use mem_world::MemDisk;
 use outside::DiskFile;
-use poll_core::{OpenFault, PollFault, Session, Summary};
+use poll_core::{PollFault, Summary};
 use std::alloc::Global;
 use std::test::Fail;
 
@@ -19,7 +21,7 @@ const END: &[u8] = b"{\"include\":[\"app.log\"],\"start_at\":\"end\"}";
 const WIDE: &[u8] =
     b"{\"include\":[\"app.log\"],\"start_at\":\"beginning\",\"max_log_size\":4194304}";
 
-const LIMIT: u64 = 1_099_511_627_776;
+const DEEP: &str = "a/a/a/a/a/a/a/a/a/a/a/a/a/a/a/a/a/a/a/a/a/a/a/a/a/a/a/a/a/a/a/a/a/x.log";
 
 const NOTHING: Summary = Summary {
     files: 0,
@@ -34,342 +36,306 @@ const NOTHING: Summary = Summary {
     output: 0,
 };
 
-fn create(alloc: Global, tree: &mut MemTree, file: u32, path: &str) -> Result<(), Fail> {
-    tree.play(
-        alloc,
-        WorldStep::Create {
-            file: FileName(file),
-            path: Text::from_str(alloc, path)?,
-        },
-    )?;
-    Ok(())
-}
-
-fn append(alloc: Global, tree: &mut MemTree, file: u32, bytes: &[u8]) -> Result<(), Fail> {
-    tree.play(
-        alloc,
-        WorldStep::Append {
-            file: FileName(file),
-            bytes: Vec::from_slice(alloc, bytes)?,
-        },
-    )?;
-    Ok(())
-}
-
-// One poll of a session that is opened for it.
-fn poll(
-    alloc: Global,
-    settings: &[u8],
+// Events, and what their polls answer.
+#[derive(Clone, Copy)]
+struct Case {
+    name: &'static str,
+    settings: &'static [u8],
     limit: u64,
-    tree: &mut MemTree,
-    disk: &mut MemDisk,
-) -> Result<Result<Summary, PollFault>, Fail> {
-    if limit > LIMIT {
-        return Err(Fail::from("no such limit"));
-    }
-    let session = Session::open(alloc, disk, settings, limit)?;
-    match session.poll(alloc, tree, disk) {
-        Ok((_, summary)) => Ok(Ok(summary)),
-        Err(fault) => Ok(Err(fault)),
-    }
+    events: &'static [Do],
+    answers: &'static [Polled],
 }
 
-// The settings, the files with what they hold, the number of the tree's call that fails or 0, the limit, and the answer of a
-// first poll.
-type First = (
-    &'static [u8],
-    &'static [(&'static str, &'static [u8])],
-    u32,
-    u64,
-    Result<Summary, PollFault>,
-);
+// The first case whose polls answer something else.
+fn failing(alloc: Global, cases: &[Case]) -> Result<Option<&'static str>, Fail> {
+    for case in cases {
+        let mut folder = Folder::new(alloc)?;
+        let answers = folder.answers(alloc, case.settings, case.limit, case.events)?;
+        if answers.as_slice() != case.answers {
+            return Ok(Some(case.name));
+        }
+    }
+    Ok(None)
+}
 
-const DEEP: &str = "a/a/a/a/a/a/a/a/a/a/a/a/a/a/a/a/a/a/a/a/a/a/a/a/a/a/a/a/a/a/a/a/a/x.log";
-
-const FIRST: [First; 10] = [
-    (APP, &[], 0, LIMIT, Ok(NOTHING)),
-    (APP, &[("app.log", b"")], 0, LIMIT, Ok(NOTHING)),
-    (
-        APP,
-        &[("app.log", b"a1\n")],
-        0,
-        LIMIT,
-        Ok(Summary {
+const FIRST: [Case; 6] = [
+    Case {
+        name: "no file",
+        settings: APP,
+        limit: LIMIT,
+        events: &[Poll],
+        answers: &[Ok(NOTHING)],
+    },
+    Case {
+        name: "an empty file",
+        settings: APP,
+        limit: LIMIT,
+        events: &[Make(1, "app.log"), Poll],
+        answers: &[Ok(NOTHING)],
+    },
+    Case {
+        name: "one line",
+        settings: APP,
+        limit: LIMIT,
+        events: &[Make(1, "app.log"), Add(1, b"a1\n"), Poll],
+        answers: &[Ok(Summary {
             files: 1,
             lines: 1,
             output: 323,
             ..NOTHING
-        }),
-    ),
-    // No token of it has its end yet.
-    (
-        APP,
-        &[("app.log", b"a1")],
-        0,
-        LIMIT,
-        Ok(Summary {
+        })],
+    },
+    Case {
+        name: "no token has its end yet",
+        settings: APP,
+        limit: LIMIT,
+        events: &[Make(1, "app.log"), Add(1, b"a1"), Poll],
+        answers: &[Ok(Summary {
             files: 1,
             ..NOTHING
-        }),
-    ),
-    (
-        END,
-        &[("app.log", b"a1\n")],
-        0,
-        LIMIT,
-        Ok(Summary {
+        })],
+    },
+    Case {
+        name: "from the end",
+        settings: END,
+        limit: LIMIT,
+        events: &[Make(1, "app.log"), Add(1, b"a1\n"), Poll],
+        answers: &[Ok(Summary {
             files: 1,
             ..NOTHING
-        }),
-    ),
-    // The fronts don't tell the two apart.
-    (
-        LOGS,
-        &[("a.log", b"same\n"), ("b.log", b"same\n")],
-        0,
-        LIMIT,
-        Ok(Summary {
+        })],
+    },
+    Case {
+        name: "the fronts don't tell two files apart",
+        settings: LOGS,
+        limit: LIMIT,
+        events: &[
+            Make(1, "a.log"),
+            Add(1, b"same\n"),
+            Make(2, "b.log"),
+            Add(2, b"same\n"),
+            Poll,
+        ],
+        answers: &[Ok(Summary {
             files: 2,
             lines: 1,
             output: 323,
             ..NOTHING
-        }),
-    ),
-    (
-        LOGS,
-        &[("a.log", &[0x1f, 0x8b, 8, 0])],
-        0,
-        LIMIT,
-        Ok(Summary {
-            files: 1,
+        })],
+    },
+];
+
+const PASSED_OVER: [Case; 4] = [
+    Case {
+        name: "a compressed file",
+        settings: LOGS,
+        limit: LIMIT,
+        events: &[Make(1, "a.log"), Add(1, &[0x1f, 0x8b, 8, 0]), Poll],
+        answers: &[Ok(Summary {
             compressed: 1,
+            files: 1,
             ..NOTHING
-        }),
-    ),
-    (
-        ALL,
-        &[(DEEP, b"x\n")],
-        0,
-        LIMIT,
-        Ok(Summary { deep: 1, ..NOTHING }),
-    ),
-    (
-        ALL,
-        &[("x.log", b"x\n")],
-        1,
-        LIMIT,
-        Ok(Summary {
+        })],
+    },
+    Case {
+        name: "a folder of more than 32 components",
+        settings: ALL,
+        limit: LIMIT,
+        events: &[Make(1, DEEP), Add(1, b"x\n"), Poll],
+        answers: &[Ok(Summary { deep: 1, ..NOTHING })],
+    },
+    Case {
+        name: "a folder that can't be listed",
+        settings: ALL,
+        limit: LIMIT,
+        events: &[Make(1, "x.log"), Add(1, b"x\n"), Failing(1), Poll],
+        answers: &[Ok(Summary {
             failed: 1,
             ..NOTHING
-        }),
-    ),
-    (
-        APP,
-        &[("app.log", b"hello\nworld\n")],
-        0,
-        400,
-        Err(PollFault::OutputFull { length: 652 }),
-    ),
+        })],
+    },
+    Case {
+        name: "a full output",
+        settings: APP,
+        limit: 400,
+        events: &[Make(1, "app.log"), Add(1, b"hello\nworld\n"), Poll],
+        answers: &[Err(PollFault::OutputFull { length: 652 })],
+    },
+];
+
+const FOLLOWED: [Case; 3] = [
+    Case {
+        name: "a renamed file is read on, and a removed one is no failure",
+        settings: APPS,
+        limit: LIMIT,
+        events: &[
+            Make(1, "app.log"),
+            Add(1, b"a1\n"),
+            Poll,
+            Name(1, "app.log.1"),
+            Make(2, "app.log"),
+            Add(2, b"b1\n"),
+            Poll,
+            Add(1, b"a2\n"),
+            Poll,
+            Remove(1),
+            Poll,
+        ],
+        answers: &[
+            Ok(Summary {
+                files: 1,
+                lines: 1,
+                output: 323,
+                ..NOTHING
+            }),
+            Ok(Summary {
+                files: 2,
+                lines: 1,
+                output: 646,
+                ..NOTHING
+            }),
+            Ok(Summary {
+                files: 2,
+                lines: 1,
+                output: 969,
+                ..NOTHING
+            }),
+            Ok(Summary {
+                files: 1,
+                output: 969,
+                ..NOTHING
+            }),
+        ],
+    },
+    Case {
+        name: "a line in two parts, and a quiet poll",
+        settings: APPS,
+        limit: LIMIT,
+        events: &[
+            Make(1, "app.log"),
+            Add(1, b"hello\nwor"),
+            Poll,
+            Add(1, b"ld\n"),
+            Poll,
+            Poll,
+        ],
+        answers: &[
+            Ok(Summary {
+                files: 1,
+                lines: 1,
+                output: 326,
+                ..NOTHING
+            }),
+            Ok(Summary {
+                files: 1,
+                lines: 1,
+                output: 652,
+                ..NOTHING
+            }),
+            Ok(Summary {
+                files: 1,
+                output: 652,
+                ..NOTHING
+            }),
+        ],
+    },
+    // 16 MiB, and two bytes.
+    Case {
+        name: "a long file is taken in parts",
+        settings: WIDE,
+        limit: LIMIT,
+        events: &[
+            Make(1, "app.log"),
+            AddLong(1),
+            AddLong(1),
+            AddLong(1),
+            AddLong(1),
+            Add(1, b"z\n"),
+            Poll,
+            Poll,
+        ],
+        answers: &[
+            Ok(Summary {
+                left: 1,
+                files: 1,
+                lines: 4,
+                output: 16_778_496,
+                ..NOTHING
+            }),
+            Ok(Summary {
+                files: 1,
+                lines: 1,
+                output: 16_778_818,
+                ..NOTHING
+            }),
+        ],
+    },
 ];
 
 #[test]
 fn a_first_poll_takes_what_is_there(rt: HostRuntime) -> Result<(), Fail> {
-    let alloc = rt.alloc();
-    for (settings, files, failing, limit, answer) in &FIRST {
-        let mut tree = MemTree::new(alloc)?;
-        let mut disk = MemDisk::new(alloc)?;
-        let mut number = 0;
-        for (path, bytes) in *files {
-            create(alloc, &mut tree, number, path)?;
-            append(alloc, &mut tree, number, bytes)?;
-            number = number.saturating_add(1);
-        }
-        if *failing > 0 {
-            tree.fail(alloc, *failing)?;
-        }
-        let given = poll(alloc, settings, *limit, &mut tree, &mut disk)?;
-        assert_eq!(rt; given, *answer);
-    }
+    assert_eq!(rt; failing(rt.alloc(), &FIRST)?, None);
     Ok(())
-}
-
-// One poll that comes to its end, over the files of APPS.
-fn polled(alloc: Global, tree: &mut MemTree, disk: &mut MemDisk) -> Result<Summary, Fail> {
-    Ok(poll(alloc, APPS, LIMIT, tree, disk)??)
-}
-
-fn one_line(output: u64) -> Summary {
-    Summary {
-        files: 2,
-        lines: 1,
-        output,
-        ..NOTHING
-    }
 }
 
 #[test]
-fn a_renamed_file_is_read_on(rt: HostRuntime) -> Result<(), Fail> {
-    let alloc = rt.alloc();
-    let mut tree = MemTree::new(alloc)?;
-    let mut disk = MemDisk::new(alloc)?;
-    create(alloc, &mut tree, 1, "app.log")?;
-    append(alloc, &mut tree, 1, b"a1\n")?;
-    assert_eq!(rt; polled(alloc, &mut tree, &mut disk)?.output, 323);
-    tree.play(
-        alloc,
-        WorldStep::Rename {
-            file: FileName(1),
-            path: Text::from_str(alloc, "app.log.1")?,
-        },
-    )?;
-    create(alloc, &mut tree, 2, "app.log")?;
-    append(alloc, &mut tree, 2, b"b1\n")?;
-    assert_eq!(rt; polled(alloc, &mut tree, &mut disk)?, one_line(646));
-    append(alloc, &mut tree, 1, b"a2\n")?;
-    assert_eq!(rt; polled(alloc, &mut tree, &mut disk)?, one_line(969));
-    assert_eq!(rt; disk.bytes(DiskFile::Output).len(), 969);
-    // A removed file is no failure.
-    tree.play(alloc, WorldStep::Remove { file: FileName(1) })?;
-    assert_eq!(rt;
-        polled(alloc, &mut tree, &mut disk)?,
-        Summary {
-            files: 1,
-            output: 969,
-            ..NOTHING
-        }
-    );
+fn what_is_passed_over_is_told(rt: HostRuntime) -> Result<(), Fail> {
+    assert_eq!(rt; failing(rt.alloc(), &PASSED_OVER)?, None);
     Ok(())
 }
+
+#[test]
+fn files_are_read_on(rt: HostRuntime) -> Result<(), Fail> {
+    assert_eq!(rt; failing(rt.alloc(), &FOLLOWED)?, None);
+    Ok(())
+}
+
+// How long the two slots are behind these events, and the checkpoint's sequence number.
+fn slots(alloc: Global, events: &[Do]) -> Result<(usize, usize, u64), Fail> {
+    let mut folder = Folder::new(alloc)?;
+    let _answers = folder.answers(alloc, APPS, LIMIT, events)?;
+    let sizes = (
+        folder.length(DiskFile::SlotA),
+        folder.length(DiskFile::SlotB),
+    );
+    let Some((journal, _)) = peek(alloc, &mut folder.disk)? else {
+        return Err(Fail::from("no journal"));
+    };
+    Ok((sizes.0, sizes.1, journal.sequence))
+}
+
+const ONE: &[Do] = &[Make(1, "app.log"), Add(1, b"hello\nwor"), Poll];
+
+const CHANGED: &[Do] = &[
+    Make(1, "app.log"),
+    Add(1, b"hello\nwor"),
+    Poll,
+    Add(1, b"ld\n"),
+    Poll,
+];
+
+const QUIET: &[Do] = &[
+    Make(1, "app.log"),
+    Add(1, b"hello\nwor"),
+    Poll,
+    Add(1, b"ld\n"),
+    Poll,
+    Poll,
+];
 
 #[test]
 fn what_changed_alone_is_written(rt: HostRuntime) -> Result<(), Fail> {
     let alloc = rt.alloc();
-    let mut tree = MemTree::new(alloc)?;
-    let mut disk = MemDisk::new(alloc)?;
-    create(alloc, &mut tree, 1, "app.log")?;
-    append(alloc, &mut tree, 1, b"hello\nwor")?;
-    assert_eq!(rt; polled(alloc, &mut tree, &mut disk)?.output, 326);
-    let base = disk.bytes(DiskFile::SlotA).len();
-    append(alloc, &mut tree, 1, b"ld\n")?;
-    assert_eq!(rt; polled(alloc, &mut tree, &mut disk)?.output, 652);
-    assert_eq!(rt; disk.bytes(DiskFile::SlotA).len(), base.saturating_add(100));
-    assert!(rt; disk.bytes(DiskFile::SlotB).is_empty());
+    let (base, _, _) = slots(alloc, ONE)?;
+    let changed = base.saturating_add(100);
+    assert_eq!(rt; slots(alloc, CHANGED)?, (changed, 0, 2));
     // Where nothing changed, no checkpoint is written.
-    let quiet = polled(alloc, &mut tree, &mut disk)?;
-    assert_eq!(rt; (quiet.lines, quiet.output), (0, 652));
-    assert_eq!(rt; disk.bytes(DiskFile::SlotA).len(), base.saturating_add(100));
-    let (journal, _) = peek(alloc, &mut disk)?.ok_or("no journal")?;
-    assert_eq!(rt; journal.sequence, 2);
-    Ok(())
-}
-
-// A file of which so many lines were polled and one more is there, and how long the output is.
-fn begun(alloc: Global, earlier: u32) -> Result<(MemTree, MemDisk, u64), Fail> {
-    let mut tree = MemTree::new(alloc)?;
-    let mut disk = MemDisk::new(alloc)?;
-    create(alloc, &mut tree, 1, "app.log")?;
-    let mut output = 0;
-    for _ in 0..earlier {
-        append(alloc, &mut tree, 1, b"old\n")?;
-        output = polled(alloc, &mut tree, &mut disk)?.output;
-    }
-    append(alloc, &mut tree, 1, b"one\n")?;
-    Ok((tree, disk, output))
-}
-
-// Makes a poll, whose disk may fail.
-fn try_poll(alloc: Global, tree: &mut MemTree, disk: &mut MemDisk) -> Result<(), Fail> {
-    let session = match Session::open(alloc, disk, APPS, LIMIT) {
-        Ok(session) => session,
-        Err(OpenFault::Disk) => return Ok(()),
-        Err(other) => return Err(Fail::from(other)),
-    };
-    match session.poll(alloc, tree, disk) {
-        Ok(_done) => Ok(()),
-        Err(PollFault::Disk) => Ok(()),
-        Err(other) => Err(Fail::from(other)),
-    }
-}
-
-// A poll, which may be stopped or fail, a crash, a line more, and a poll of the next run: how long the output is then.
-fn polled_again(
-    alloc: Global,
-    mut tree: MemTree,
-    mut disk: MemDisk,
-    outcome: u32,
-) -> Result<u64, Fail> {
-    try_poll(alloc, &mut tree, &mut disk)?;
-    let mut disk = disk.crash(alloc, outcome)?;
-    tree.clear_plans();
-    append(alloc, &mut tree, 1, b"two\n")?;
-    let output = polled(alloc, &mut tree, &mut disk)?.output;
-    if disk.bytes(DiskFile::Output).len() as u64 != output {
-        return Err(Fail::from("something stands behind what is kept"));
-    }
-    Ok(output)
-}
-
-#[test]
-fn a_stop_anywhere_loses_no_line_and_repeats_none(rt: HostRuntime) -> Result<(), Fail> {
-    let alloc = rt.alloc();
-    for earlier in [0u32, 2] {
-        for call in 0..41u32 {
-            for outcome in 0..5u32 {
-                let (tree, mut disk, output) = begun(alloc, earlier)?;
-                disk.fuse(call);
-                let left = polled_again(alloc, tree, disk, outcome)?;
-                assert_eq!(rt; left, output.saturating_add(648), "call {call}");
-            }
-        }
-    }
-    Ok(())
-}
-
-#[test]
-fn a_call_that_fails_loses_no_line_and_repeats_none(rt: HostRuntime) -> Result<(), Fail> {
-    let alloc = rt.alloc();
-    for call in 1..41u32 {
-        let (tree, mut disk, _) = begun(alloc, 0)?;
-        disk.fail(alloc, call)?;
-        assert_eq!(rt;
-            polled_again(alloc, tree, disk, 0)?,
-            648,
-            "disk, call {call}"
-        );
-        let (mut tree, disk, _) = begun(alloc, 0)?;
-        tree.fail(alloc, call)?;
-        assert_eq!(rt;
-            polled_again(alloc, tree, disk, 0)?,
-            648,
-            "tree, call {call}"
-        );
-    }
-    Ok(())
-}
-
-#[test]
-fn a_long_file_is_taken_in_parts(rt: HostRuntime) -> Result<(), Fail> {
-    let alloc = rt.alloc();
-    let mut tree = MemTree::new(alloc)?;
-    let mut disk = MemDisk::new(alloc)?;
-    let mut line = vec![in alloc; b'x'; 4_194_303]?;
-    line.push(b'\n')?;
-    create(alloc, &mut tree, 1, "app.log")?;
-    // 16 MiB, and two bytes.
-    for _ in 0..4 {
-        append(alloc, &mut tree, 1, &line)?;
-    }
-    append(alloc, &mut tree, 1, b"z\n")?;
-    let first = poll(alloc, WIDE, LIMIT, &mut tree, &mut disk)??;
-    assert_eq!(rt; (first.lines, first.left), (4, 1));
-    let second = poll(alloc, WIDE, LIMIT, &mut tree, &mut disk)??;
-    assert_eq!(rt; (second.lines, second.left), (1, 0));
-    assert_eq!(rt; second.output, first.output.saturating_add(322));
+    assert_eq!(rt; slots(alloc, QUIET)?, (changed, 0, 2));
     Ok(())
 }
 
 // A slot with the last sequence number, and a checkpoint of APP without files.
-fn worn_disk(alloc: Global) -> Result<MemDisk, Fail> {
+fn worn_slot(alloc: Global) -> Result<Vec<u8>, Fail> {
     let mut payload = Vec::new(alloc);
     payload.push(1)?;
     payload.extend_from_slice(&(APP.len() as u32).to_be_bytes())?;
@@ -382,27 +348,30 @@ fn worn_disk(alloc: Global) -> Result<MemDisk, Fail> {
     slot.extend_from_slice(&[0xff; 8])?;
     slot.extend_from_slice(&(payload.len() as u64).to_be_bytes())?;
     slot.extend_from_slice(&payload)?;
-    let mut disk = MemDisk::new(alloc)?;
-    disk.put(alloc, DiskFile::SlotA, &slot)?;
-    Ok(disk)
+    Ok(slot)
 }
+
+// The sequence number, and how much of the output is kept.
+fn kept(alloc: Global, disk: &mut MemDisk) -> Result<(u64, u64), Fail> {
+    match peek(alloc, disk)? {
+        Some((journal, checkpoint)) => Ok((journal.sequence, checkpoint.output_length)),
+        None => Err(Fail::from("no journal")),
+    }
+}
+
+// Without a change no number is needed.
+const AFTER_THE_LAST: &[Do] = &[Poll, Make(1, "app.log"), Add(1, b"a1\n"), Poll];
 
 #[test]
 fn the_last_sequence_number_is_told(rt: HostRuntime) -> Result<(), Fail> {
     let alloc = rt.alloc();
-    let mut tree = MemTree::new(alloc)?;
-    let mut disk = worn_disk(alloc)?;
-    // Without a change no number is needed.
-    assert_eq!(rt; poll(alloc, APP, LIMIT, &mut tree, &mut disk)?, Ok(NOTHING));
-    create(alloc, &mut tree, 1, "app.log")?;
-    append(alloc, &mut tree, 1, b"a1\n")?;
-    let given = poll(alloc, APP, LIMIT, &mut tree, &mut disk)?;
-    assert_eq!(rt; given, Err(PollFault::Worn { sequence: u64::MAX }));
-    assert_eq!(rt;
-        disk.bytes(DiskFile::SlotA),
-        worn_disk(alloc)?.bytes(DiskFile::SlotA)
-    );
-    let (journal, checkpoint) = peek(alloc, &mut disk)?.ok_or("no journal")?;
-    assert_eq!(rt; (journal.sequence, checkpoint.output_length), (u64::MAX, 0));
+    let slot = worn_slot(alloc)?;
+    let mut folder = Folder::new(alloc)?;
+    folder.disk.put(alloc, DiskFile::SlotA, &slot)?;
+    let answers = folder.answers(alloc, APP, LIMIT, AFTER_THE_LAST)?;
+    let worn = Err(PollFault::Worn { sequence: u64::MAX });
+    assert_eq!(rt; answers.as_slice(), [Ok(NOTHING), worn].as_slice());
+    assert_eq!(rt; folder.disk.bytes(DiskFile::SlotA), slot.as_slice());
+    assert_eq!(rt; kept(alloc, &mut folder.disk)?, (u64::MAX, 0));
     Ok(())
 }
