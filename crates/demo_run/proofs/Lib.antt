@@ -1,3 +1,5 @@
 mod Cases
 mod Counts
 mod Sums
+mod Contents
+mod Fronts
