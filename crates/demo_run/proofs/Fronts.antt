@@ -31,8 +31,14 @@ line_short : (round : ℕ) → round ≤ 1000 → length (line_of round) ≤ 16
 line_short round few =
     let number : List ℕ = decimal round in
     let log : List ℕ = decimal (log_of round) in
-    omega (arith, length-decimal-le 4 round (omega arith) (omega (arith, few)) (omega (arith, few)), length-decimal-le 1 (log_of round) (omega arith) (omega arith) (omega arith),
-    length-append ((number ++ codes " k") ++ log) (codes "\n"), length-append (number ++ codes " k") log, length-append number (codes " k"))
+    omega (
+      arith,
+      length-decimal-le 4 round (omega arith) (omega (arith, few)) (omega (arith, few)),
+      length-decimal-le 1 (log_of round) (omega arith) (omega arith) (omega arith),
+      length-append ((number ++ codes " k") ++ log) (codes "\n"),
+      length-append (number ++ codes " k") log,
+      length-append number (codes " k"),
+    )
 
 -- what stands before the first blank
 same_front : (front other new rest : List ℕ) → NoBlank front → NoBlank other → front ++ 32 ∷ new ≡ other ++ 32 ∷ rest → front ≡ other

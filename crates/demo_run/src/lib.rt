@@ -2,10 +2,11 @@
 //! are stopped.
 //!
 //! **The contract for the layer above.** [`play_rounds`] plays the script of `specs/Script` and tells what its ending has
-//! (`IsDemo` of `specs/Shown`).
+//! (`IsDemo` of `specs/Shown`). The files of every script can be told apart ([`laws::files_are_apart`]).
 #![tactic(auto)]
 
 mod ending;
+pub mod laws;
 mod playing;
 mod show;
 #[cfg(test)]
