@@ -3,3 +3,6 @@ mod Counts
 mod Sums
 mod Contents
 mod Fronts
+mod Courses
+mod Planless
+mod Endings

@@ -6,7 +6,8 @@ use Rattle.demo_run.specs.Moves.{move_of}
 use Rattle.demo_run.specs.Script.{script, settings_text}
 use Rattle.demo_run.specs.declared.show.Demo.{Demo}
 use Rattle.file_tracker.specs.declared.row.Row.{Row}
-use Rattle.lifetimes.specs.Ended.{IsEnding}
+use Rattle.demo_run.specs.Steps.{IsOfRounds}
+use Rattle.lifetimes.specs.Ended.{IsEnding, history_of}
 use Rattle.lifetimes.specs.declared.ending.Ending.{Ending}
 use Rattle.lifetimes.specs.declared.event.Event.{Event}
 use Rattle.mem_world.specs.MemDisk.{seen_of}
@@ -31,8 +32,8 @@ pub record Keeps (files lines output : ℕ) (image : Image DiskFile) : Type 0 wh
   pub lines_are : lines ≡ lines_of (rows_in checkpoint)
   pub output_is : output ≡ kept_by checkpoint
 
--- So many rounds, each with a poll, and in each seventh with one more, which is stopped. The script had this ending, and the
--- other numbers are those of its disk.
+-- So many rounds, each with a poll, and in each seventh with one more, which is stopped. The script had this ending, in whose
+-- history the steps of others are those of the rounds, and the other numbers are those of its disk.
 pub record IsDemo (rounds : ℕ) (demo : Demo) : Type 0 where
   pub rounds_are : demo.rounds ≡ rounds
   pub polls : demo.polls ≡ rounds + rounds / 7
@@ -41,4 +42,5 @@ pub record IsDemo (rounds : ℕ) (demo : Demo) : Type 0 where
   pub played : map move_of events ≡ script rounds
   pub ending : Ending
   pub ends : IsEnding settings_text events ending
+  pub steps : IsOfRounds rounds (history_of ending.tree)
   pub keeps : Keeps demo.files demo.lines demo.output (seen_of ending.disk)

@@ -10,7 +10,6 @@ fn rounds_keep_their_lines(rt: HostRuntime) -> Result<(), Fail> {
         (1, 1, 0, 1, 1, 325),
         (10, 11, 1, 3, 10, 3251),
         (12, 13, 1, 4, 12, 3903),
-        (1000, 1142, 142, 102, 1000, 328_331),
     ] {
         assert_eq!(rt;
             play_rounds(alloc, rounds)?,

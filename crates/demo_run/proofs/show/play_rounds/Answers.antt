@@ -1,6 +1,7 @@
 use Rattle.std.proofs.Common.{◌≡◌, ◌∙◌, refl}
 use Rattle.std.specs.Prelude.{map}
 use Rattle.demo_run.proofs.Counts.{script_counts}
+use Rattle.demo_run.proofs.Endings.{of_rounds}
 use Rattle.demo_run.specs.Moves.{move_of}
 use Rattle.demo_run.specs.Script.{script}
 use Rattle.demo_run.proofs.show.play_rounds.Goals as goal
@@ -17,5 +18,6 @@ returns c =
       played = played;
       ending = c.in-Ok.ending;
       ends = c.in-Ok.ensures.ending;
+      steps = of_rounds c.args.rounds c.in-Ok.ensures.ending.rules c.deref.result.now _ _ played c.in-Ok.ensures.ending.ends.runs;
       keeps = c.in_ok-kept.ensures;
     }
