@@ -1,4 +1,6 @@
 // Text that contracts see as its bytes.
+ghost use Rattle.std.specs.Cmp.Lexicographic.{slice_cmp};
+ghost use Rattle.std.specs.Ordering.{nat_cmp};
 ghost use Rattle.std.specs.Prelude.{◌≡◌, IfOk, IsTrue, ◌↔◌, [], length, string_bytes};
 
 use std::alloc::{AllocError, Global};
@@ -132,7 +134,17 @@ impl Ord for Text {
     ghost matches_eq = { texts_ties };
 
     fn cmp(&self, other: &Text) -> Ordering {
-        self.as_str().cmp(other.as_str())
+        order(self.as_str(), other.as_str())
+    }
+}
+
+// Two keys of a map mostly differ in their first byte.
+fn order(one: &str, other: &str) -> Ordering
+    ensures { result ≡ slice_cmp nat_cmp one.now other.now }
+{
+    match (one.as_bytes().first(), other.as_bytes().first()) {
+        (Some(first), Some(another)) if first != another => first.cmp(another),
+        _ => one.cmp(other),
     }
 }
 

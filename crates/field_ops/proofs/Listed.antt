@@ -4,7 +4,9 @@ use Rattle.std.specs.Prelude.{⊤, All, Option, unwrap_or, option_map, option_an
 use Rattle.std.proofs.lemmas.List.Elements.{All-head, All-tail}
 use Rattle.entry_model.specs.Datum.{Datum, null, fields, Members, no_members}
 use Rattle.entry_model.specs.LogRecord.{LogRecord}
+use Rattle.field_paths.proofs.Members.{same_or_not, member_there, member_elsewhere}
 use Rattle.field_paths.proofs.Places.{put_there, put_elsewhere}
+use Rattle.field_paths.proofs.Ways.{same_root}
 use Rattle.field_paths.specs.AreApart.{AreApart, Fork}
 use Rattle.field_paths.specs.Change.{room_in, on_the_way, with_value, with_root, set_at, with_empty_map}
 use Rattle.field_paths.specs.Members.{with_member}
@@ -13,8 +15,6 @@ use Rattle.field_paths.specs.ValueAt.{datum_at, value_at, root_value}
 use Rattle.field_paths.specs.declared.path.Root.{Root}
 use Rattle.field_paths.specs.declared.path.Root.TheVariants.{Body, Attributes, Resource}
 use Rattle.field_ops.proofs.Retained.{this_emptied, stay_empty, all_apart}
-use Rattle.field_ops.proofs.Taken as members
-use Rattle.field_ops.proofs.Taken.{same_or_not}
 use Rattle.field_ops.specs.Rows.{emptied, with_found, with_listed, retained}
 
 -- ---- values that admit a value down some names
@@ -78,7 +78,7 @@ way_stays (other ∷ others) (name ∷ names) value target made fork put admits 
     (with_member other p.changed p.ms, ap room_in p.is, at p (λ (apart : Fork others names). way_stays others names value (on_the_way other p.ms) p.changed apart p.inner) down fork (same_or_not name other))
   where
     aside : (p : Put other others value target made) → Admits names (on_the_way name p.ms) → name ≢ other → Admits names (on_the_way name (with_member other p.changed p.ms))
-    aside p down differ = subst (Admits names) (ap (λ (o : Option Datum). unwrap_or o null) (sym (members.put_elsewhere other name p.changed p.ms differ))) down
+    aside p down differ = subst (Admits names) (ap (λ (o : Option Datum). unwrap_or o null) (sym (member_elsewhere other name p.changed p.ms differ))) down
 
     at : (p : Put other others value target made) → (Fork others names → Admits names (on_the_way other p.ms) → Admits names p.changed)
         → Admits names (on_the_way name p.ms) → (other ≢ name) ⊎ Fork others names → (name ≡ other) ⊎ (name ≢ other) → Admits names (on_the_way name (with_member other p.changed p.ms))
@@ -87,7 +87,7 @@ way_stays (other ∷ others) (name ∷ names) value target made fork put admits 
     at p deeper down (inr apart) (inl same) =
         let there : Admits names (on_the_way other p.ms) = subst (λ (k : List ℕ). Admits names (on_the_way k p.ms)) same down in
         subst (λ (k : List ℕ). Admits names (on_the_way k (with_member other p.changed p.ms))) (sym same)
-        (subst (Admits names) (ap (λ (o : Option Datum). unwrap_or o null) (sym (members.put_there other p.changed p.ms))) (deeper apart there))
+        (subst (Admits names) (ap (λ (o : Option Datum). unwrap_or o null) (sym (member_there other p.changed p.ms))) (deeper apart there))
 
 -- ---- entries that admit a value at a place
 
@@ -112,17 +112,6 @@ placed place value before after h = by (with_value place.names value (root_value
     by : (r : Option Datum) → with_value place.names value (root_value place.root before) ≡ r → option_and_then (λ root. with_root place.root root before) r ≡ Some after → Placed place value before after
     by None e h = absurd (cc h)
     by (Some root) e h = record { root = root; down = e; put = h }
-
-same_root : (a b : Root) → (a ≡ b) ⊎ (a ≢ b)
-same_root Body Body = inl refl
-same_root Body Attributes = inr (λ (e : Body ≡ Attributes). cc e)
-same_root Body Resource = inr (λ (e : Body ≡ Resource). cc e)
-same_root Attributes Body = inr (λ (e : Attributes ≡ Body). cc e)
-same_root Attributes Attributes = inl refl
-same_root Attributes Resource = inr (λ (e : Attributes ≡ Resource). cc e)
-same_root Resource Body = inr (λ (e : Resource ≡ Body). cc e)
-same_root Resource Attributes = inr (λ (e : Resource ≡ Attributes). cc e)
-same_root Resource Resource = inl refl
 
 roomy_stays : (other field : Place) (value : Datum) (before after : LogRecord) → AreApart other field → set_at other value before ≡ Some after → IsRoomy field before → IsRoomy field after
 roomy_stays other field value before after apart h roomy = at apart (same_root other.root field.root)

@@ -1,87 +1,64 @@
--- A value that is taken from one root and put into another.
-use Rattle.std.proofs.Common.{◌≡◌, ◌≢◌, ℕ, List, [], ◌∷◌, ◌∙◌, ap, sym, refl, false}
+-- A value that is put before it is taken, or without being taken.
+use Rattle.std.proofs.Common.{◌≡◌, ◌≢◌, ◌∙◌, ap, sym, refl, inl, inr, ℕ, List, [], ◌∷◌}
 use Rattle.std.specs.Prelude.{Option, None, Some, Ok, Err}
-use Rattle.std.specs.Option.{option_and_then, option_map}
-use Rattle.entry_model.specs.Datum.{Datum, null, boolean, int, text, list, fields, Members}
+use Rattle.std.specs.Option.{option_map}
+use Rattle.entry_model.specs.Datum.{Datum}
 use Rattle.entry_model.specs.LogRecord.{LogRecord}
-use Rattle.field_paths.specs.Change.{with_value, of_map, with_root, set_at, taken, take_at}
+use Rattle.field_paths.proofs.Above.{above_replaces}
+use Rattle.field_paths.proofs.EitherOrder.{either_order}
+use Rattle.field_paths.proofs.Places.{put_elsewhere}
+use Rattle.field_paths.specs.AreApart.{AreApart, Fork}
+use Rattle.field_paths.specs.Change.{set_at, take_at}
+use Rattle.field_paths.specs.InOrder.{IsInOrder}
 use Rattle.field_paths.specs.Place.{Place}
-use Rattle.field_paths.specs.ValueAt.{root_value, datum_at}
-use Rattle.field_paths.specs.declared.path.Root.{Root}
-use Rattle.field_paths.specs.declared.path.Root.TheVariants.{Body, Attributes, Resource}
-use Rattle.field_ops.specs.Roots.{same_root}
+use Rattle.field_paths.specs.Relates.{Relates}
+use Rattle.field_paths.specs.ValueAt.{datum_at}
+use Rattle.field_paths.specs.declared.path.SetFault.{SetFault}
+use Rattle.field_paths.specs.declared.path.SetFault.TheVariants as set
+use Rattle.field_paths.specs.declared.relation.Relation.TheVariants.{Below}
+use Rattle.field_ops.specs.Faults.{of_set_fault}
 use Rattle.field_ops.specs.Outcome.{where_found, or_refused}
-use Rattle.field_ops.specs.Rows.{moved}
-use Rattle.field_ops.specs.declared.fault.FieldFault.TheVariants.{NotAMap}
-use Rattle.field_ops.proofs.Taken.{other_root}
+use Rattle.field_ops.specs.Rows.{moved, copied}
+use Rattle.field_ops.specs.declared.fault.FieldFault.TheVariants.{Memory}
 
-pub differ : (root other : Root) → same_root root other ≡ false → root ≢ other
-differ Body Body h = absurd (cc h)
-differ Body Attributes h = λ (e : Body ≡ Attributes). cc e
-differ Body Resource h = λ (e : Body ≡ Resource). cc e
-differ Attributes Body h = λ (e : Attributes ≡ Body). cc e
-differ Attributes Attributes h = absurd (cc h)
-differ Attributes Resource h = λ (e : Attributes ≡ Resource). cc e
-differ Resource Body h = λ (e : Resource ≡ Body). cc e
-differ Resource Attributes h = λ (e : Resource ≡ Attributes). cc e
-differ Resource Resource h = absurd (cc h)
+fork_back : (names others : List (List ℕ)) → Fork names others → Fork others names
+fork_back [] others fork = absurd fork
+fork_back (name ∷ names) [] fork = absurd fork
+fork_back (name ∷ names) (other ∷ others) (inl apart) = inl (λ same. apart (sym same))
+fork_back (name ∷ names) (other ∷ others) (inr fork) = inr (fork_back names others fork)
 
-of_map_through : (f : LogRecord → LogRecord) (made changed : Members → LogRecord) → ((ms : Members) → changed ms ≡ f (made ms))
-    → (d : Datum) → of_map d changed ≡ option_map f (of_map d made)
-of_map_through f made changed same null = refl
-of_map_through f made changed same (boolean b) = refl
-of_map_through f made changed same (int z) = refl
-of_map_through f made changed same (text bytes) = refl
-of_map_through f made changed same (list items) = refl
-of_map_through f made changed same (fields ms) = ap Some (same ms)
+apart_back : (place other : Place) → AreApart place other → AreApart other place
+apart_back place other (inl roots) = inl (λ same. roots (sym same))
+apart_back place other (inr fork) = inr (fork_back place.names other.names fork)
 
-into_attributes : (f : LogRecord → LogRecord) (entry changed : LogRecord) → ((ms : Members) → record changed { attributes = ms } ≡ f (record entry { attributes = ms }))
-    → (d : Datum) → with_root Attributes d changed ≡ option_map f (with_root Attributes d entry)
-into_attributes f entry changed same d = of_map_through f (λ (ms : Members). record entry { attributes = ms }) (λ (ms : Members). record changed { attributes = ms }) same d
+-- what is put leaves what is to be taken
+pub still_there : (from to : Place) (value found : Datum) (before mid : LogRecord) → AreApart from to → datum_at from before ≡ Some found
+    → set_at to value before ≡ Some mid → datum_at from mid ≡ Some found
+still_there from to value found before mid apart there put = put_elsewhere to from value before mid (apart_back from to apart) put ∙ there
 
-into_resource : (f : LogRecord → LogRecord) (entry changed : LogRecord) → ((ms : Members) → record changed { resource = ms } ≡ f (record entry { resource = ms }))
-    → (d : Datum) → with_root Resource d changed ≡ option_map f (with_root Resource d entry)
-into_resource f entry changed same d = of_map_through f (λ (ms : Members). record entry { resource = ms }) (λ (ms : Members). record changed { resource = ms }) same d
+-- what becomes of a value that is put where it is taken from a place apart
+put_and_taken : (from to : Place) (value : Datum) (before : LogRecord) → IsInOrder from before → AreApart from to → datum_at from before ≡ Some value
+    → moved from to before ≡ or_refused (option_map (take_at from) (set_at to value before))
+put_and_taken from to value before order apart there =
+    ap (λ (o : Option Datum). where_found o (λ v. or_refused (set_at to v (take_at from before)))) there
+    ∙ ap or_refused (either_order from to value value before order apart there)
 
--- a root is put in and something is taken from another one, in either order
-in_either_order : (root other : Root) (names : List (List ℕ)) (d : Datum) (entry : LogRecord) → root ≢ other
-    → with_root other d (taken root names entry) ≡ option_map (taken root names) (with_root other d entry)
-in_either_order Body Body names d entry roots = absurd (roots refl)
-in_either_order Body Attributes [] d entry roots = into_attributes (taken Body []) entry (taken Body [] entry) (λ ms. refl) d
-in_either_order Body Attributes (name ∷ names) d entry roots = into_attributes (taken Body (name ∷ names)) entry (taken Body (name ∷ names) entry) (λ ms. refl) d
-in_either_order Body Resource [] d entry roots = into_resource (taken Body []) entry (taken Body [] entry) (λ ms. refl) d
-in_either_order Body Resource (name ∷ names) d entry roots = into_resource (taken Body (name ∷ names)) entry (taken Body (name ∷ names) entry) (λ ms. refl) d
-in_either_order Attributes Body [] d entry roots = refl
-in_either_order Attributes Body (name ∷ names) d entry roots = refl
-in_either_order Attributes Attributes names d entry roots = absurd (roots refl)
-in_either_order Attributes Resource [] d entry roots = into_resource (taken Attributes []) entry (taken Attributes [] entry) (λ ms. refl) d
-in_either_order Attributes Resource (name ∷ names) d entry roots = into_resource (taken Attributes (name ∷ names)) entry (taken Attributes (name ∷ names) entry) (λ ms. refl) d
-in_either_order Resource Body [] d entry roots = refl
-in_either_order Resource Body (name ∷ names) d entry roots = refl
-in_either_order Resource Attributes [] d entry roots = into_attributes (taken Resource []) entry (taken Resource [] entry) (λ ms. refl) d
-in_either_order Resource Attributes (name ∷ names) d entry roots = into_attributes (taken Resource (name ∷ names)) entry (taken Resource (name ∷ names) entry) (λ ms. refl) d
-in_either_order Resource Resource names d entry roots = absurd (roots refl)
-
-put_first : (from to : Place) (value : Datum) (entry : LogRecord) → from.root ≢ to.root
-    → set_at to value (take_at from entry) ≡ option_map (take_at from) (set_at to value entry)
-put_first from to value entry roots =
-    ap (λ (t : Datum). option_and_then (λ root. with_root to.root root (take_at from entry)) (with_value to.names value t)) (other_root from.root to.root from.names entry roots)
-    ∙ through (with_value to.names value (root_value to.root entry))
-  where
-    through : (r : Option Datum) → option_and_then (λ root. with_root to.root root (take_at from entry)) r
-        ≡ option_map (take_at from) (option_and_then (λ root. with_root to.root root entry) r)
-    through None = refl
-    through (Some root) = in_either_order from.root to.root from.names root entry roots
-
-pub moved_between : (from to : Place) (value : Datum) (before mid after : LogRecord) → from.root ≢ to.root → datum_at from before ≡ Some value
+pub moved_apart : (from to : Place) (value : Datum) (before mid after : LogRecord) → IsInOrder from before → AreApart from to → datum_at from before ≡ Some value
     → set_at to value before ≡ Some mid → after ≡ take_at from mid → moved from to before ≡ Ok after
-moved_between from to value before mid after roots found put took =
-    ap (λ (o : Option Datum). where_found o (λ v. or_refused (set_at to v (take_at from before)))) found
-    ∙ ap or_refused (put_first from to value before roots ∙ ap (option_map (take_at from)) put)
-    ∙ ap Ok (sym took)
+moved_apart from to value before mid after order apart there put took =
+    put_and_taken from to value before order apart there ∙ ap (λ (o : Option LogRecord). or_refused (option_map (take_at from) o)) put ∙ ap Ok (sym took)
 
-pub refused_between : (from to : Place) (value : Datum) (before : LogRecord) → from.root ≢ to.root → datum_at from before ≡ Some value
-    → set_at to value before ≡ None → moved from to before ≡ Err NotAMap
-refused_between from to value before roots found refused =
-    ap (λ (o : Option Datum). where_found o (λ v. or_refused (set_at to v (take_at from before)))) found
-    ∙ ap or_refused (put_first from to value before roots ∙ ap (option_map (take_at from)) refused)
+pub refused_apart : (from to : Place) (value : Datum) (before : LogRecord) → IsInOrder from before → AreApart from to → datum_at from before ≡ Some value
+    → (given : SetFault) → (given ≡ set.NotAMap → set_at to value before ≡ None) → of_set_fault given ≢ Memory → moved from to before ≡ Err (of_set_fault given)
+refused_apart from to value before order apart there set.NotAMap refused known =
+    put_and_taken from to value before order apart there ∙ ap (λ (o : Option LogRecord). or_refused (option_map (take_at from) o)) (refused refl)
+refused_apart from to value before order apart there set.Memory refused known = absurd (known refl)
+
+-- a value that is put above its place goes away with what it replaces
+pub moved_over : (from to : Place) (before : LogRecord) → Relates Below from to → moved from to before ≡ copied from to before
+moved_over from to before below = by (datum_at from before) (λ (value : Datum) is. above_replaces from to value value before below is)
+  where
+    by : (found : Option Datum) → ((value : Datum) → found ≡ Some value → set_at to value (take_at from before) ≡ set_at to value before)
+        → where_found found (λ v. or_refused (set_at to v (take_at from before))) ≡ where_found found (λ v. or_refused (set_at to v before))
+    by None replaces = refl
+    by (Some value) replaces = ap or_refused (replaces value refl)

@@ -1,5 +1,5 @@
 -- Roots of entries, and entries of which some roots are those of another. No public clause speaks of them.
-use Rattle.std.specs.Prelude.{ℕ, List, [], Bool, true, false, cond, None}
+use Rattle.std.specs.Prelude.{List, [], Bool, true, false, cond, None}
 use Rattle.std.specs.List.{list_any}
 use Rattle.entry_model.specs.Datum.{fields, no_members}
 use Rattle.entry_model.specs.LogRecord.{LogRecord}

@@ -4,22 +4,12 @@ ghost use Rattle.field_ops.specs.Roots.{same_root, any_root};
 
 use field_paths::{FieldPath, Root};
 
-pub fn is_same(root: Root, other: Root) -> bool
-    ensures { result ≡ same_root root other }
-{
-    match root {
-        Root::Body => matches!(other, Root::Body),
-        Root::Attributes => matches!(other, Root::Attributes),
-        Root::Resource => matches!(other, Root::Resource),
-    }
-}
-
 /// Whether one of the fields begins in this root.
 pub fn begins_any(root: Root, fields: &[FieldPath]) -> bool
     ensures { result ≡ any_root (same_root root) fields.now }
 {
     for field in fields {
-        if is_same(root, field.root()) {
+        if root == field.root() {
             return true;
         }
     }

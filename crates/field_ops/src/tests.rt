@@ -103,11 +103,43 @@ fn moves_and_copies(rt: HostRuntime) -> Result<(), Fail> {
         ("body.n", "body.n.m", Ok(()), Ok(())),
         ("body.c.d", "body.q", MISSING, MISSING),
         ("resource", "body.r", Ok(()), Ok(())),
+        ("body.c", "body.q", Ok(()), Ok(())),
+        ("body.c", "body.a.c", Ok(()), Ok(())),
+        ("body.a.a", "body.a.b", Ok(()), Ok(())),
+        ("body.a.a", "body.c.d", NO_MAP, NO_MAP),
+        ("body.a", "body.n.m", Ok(()), Ok(())),
+        ("attributes.y", "attributes.x", Ok(()), Ok(())),
+        ("body.a.a", "body.a", Ok(()), Ok(())),
+        ("body.a.zz", "body.a", MISSING, MISSING),
+        ("body.c", "body.c", Ok(()), Ok(())),
     ];
     for (from, to, moved, copied) in table {
         assert!(rt; moves(alloc, from, to, moved)?, "{from} to {to}");
         assert!(rt; copies(alloc, from, to, copied)?, "{from} to {to}");
     }
+    Ok(())
+}
+
+// {a: {a: 1, b: 2}} becomes {a: {b: 2}, c: 1}, and then {a: 2}.
+#[test]
+fn moved_values_leave_their_place(rt: HostRuntime) -> Result<(), Fail> {
+    let alloc = rt.alloc();
+    let mut entry = sample(alloc)?;
+    let mut body = map(alloc);
+    put(alloc, &mut body, "a", Value::Map(pair(alloc)?))?;
+    entry.body = Value::Map(body);
+    Move::new(path(alloc, "body.a.a")?, path(alloc, "body.c")?).apply(alloc, &mut entry)?;
+    let mut rest = map(alloc);
+    put(alloc, &mut rest, "b", Value::Int(2))?;
+    let mut apart = map(alloc);
+    put(alloc, &mut apart, "a", Value::Map(rest))?;
+    put(alloc, &mut apart, "c", Value::Int(1))?;
+    assert!(rt; entry.body == Value::Map(apart));
+    Move::new(path(alloc, "body.a.b")?, path(alloc, "body.a")?).apply(alloc, &mut entry)?;
+    let _one = path(alloc, "body.c")?.take(alloc, &mut entry).ok();
+    let mut above = map(alloc);
+    put(alloc, &mut above, "a", Value::Int(2))?;
+    assert!(rt; entry.body == Value::Map(above));
     Ok(())
 }
 

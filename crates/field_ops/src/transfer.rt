@@ -3,12 +3,11 @@ ghost use Rattle.std.specs.Prelude.{◌≡◌, ◌≢◌, OnOk, OnErr, IfErr, Ok
 ghost use Rattle.entry_model.specs.LogRecord.{log_record};
 ghost use Rattle.field_ops.specs.Rows.{moved, copied};
 ghost use Rattle.field_ops.specs.declared.fault.FieldFault.TheVariants.{Memory};
+ghost use Rattle.field_paths.specs.AreApart.{AreApart};
 
 use crate::FieldFault;
-use crate::root::is_same;
 use entry_model::Entry;
-use field_paths::FieldPath;
-use field_paths::laws::set_changes_one_place;
+use field_paths::{FieldPath, Relation};
 use std::alloc::Global;
 
 /// Takes the value of one field and puts it at another.
@@ -33,32 +32,35 @@ impl Move {
             → moved self.now.from self.now.to (log_record entry.old) ≡ Err fault) }
         ensures err { OnErr result (log_record entry.new ≡ log_record entry.old) }
     {
-        if is_same(self.from.root(), self.to.root()) {
-            return self.within_a_root(alloc, entry);
+        match self.from.stands_to(&self.to) {
+            Relation::Apart => self.put_first(alloc, entry),
+            // What is put above a place replaces all that is there, so nothing is left to be taken.
+            Relation::Below => put_copy(alloc, &self.from, &self.to, entry),
+            Relation::AtOrAbove => self.take_first(alloc, entry),
         }
-        self.between_roots(alloc, entry)
     }
 
-    /// What is put into one root isn't in the way of what is taken from another. So the value is put first: where that
-    /// fails, the entry is as it was.
-    fn between_roots(&self, alloc: Global, entry: &mut Entry) -> Result<(), FieldFault>
-        requires { self.now.from.root ≢ self.now.to.root }
+    /// What is put isn't in the way of what is taken from a place apart. So the value is put first: where that fails, the
+    /// entry is as it was.
+    fn put_first(&self, alloc: Global, entry: &mut Entry) -> Result<(), FieldFault>
+        requires { AreApart self.now.from self.now.to }
         ensures ok { OnOk result (moved self.now.from self.now.to (log_record entry.old) ≡ Ok (log_record entry.new)) }
         ensures fault { IfErr result (λ fault. fault ≢ Memory
             → moved self.now.from self.now.to (log_record entry.old) ≡ Err fault) }
         ensures err { OnErr result (log_record entry.new ≡ log_record entry.old) }
     {
-        set_changes_one_place();
-        let Some(value) = self.from.get(entry) else {
+        let Some(value) = self.from.find(entry) else {
             return Err(FieldFault::Missing);
         };
-        let value = value.copy(alloc)?;
-        self.to.set(alloc, entry, value)?;
+        let copy = value.copy(alloc)?;
+        self.to.set(alloc, entry, copy)?;
         let _taken = self.from.take(alloc, entry)?;
         Ok(())
     }
 
-    fn within_a_root(&self, alloc: Global, entry: &mut Entry) -> Result<(), FieldFault>
+    /// What is taken is in the way of what is put at its own place or below. So an entry apart is changed, which takes the
+    /// place of this one in the end.
+    fn take_first(&self, alloc: Global, entry: &mut Entry) -> Result<(), FieldFault>
         ensures ok { OnOk result (moved self.now.from self.now.to (log_record entry.old) ≡ Ok (log_record entry.new)) }
         ensures fault { IfErr result (λ fault. fault ≢ Memory
             → moved self.now.from self.now.to (log_record entry.old) ≡ Err fault) }
@@ -93,11 +95,24 @@ impl Copy {
             → copied self.now.from self.now.to (log_record entry.old) ≡ Err fault) }
         ensures err { OnErr result (log_record entry.new ≡ log_record entry.old) }
     {
-        let Some(value) = self.from.get(entry) else {
-            return Err(FieldFault::Missing);
-        };
-        let copy = value.copy(alloc)?;
-        self.to.set(alloc, entry, copy)?;
-        Ok(())
+        put_copy(alloc, &self.from, &self.to, entry)
     }
+}
+
+fn put_copy(
+    alloc: Global,
+    from: &FieldPath,
+    to: &FieldPath,
+    entry: &mut Entry,
+) -> Result<(), FieldFault>
+    ensures ok { OnOk result (copied from.now to.now (log_record entry.old) ≡ Ok (log_record entry.new)) }
+    ensures fault { IfErr result (λ fault. fault ≢ Memory → copied from.now to.now (log_record entry.old) ≡ Err fault) }
+    ensures err { OnErr result (log_record entry.new ≡ log_record entry.old) }
+{
+    let Some(value) = from.get(entry) else {
+        return Err(FieldFault::Missing);
+    };
+    let copy = value.copy(alloc)?;
+    to.set(alloc, entry, copy)?;
+    Ok(())
 }

@@ -1,11 +1,15 @@
+pub mod Above
 pub mod Cases
 pub mod Complete
+pub mod EitherOrder
 pub mod Entries
 pub mod Faults
 pub mod Layers
+pub mod Members
 pub mod Places
 pub mod Rows
 pub mod Seen
 pub mod Steps
 pub mod Texts
+pub mod Ways
 pub mod Whole

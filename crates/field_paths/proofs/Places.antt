@@ -1,12 +1,10 @@
 -- What is at a place, and at others, after a value was put.
-use Rattle.std.proofs.Common.{◌≡◌, ◌≢◌, ℕ, List, [], ◌∷◌, ◌∙◌, ap, sym, refl, cond, Option, None, Some, option_map, false, inl, inr, ◌⊎◌}
+use Rattle.std.proofs.Common.{◌≡◌, ◌≢◌, ℕ, List, [], ◌∷◌, ◌∙◌, ap, sym, refl, Option, None, Some, option_map, inl, inr, ◌⊎◌}
 use Rattle.std.specs.Option.{option_and_then, unwrap_or}
-use Rattle.std.specs.Ordering.{match_ordering, is_eq, nat_cmp, ordering_reverse}
 use Rattle.std.specs.declared.cmp.Ordering.{Ordering}
 use Rattle.std.specs.declared.cmp.Ordering.TheVariants.{Less, Equal, Greater}
-use Rattle.std.specs.Cmp.Lexicographic.{slice_cmp, nat_list_cmp_total}
 use Rattle.std.proofs.lemmas.Map.Lookups.{exact_bytes}
-use Rattle.entry_model.specs.Datum.{Datum, null, boolean, int, text, list, fields, Members, no_members, member}
+use Rattle.entry_model.specs.Datum.{Datum, null, boolean, int, text, list, fields, Members}
 use Rattle.entry_model.specs.LogRecord.{LogRecord, members_in}
 use Rattle.field_paths.specs.declared.path.Root.{Root}
 use Rattle.field_paths.specs.declared.path.Root.TheVariants.{Body, Attributes, Resource}
@@ -15,45 +13,8 @@ use Rattle.field_paths.specs.Change.{room_in, on_the_way, with_value, of_map, wi
 use Rattle.field_paths.specs.Members.{member_at, with_member}
 use Rattle.field_paths.specs.Place.{Place}
 use Rattle.field_paths.specs.ValueAt.{value_at, root_value, datum_at}
-
-abbrev cmp : List ℕ → List ℕ → Ordering
-cmp = slice_cmp nat_cmp
-
-itself : (name : List ℕ) → cmp name name ≡ Equal
-itself name = by (cmp name name) (nat_list_cmp_total.antisymm name name)
-  where
-    by : (o : Ordering) → o ≡ ordering_reverse o → o ≡ Equal
-    by Less h = absurd (cc h)
-    by Equal h = refl
-    by Greater h = absurd (cc h)
-
-not_at : (name other : List ℕ) → name ≢ other → is_eq (cmp name other) ≡ false
-not_at name other apart = by (cmp name other) refl
-  where
-    by : (o : Ordering) → cmp name other ≡ o → is_eq o ≡ false
-    by Less e = refl
-    by Equal e = absurd (apart (exact_bytes name other e))
-    by Greater e = refl
-
-member_there : (name : List ℕ) (value : Datum) (ms : Members) → member_at name (with_member name value ms) ≡ Some value
-member_there name value no_members = rw (itself name) refl
-member_there name value (member other old rest) = by (cmp name other) refl (member_there name value rest)
-  where
-    by : (o : Ordering) → cmp name other ≡ o → member_at name (with_member name value rest) ≡ Some value
-        → member_at name (match_ordering o (member name value (member other old rest)) (member other value rest) (member other old (with_member name value rest))) ≡ Some value
-    by Less e h = rw (itself name) refl
-    by Equal e h = rw e refl
-    by Greater e h = rw e h
-
-member_elsewhere : (name other : List ℕ) (value : Datum) (ms : Members) → other ≢ name → member_at other (with_member name value ms) ≡ member_at other ms
-member_elsewhere name other value no_members apart = rw (not_at other name apart) refl
-member_elsewhere name other value (member one old rest) apart = by (cmp name one) refl (member_elsewhere name other value rest apart)
-  where
-    by : (o : Ordering) → cmp name one ≡ o → member_at other (with_member name value rest) ≡ member_at other rest
-        → member_at other (match_ordering o (member name value (member one old rest)) (member one value rest) (member one old (with_member name value rest))) ≡ member_at other (member one old rest)
-    by Less e h = rw (not_at other name apart) refl
-    by Equal e h = rw (not_at other one (λ (same : other ≡ one). apart (same ∙ sym (exact_bytes name one e)))) refl
-    by Greater e h = ap (λ (o : Option Datum). cond (is_eq (cmp other one)) (Some old) o) h
+use Rattle.field_paths.proofs.Members.{cmp, itself, member_there, member_elsewhere}
+use Rattle.field_paths.proofs.Ways.{same_root}
 
 room_is : (t : Datum) (ms : Members) → room_in t ≡ Some ms → members_in t ≡ ms
 room_is null ms h = cc h
@@ -64,14 +25,14 @@ room_is (list values) ms h = absurd (cc h)
 room_is (fields inner) ms h = cc h
 
 -- how a value came down the first of the names
-record Step (name : List ℕ) (names : List (List ℕ)) (value t n : Datum) : Type 0 where
-  members : Members
-  changed : Datum
-  room : room_in t ≡ Some members
-  inner : with_value names value (on_the_way name members) ≡ Some changed
-  made : n ≡ fields (with_member name changed members)
+pub record Step (name : List ℕ) (names : List (List ℕ)) (value t n : Datum) : Type 0 where
+  pub members : Members
+  pub changed : Datum
+  pub room : room_in t ≡ Some members
+  pub inner : with_value names value (on_the_way name members) ≡ Some changed
+  pub made : n ≡ fields (with_member name changed members)
 
-step_of : (name : List ℕ) (names : List (List ℕ)) (value t n : Datum) → with_value (name ∷ names) value t ≡ Some n → Step name names value t n
+pub step_of : (name : List ℕ) (names : List (List ℕ)) (value t n : Datum) → with_value (name ∷ names) value t ≡ Some n → Step name names value t n
 step_of name names value t n h = by (room_in t) refl h
   where
     within : (ms : Members) (r : Option Datum) → room_in t ≡ Some ms → with_value names value (on_the_way name ms) ≡ r
@@ -192,17 +153,6 @@ pub put_there : (place : Place) (value : Datum) (before after : LogRecord) → s
 put_there place value before after h =
     let p = put_of place value before after h in
     ap (value_at place.names) (root_there place.root p.root before after p.put) ∙ value_there place.names value (root_value place.root before) p.root p.down
-
-same_root : (a b : Root) → (a ≡ b) ⊎ (a ≢ b)
-same_root Body Body = inl refl
-same_root Body Attributes = inr (λ (e : Body ≡ Attributes). cc e)
-same_root Body Resource = inr (λ (e : Body ≡ Resource). cc e)
-same_root Attributes Body = inr (λ (e : Attributes ≡ Body). cc e)
-same_root Attributes Attributes = inl refl
-same_root Attributes Resource = inr (λ (e : Attributes ≡ Resource). cc e)
-same_root Resource Body = inr (λ (e : Resource ≡ Body). cc e)
-same_root Resource Attributes = inr (λ (e : Resource ≡ Attributes). cc e)
-same_root Resource Resource = inl refl
 
 pub put_elsewhere : (place other : Place) (value : Datum) (before after : LogRecord) → AreApart place other → set_at place value before ≡ Some after → datum_at other after ≡ datum_at other before
 put_elsewhere place other value before after apart h = at apart (put_of place value before after h) (same_root place.root other.root)

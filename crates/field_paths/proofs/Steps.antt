@@ -55,6 +55,12 @@ member_made name es new made names v f e h =
     ∙ ap (put_in name es) h
     ∙ ap (λ (ms : Members). Some (fields ms)) (with_member-seen name made es ∙ ap members_seen (sym e))
 
+pub last_put : (name : List ℕ) (es new : List (List ℕ × Value)) (now : Value) (names : List (List ℕ)) → names ≡ [] → new ≡ insert_entry (slice_cmp nat_cmp) es name now
+    → with_value (name ∷ names) (datum now) (map_of es) ≡ Some (map_of new)
+last_put name es new now names last e =
+    ap (λ (l : List (List ℕ)). with_value (name ∷ l) (datum now) (map_of es)) last
+    ∙ ap (λ (ms : Members). Some (fields ms)) (with_member-seen name now es ∙ ap members_seen (sym e))
+
 -- a member that is what it was leaves the map as it was
 pub member_kept : (name : List ℕ) (es new : List (List ℕ × Value)) (old now : Value) → found name es ≡ Some old
     → new ≡ set_value (is_at (slice_cmp nat_cmp name)) es now → datum now ≡ datum old → map_of new ≡ map_of es

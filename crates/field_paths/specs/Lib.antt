@@ -1,5 +1,6 @@
 pub mod AreApart
 pub mod Change
+pub mod InOrder
 pub mod MapOf
 pub mod Members
 pub mod NameIsText
@@ -7,4 +8,5 @@ pub mod PathText
 pub mod Place
 pub mod ReadFault
 pub mod Reader
+pub mod Relates
 pub mod ValueAt

@@ -111,6 +111,11 @@ fn put_member(
     ensures not_a_map { IfErr result (λ fault. fault ≡ NotAMap
         → with_value (name.now ∷ names.now) (datum value) (map_of members.old.entries) ≡ None) }
 {
+    // The last name is looked for once: what is there is replaced.
+    if names.is_empty() {
+        insert(alloc, members, name, value)?;
+        return Ok(());
+    }
     if let Some(member) = members.get_mut(name) {
         return put(alloc, member, names, value);
     }

@@ -1,5 +1,5 @@
 // Paths and entries written by hand.
-use crate::{FieldPath, PathFault, Root, SetFault, TakeFault};
+use crate::{FieldPath, PathFault, Relation, Root, SetFault, TakeFault};
 use entry_model::{Entry, Fields, Text, Value};
 use std::alloc::{AllocError, Global};
 use std::test::Fail;
@@ -206,5 +206,29 @@ fn splits_and_empties(rt: HostRuntime) -> Result<(), Fail> {
     let mut entry = sample(alloc)?;
     FieldPath::read(alloc, "attributes.a")?.empty_root(alloc, &mut entry);
     assert!(rt; entry.attributes == Value::Map(Fields::new(alloc)));
+    Ok(())
+}
+
+// How the first of two paths stands to the second.
+#[test]
+fn tells_how_paths_stand(rt: HostRuntime) -> Result<(), Fail> {
+    let alloc = rt.alloc();
+    let table = [
+        ("body", "attributes", Relation::Apart),
+        ("body.a", "resource.a", Relation::Apart),
+        ("body.a", "body.b", Relation::Apart),
+        ("body.a.b", "body.a.c", Relation::Apart),
+        ("body.a.b", "body.b", Relation::Apart),
+        ("body.a", "body", Relation::Below),
+        ("body.a.b.c", "body.a", Relation::Below),
+        ("body", "body", Relation::AtOrAbove),
+        ("body.a", "body.a.b", Relation::AtOrAbove),
+        ("attributes.a", "attributes.a", Relation::AtOrAbove),
+    ];
+    for (text, other, expected) in table {
+        let path = FieldPath::read(alloc, text)?;
+        let other_path = FieldPath::read(alloc, other)?;
+        assert_eq!(rt; path.stands_to(&other_path), expected, "{text} to {other}");
+    }
     Ok(())
 }

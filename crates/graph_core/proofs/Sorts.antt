@@ -1,5 +1,5 @@
 -- What steps keep of their states.
-use Rattle.std.proofs.Common.{◌≡◌, ℕ, zero, suc, ◌+◌, List, [], ◌∷◌, Bool, Option, None, Some, map, refl, sym, ap, subst, ◌∙◌, arith}
+use Rattle.std.proofs.Common.{◌≡◌, ℕ, suc, ◌+◌, List, [], ◌∷◌, Bool, Option, None, Some, map, refl, ap, ◌∙◌, arith}
 use Rattle.std.specs.Prelude.{slice_get}
 use Rattle.graph_core.specs.Behavior.{Behavior, KeepsSort}
 use Rattle.graph_core.specs.Traces.{Network, Call, trace, next_state, state_after, states_along}

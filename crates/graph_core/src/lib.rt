@@ -191,7 +191,31 @@ impl<O: Step> Graph<O> {
             → Served network from before (inputs network earlier) states.old.items out.old.items
             → Served network from before (inputs network (earlier ++ item ∷ [])) states.new.items out.new.items) }
     {
-        walk::enter(self, alloc, item, states, out)
+        self.push_by(alloc, states, item, &mut Vec::new(alloc), out)
+    }
+
+    /// As [`push`](Graph::push), with a list for what a node emits, which is empty before and after. A caller that keeps it
+    /// from push to push saves its memory: where each node emits one item for one target, nothing else is taken.
+    pub fn push_by(
+        &self,
+        alloc: Global,
+        states: &mut Vec<O::State>,
+        item: O::Item,
+        emitted: &mut Vec<(u16, O::Item)>,
+        out: &mut Vec<O::Item>,
+    ) -> Result<(), AllocError>
+        requires states { length states.old.items ≡ length self.now }
+        requires empty { emitted.old.items ≡ [] }
+        ensures kept { length states.new.items ≡ length states.old.items }
+        ensures empty { OnOk result (emitted.new.items ≡ []) }
+        ensures served { let network = network_of O.behavior self.now in
+            OnOk result (Served network states.old.items out.old.items (inputs network (item ∷ [])) states.new.items out.new.items) }
+        ensures one_more { let network = network_of O.behavior self.now in
+            OnOk result ((from : List O.State) (before earlier : List O.Item)
+            → Served network from before (inputs network earlier) states.old.items out.old.items
+            → Served network from before (inputs network (earlier ++ item ∷ [])) states.new.items out.new.items) }
+    {
+        walk::enter(self, alloc, item, states, emitted, out)
     }
 
     /// Closes each node once: again and again the least one that isn't closed and all of whose callers

@@ -10,6 +10,7 @@ ghost use Rattle.graph_core.specs.Walk.{deliveries, owed, stepped, sent, Walk, L
 use super::{Graph, NodeSpec, Step, Target};
 use std::alloc::{AllocError, Global};
 use std::collections::VecDeque;
+use std::mem;
 
 /// Adds the item to the queue once for each target; the last target gets the item itself.
 fn hand_to_each<O: Step>(
@@ -78,26 +79,26 @@ fn queue_of<O: Step>(
     deliveries_of(&graph.nodes[node as usize], alloc, said)
 }
 
-/// The node takes an item: its state moves on, and what it emits is the answer, in the list that is handed in empty.
+/// The node takes an item: its state moves on, and what it emits goes into the list, which is handed in empty.
+#[inline(always)]
 fn step_node<O: Step>(
     graph: &Graph<O>,
     alloc: Global,
     node: u16,
     item: O::Item,
     states: &mut Vec<O::State>,
-    mut said: Vec<(u16, O::Item)>,
-) -> Result<Vec<(u16, O::Item)>, AllocError>
+    said: &mut Vec<(u16, O::Item)>,
+) -> Result<(), AllocError>
     requires node { node < length graph.now }
     requires states { length states.old.items ≡ length graph.now }
-    requires empty { said.items ≡ [] }
+    requires empty { said.old.items ≡ [] }
     ensures kept { length states.new.items ≡ length states.old.items }
     ensures state { OnOk result (states.new.items ≡ stepped (network_of O.behavior graph.now) states.old.items node (Some item)) }
     ensures said { let ports = ports_of (wiring_of graph.now) node in
-        IfOk result (λ said. owed (deliveries ports said.items) ≡ sent (network_of O.behavior graph.now) states.old.items node (Some item)) }
+        OnOk result (owed (deliveries ports said.new.items) ≡ sent (network_of O.behavior graph.now) states.old.items node (Some item)) }
 {
     let operator = &graph.nodes[node as usize].op;
-    operator.step(alloc, &mut states[node as usize], item, &mut said)?;
-    Ok(said)
+    operator.step(alloc, &mut states[node as usize], item, said)
 }
 
 /// Hands on what the node said, one target's whole effect before the next.
@@ -120,7 +121,8 @@ fn deliver_all<O: Step>(
         match to {
             Target::Out => out.push(item)?,
             Target::Node(next) => {
-                let said = step_node(graph, alloc, next, item, states, Vec::new(alloc))?;
+                let mut said = Vec::new(alloc);
+                step_node(graph, alloc, next, item, states, &mut said)?;
                 deliver_all(graph, alloc, next, said, states, out)?;
             }
         }
@@ -193,26 +195,29 @@ fn single_of<O: Step>(
     take_only(&graph.nodes[node as usize], said)
 }
 
-/// One call of a node with an item, and all that follows from it. As long as each call emits one item for one target, the
-/// list of what is emitted is all the memory that this takes.
+/// One call of a node with an item, and all that follows from it. The list has what one call emits: as long as that is one
+/// item for one target, no other memory is taken.
 fn call<O: Step>(
     graph: &Graph<O>,
     alloc: Global,
     mut node: u16,
     mut item: O::Item,
     states: &mut Vec<O::State>,
+    said: &mut Vec<(u16, O::Item)>,
     out: &mut Vec<O::Item>,
 ) -> Result<(), AllocError>
     requires node { node < length graph.now }
     requires states { length states.old.items ≡ length graph.now }
+    requires empty { said.old.items ≡ [] }
     ensures kept { length states.new.items ≡ length states.old.items }
     ensures walks { OnOk result (Walk (network_of O.behavior graph.now) states.old.items out.old.items ((Node node, Some item) ∷ []) states.new.items out.new.items) }
+    ensures empty { OnOk result (said.new.items ≡ []) }
 {
-    let mut said = Vec::new(alloc);
     'follow: loop {
-        let mut emitted = step_node(graph, alloc, node, item, states, said)?;
-        let Some((to, single)) = single_of(graph, node, &mut emitted) else {
-            return deliver_all(graph, alloc, node, emitted, states, out);
+        step_node(graph, alloc, node, item, states, said)?;
+        let Some((to, single)) = single_of(graph, node, said) else {
+            let all = mem::replace(said, Vec::new(alloc));
+            return deliver_all(graph, alloc, node, all, states, out);
         };
         match to {
             Target::Out => {
@@ -222,7 +227,6 @@ fn call<O: Step>(
             Target::Node(next) => {
                 node = next;
                 item = single;
-                said = emitted;
             }
         }
     }
@@ -234,19 +238,22 @@ pub(super) fn enter<O: Step>(
     alloc: Global,
     item: O::Item,
     states: &mut Vec<O::State>,
+    said: &mut Vec<(u16, O::Item)>,
     out: &mut Vec<O::Item>,
 ) -> Result<(), AllocError>
-    requires { length states.old.items ≡ length graph.now }
+    requires states { length states.old.items ≡ length graph.now }
+    requires empty { said.old.items ≡ [] }
     ensures kept { length states.new.items ≡ length states.old.items }
     ensures ordered { CallersFirst (edges_of (wiring_of graph.now)) [] (closing_order (edges_of (wiring_of graph.now))) }
     ensures walks { let network = network_of O.behavior graph.now in
         OnOk result (Walk network states.old.items out.old.items (inputs network (item ∷ [])) states.new.items out.new.items) }
+    ensures empty { OnOk result (said.new.items ≡ []) }
 {
     if graph.nodes.is_empty() {
         out.push(item)?;
         return Ok(());
     }
-    call(graph, alloc, 0, item, states, out)
+    call(graph, alloc, 0, item, states, said, out)
 }
 
 /// The node is closed: it goes back to its start state, and what it emits is the answer.

@@ -141,6 +141,7 @@ impl Action {
     }
 
     // The row of a type without groups, which changes the entry in place.
+    #[inline(always)]
     fn change(&self, alloc: Global, entry: &mut Entry) -> Result<Fate, AllocError>
         ensures made { IfOk result (λ fate. entries_by fate (log_record entry.new) ≡ row (act_of self.now) (log_record entry.old)) }
         ensures kept { IfOk result (λ fate. fate ≡ Fate.Faulty → log_record entry.new ≡ log_record entry.old) }

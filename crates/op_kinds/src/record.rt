@@ -33,6 +33,13 @@ impl Record {
         })
     }
 
+    /// Another entry, in the same place.
+    pub fn put(&mut self, entry: Entry)
+        ensures { self.new ≡ log_record entry }
+    {
+        *self.entry = entry;
+    }
+
     pub fn entry(&self) -> &Entry
         ensures { log_record result.now ≡ self.now }
     {

@@ -40,6 +40,9 @@ pub fn append_fields(fields: &Fields, out: &mut Vec<u8>) -> Result<(), AllocErro
         ≡ out.old.items ++ attributes_text (members_seen fields.now.entries)) }
     ensures front { HasFront out.old.items out.new.items }
 {
+    if fields.is_empty() {
+        return out.extend_from_slice(b"[]");
+    }
     out.extend_from_slice(b"[")?;
     append_members(fields, out)?;
     out.extend_from_slice(b"]")

@@ -44,6 +44,11 @@ as_asked : (asked : Bool) (name : List ℕ) (n : ℕ) (shared : Members) → num
 as_asked true name n shared = refl
 as_asked false name n shared = refl
 
+-- the attributes of the n-th token's record, by the name of its number
+pub numbered_at : (settings : Settings) (path : List ℕ) (n : ℕ) (number : Option (List ℕ)) → number ≡ number_name settings → numbered number n (file_attributes settings path) ≡ attributes_at settings path n
+numbered_at settings path n number is =
+    ap (λ (o : Option (List ℕ)). numbered o n (file_attributes settings path)) is ∙ as_asked settings.include_file_record_number (codes "log.file.record_number") n (file_attributes settings path)
+
 record_of_text : (settings : Settings) (path : List ℕ) (n : ℕ) (body : List ℕ)
     → text_record settings.resource (numbered (number_name settings) n (file_attributes settings path)) body ≡ record_with settings path n body
 record_of_text settings path n body =

@@ -10,8 +10,10 @@ ghost use Rattle.field_paths.specs.MapOf.{members_seen};
 ghost use Rattle.field_paths.specs.Members.{with_member};
 ghost use Rattle.pipeline.specs.Entries.{base_name, with_asked, file_attributes, attributes_at, record_with};
 ghost use Rattle.pipeline.specs.Parts.{settings_of};
+ghost use Rattle.pipeline.specs.Sources.{IsShared};
 
 use crate::Pipeline;
+use crate::source::Shared;
 use entry_model::{Entry, Fields, Severity, Text, Value, copy_fields};
 use std::alloc::{AllocError, Global};
 
@@ -33,7 +35,7 @@ impl Pipeline {
             return Ok(attributes);
         }
         let name = text(alloc, base_name(path))?;
-        Ok(put(alloc, attributes, "log.file.name", name)?)
+        Ok(put(attributes, Text::from_str(alloc, "log.file.name")?, name)?)
     }
 
     fn with_path(&self, alloc: Global, attributes: Fields, path: &str) -> Result<Fields, AllocError>
@@ -44,36 +46,36 @@ impl Pipeline {
             return Ok(attributes);
         }
         let whole = text(alloc, path)?;
-        Ok(put(alloc, attributes, "log.file.path", whole)?)
+        Ok(put(attributes, Text::from_str(alloc, "log.file.path")?, whole)?)
     }
 
     fn attributes_at(
         &self,
         alloc: Global,
-        shared: &Fields,
+        shared: &Shared,
         number: u64,
     ) -> Result<Fields, AllocError>
         requires { number ≤ 2 ^ 62 }
-        ensures { IfOk result (λ members. (path : List ℕ) → members_seen shared.now.entries ≡ file_attributes (settings_of self.now) path
+        ensures { IfOk result (λ members. (path : List ℕ) → IsShared (settings_of self.now) path shared.now
             → members_seen members.entries ≡ attributes_at (settings_of self.now) path number) }
     {
-        let attributes = copy_fields(alloc, shared)?;
-        if !self.settings.include_file_record_number {
+        let attributes = copy_fields(alloc, &shared.attributes)?;
+        let Some(name) = &shared.number else {
             return Ok(attributes);
-        }
-        Ok(put(alloc, attributes, "log.file.record_number", int(number))?)
+        };
+        Ok(put(attributes, name.share()?, int(number))?)
     }
 
     /// The entry of the token with this number, from 1.
     pub(crate) fn entry(
         &self,
         alloc: Global,
-        shared: &Fields,
+        shared: &Shared,
         number: u64,
         body: String,
     ) -> Result<Entry, AllocError>
         requires { number ≤ 2 ^ 62 }
-        ensures { IfOk result (λ entry. (path : List ℕ) → members_seen shared.now.entries ≡ file_attributes (settings_of self.now) path
+        ensures { IfOk result (λ entry. (path : List ℕ) → IsShared (settings_of self.now) path shared.now
             → log_record entry ≡ record_with (settings_of self.now) path number (string_bytes body)) }
     {
         Ok(Entry {
@@ -101,17 +103,16 @@ fn text(alloc: Global, content: &str) -> Result<Value, AllocError>
 }
 
 // The members with one more, or with another value.
-fn put(alloc: Global, mut members: Fields, name: &str, value: Value) -> Result<Fields, AllocError>
-    ensures { IfOk result (λ grown. members_seen grown.entries ≡ with_member name.now (datum value) (members_seen members.entries)) }
+fn put(mut members: Fields, name: Text, value: Value) -> Result<Fields, AllocError>
+    ensures { IfOk result (λ grown. members_seen grown.entries ≡ with_member name (datum value) (members_seen members.entries)) }
 {
-    insert(alloc, &mut members, name, value)?;
+    insert(&mut members, name, value)?;
     Ok(members)
 }
 
-fn insert(alloc: Global, fields: &mut Fields, name: &str, value: Value) -> Result<(), AllocError>
-    ensures { OnOk result (fields.new.entries ≡ insert_entry (slice_cmp nat_cmp) fields.old.entries name.now value) }
+fn insert(fields: &mut Fields, name: Text, value: Value) -> Result<(), AllocError>
+    ensures { OnOk result (fields.new.entries ≡ insert_entry (slice_cmp nat_cmp) fields.old.entries name value) }
 {
-    let name = Text::from_str(alloc, name)?;
     fields.insert(name, value)?;
     Ok(())
 }

@@ -1,24 +1,23 @@
 // From bytes to lines.
 ghost use Rattle.std.specs.Prelude.{◌≡◌, ℕ, ◌+◌, ◌-◌, ◌^◌, ◌≤◌, [], ◌∷◌, ◌++◌, List, length, string_bytes, Option, OnOk, IfOk};
 ghost use Rattle.entry_model.specs.Datum.{Members};
-ghost use Rattle.field_paths.specs.MapOf.{members_seen};
 ghost use Rattle.graph_core.specs.Traces.{inputs, Served};
 ghost use Rattle.otlp_json.specs.OutputLine.{output_line};
 ghost use Rattle.otlp_json.specs.OutputLines.{output_lines};
 ghost use Rattle.otlp_json.specs.Template.{IsTemplate, numbered, text_record};
-ghost use Rattle.pipeline.specs.Entries.{file_attributes, records_behind, record_with};
+ghost use Rattle.pipeline.specs.Entries.{records_behind, record_with};
 ghost use Rattle.pipeline.specs.Fed.{Fed, GoesOn};
 ghost use Rattle.pipeline.specs.GraphOutput.{StandsFor};
 ghost use Rattle.pipeline.specs.NextToken.{IsNext};
 ghost use Rattle.pipeline.specs.Parts.{settings_of, network, HaveKinds};
-ghost use Rattle.pipeline.specs.Sources.{IsSource};
+ghost use Rattle.pipeline.specs.Sources.{IsShared, IsSource};
 ghost use Rattle.pipeline.specs.Tokens.{first_cut_of, tokens_of, used_of};
 ghost use Rattle.pipeline.specs.declared.source.Source.TheVariants.{Lines};
 
-use crate::source::Source;
+use crate::buffers::Buffers;
+use crate::source::{Shared, Source};
 use crate::text::text_in;
 use crate::{FileState, Pipeline};
-use entry_model::Fields;
 use graph_core::laws as graph;
 use line_splitter::{Token, entry_text};
 use op_kinds::Record;
@@ -62,10 +61,11 @@ impl Pipeline {
         graph::go_on(&self.graph);
         lines_append();
         let source = self.source(alloc, id, path)?;
+        let mut buffers = Buffers::new(alloc);
         let mut at = 0;
         while let Some(token) = self.next_token(alloc, &bytes[at..])? {
-            let rest = &bytes[at..];
-            self.feed_token(alloc, state, id, &source, &rest[token.from..token.to], out)?;
+            let text = &bytes[at..][token.from..token.to];
+            self.feed_token(alloc, state, id, &source, &mut buffers, text, out)?;
             at += token.after;
         }
         Ok(at)
@@ -85,12 +85,14 @@ impl Pipeline {
         state: &mut FileState,
         id: u32,
         source: &Source,
+        buffers: &mut Buffers,
         token: &[u8],
         out: &mut Vec<u8>,
     ) -> Result<(), AllocError>
         requires states { HaveKinds self.now state.old.states.items }
         requires lines { state.old.lines ≤ 2 ^ 40 + length out.old.items }
         requires records { state.old.records + 1 ≤ 2 ^ 62 }
+        requires empty { buffers.old.emitted.items ≡ [] }
         ensures fed { OnOk result ((path : List ℕ) → IsSource self.now id path source.now
             → Fed (settings_of self.now) (network self.now) id path (token.now ∷ []) state.old state.new out.old.items out.new.items) }
         ensures lines { OnOk result ((path : List ℕ) → IsSource self.now id path source.now
@@ -98,11 +100,12 @@ impl Pipeline {
         ensures records { OnOk result (state.new.records ≡ state.old.records + 1) }
         ensures states { OnOk result (HaveKinds self.now state.new.states.items) }
         ensures many { length state.new.states.items ≡ length state.old.states.items }
+        ensures empty { OnOk result (buffers.new.emitted.items ≡ []) }
     {
         match source {
             Source::Lines(template) => self.feed_text(alloc, state, template, token, out),
-            Source::Entries(attributes) => {
-                self.feed_entry(alloc, state, id, attributes, token, out)
+            Source::Entries(shared) => {
+                self.feed_entry(alloc, state, id, shared, buffers, token, out)
             }
         }
     }
@@ -148,19 +151,22 @@ impl Pipeline {
         alloc: Global,
         state: &mut FileState,
         id: u32,
-        shared: &Fields,
+        shared: &Shared,
+        buffers: &mut Buffers,
         token: &[u8],
         out: &mut Vec<u8>,
     ) -> Result<(), AllocError>
         requires states { HaveKinds self.now state.old.states.items }
         requires lines { state.old.lines ≤ 2 ^ 40 + length out.old.items }
         requires records { state.old.records + 1 ≤ 2 ^ 62 }
-        ensures fed { OnOk result ((path : List ℕ) → members_seen shared.now.entries ≡ file_attributes (settings_of self.now) path
+        requires empty { buffers.old.emitted.items ≡ [] }
+        ensures fed { OnOk result ((path : List ℕ) → IsShared (settings_of self.now) path shared.now
             → Fed (settings_of self.now) (network self.now) id path (token.now ∷ []) state.old state.new out.old.items out.new.items) }
         ensures lines { OnOk result (state.new.lines + length out.old.items ≤ state.old.lines + length out.new.items) }
         ensures records { OnOk result (state.new.records ≡ state.old.records + 1) }
         ensures states { OnOk result (HaveKinds self.now state.new.states.items) }
         ensures many { length state.new.states.items ≡ length state.old.states.items }
+        ensures empty { OnOk result (buffers.new.emitted.items ≡ []) }
     {
         graph::begin(&self.graph);
         lines_append();
@@ -171,10 +177,11 @@ impl Pipeline {
             return Ok(());
         };
         let entry = self.entry(alloc, shared, state.records, body)?;
-        let item = Record::new(alloc, entry)?;
-        let mut made = Vec::new(alloc);
-        self.graph.push(alloc, &mut state.states, item, &mut made)?;
-        append_lines(alloc, id, &mut state.lines, &made, out)?;
+        let item = buffers.next(alloc, entry)?;
+        let (emitted, made) = (&mut buffers.emitted, &mut buffers.made);
+        self.graph
+            .push_by(alloc, &mut state.states, item, emitted, made)?;
+        append_lines(alloc, id, &mut state.lines, made, out)?;
         Ok(())
     }
 }

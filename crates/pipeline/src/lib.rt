@@ -13,6 +13,7 @@
 ghost use Rattle.std.specs.Prelude.{◌≡◌, ◌≤◌};
 ghost use Rattle.pipeline.specs.Splitters.{multiline_of};
 
+mod buffers;
 mod build;
 mod entry;
 mod fault;

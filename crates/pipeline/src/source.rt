@@ -13,8 +13,16 @@ use std::alloc::{AllocError, Global};
 pub(crate) enum Source {
     /// Without operators: each by what the lines share.
     Lines(Template),
-    /// Through the operators: each as an entry with these attributes.
-    Entries(Fields),
+    /// Through the operators: each as an entry.
+    Entries(Shared),
+}
+
+/// What the entries of a file share.
+#[derive(Drop)]
+pub(crate) struct Shared {
+    pub(crate) attributes: Fields,
+    /// The attribute that has a record's number, where one is asked for.
+    pub(crate) number: Option<Text>,
 }
 
 impl Pipeline {
@@ -22,11 +30,11 @@ impl Pipeline {
         ensures { IfOk result (IsSource self.now id path.now) }
     {
         let attributes = self.file_attributes(alloc, path)?;
+        let number = self.number_name(alloc)?;
         if !self.graph.nodes().is_empty() {
-            return Ok(Source::Entries(attributes));
+            return Ok(Source::Entries(Shared { attributes, number }));
         }
         let resource = self.settings.resource.as_fields();
-        let number = self.number_name(alloc)?;
         let template = Template::new(alloc, id, resource, attributes, number)?;
         Ok(Source::Lines(template))
     }

@@ -2,6 +2,7 @@ use Rattle.std.proofs.Common.{◌≡◌, ◌∙◌, ap, sym, refl, Option, None,
 use Rattle.entry_model.specs.declared.value.Value.{Value}
 use Rattle.entry_model.specs.Datum.{datum}
 use Rattle.entry_model.proofs.Data.{datum_map}
+use Rattle.entry_model.proofs.Nesting.{keys_ascend}
 use Rattle.field_paths.proofs.Entries.{member_at-seen}
 use Rattle.field_paths.proofs.get.member_of.Goals as goal
 
@@ -9,6 +10,9 @@ seen : (r : Option (Bor Value)) → option_map (λ (member : Bor Value). datum m
 seen None = refl
 seen (Some member) = refl
 
-pub returns : goal.returns
-returns c = rw (c.in-Map.is, datum_map c.in-Map.fields)
+pub returns-clause-value : goal.returns-clause-value
+returns-clause-value c = rw (c.in-Map.is, datum_map c.in-Map.fields)
     (seen c.get.result ∙ ap (option_map datum) c.get.ensures.value ∙ sym (member_at-seen c.args.name.now c.in-Map.fields.entries))
+
+pub returns-clause-ascend : goal.returns-clause-ascend
+returns-clause-ascend c = rw (c.in-Map.is, datum_map c.in-Map.fields) (keys_ascend c.in-Map.fields.entries c.len-len.ensures.ordered)

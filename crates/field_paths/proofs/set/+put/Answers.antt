@@ -1,16 +1,23 @@
-use Rattle.std.proofs.Common.{◌≡◌, ◌∷◌, ◌∙◌, ap, None, sym, ℕ, List}
+use Rattle.std.proofs.Common.{◌≡◌, ◌∷◌, ◌∙◌, ap, None, sym, ℕ, List, length}
 use Rattle.std.specs.BTreeMap.{BTreeMap, insert_entry}
 use Rattle.std.specs.Ordering.{nat_cmp}
 use Rattle.std.specs.Cmp.Lexicographic.{slice_cmp}
 use Rattle.entry_model.specs.declared.value.Value.{Value}
+use Rattle.std.proofs.lemmas.Bool.{eqb-true}
 use Rattle.std.proofs.lemmas.Result.{on_ok_weaker, on_err_weaker, IfErr-weaker}
 use Rattle.entry_model.specs.Datum.{datum}
 use Rattle.field_paths.specs.Change.{with_value}
 use Rattle.field_paths.specs.MapOf.{map_of}
 use Rattle.field_paths.specs.declared.path.SetFault.{SetFault}
 use Rattle.field_paths.specs.declared.path.SetFault.TheVariants.{NotAMap}
-use Rattle.field_paths.proofs.Steps.{member_put, member_kept, member_refused, member_made}
+use Rattle.field_paths.proofs.Cases.{nothing_left}
+use Rattle.field_paths.proofs.Steps.{last_put, member_put, member_kept, member_refused, member_made}
 use Rattle.field_paths.proofs.set.+put.Goals as goal
+
+pub put_member-returns-then-is_empty-clause-ok : goal.put_member-returns-then-is_empty-clause-ok
+put_member-returns-then-is_empty-clause-ok t c =
+    let last = nothing_left c.args.names.now (eqb-true (length c.args.names.now) 0 (sym c.is_empty.ensures ∙ c.if-is_empty.true)) in
+    last_put c.args.name.now c.args.members.now.entries c.insert.new.fields.entries c.args.value c.args.names.now last c.in_ok-insert.ensures.ok
 
 pub put_member-returns-in-Some-clause-ok : goal.put_member-returns-in-Some-clause-ok
 put_member-returns-in-Some-clause-ok t c =
@@ -40,7 +47,7 @@ pub put_member-returns-clause-ok : goal.put_member-returns-clause-ok
 put_member-returns-clause-ok t c =
     let name = c.args.name.now in
     let made = c.in_ok-member.member in
-    let same = c.in_ok-insert.ensures.ok
+    let same = c.in_ok-insert-2.ensures.ok
     ∙ ap (λ (members : BTreeMap (List ℕ) Value). insert_entry (slice_cmp nat_cmp) members.entries name made) c.get_mut.follows.holds-at-none in
-    member_made name c.args.members.now.entries c.insert.new.fields.entries made c.args.names.now (datum c.args.value)
+    member_made name c.args.members.now.entries c.insert-2.new.fields.entries made c.args.names.now (datum c.args.value)
     (sym c.in_default.ensures.value) same c.in_ok-member.ensures

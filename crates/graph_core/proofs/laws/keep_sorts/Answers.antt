@@ -1,6 +1,5 @@
 use Rattle.std.proofs.Common.{◌+◌, ap, ◌∙◌, arith, ◌≡◌}
 use Rattle.std.specs.Prelude.{slice_get}
-use Rattle.graph_core.specs.Closing.{closing_order}
 use Rattle.graph_core.specs.Traces.{network_of, calls_for}
 use Rattle.graph_core.proofs.Sorts.{along}
 use Rattle.graph_core.proofs.laws.keep_sorts.Goals as goal

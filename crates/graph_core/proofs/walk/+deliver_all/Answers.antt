@@ -36,7 +36,7 @@ loop-to-preserved g t c = record {
   leads = rest_leads (edges_of (wiring_of c.args.graph.now)) c.args.node (c.in-Some.to, c.in-Some.item) c.loop-to.queue.items c.pop_front.new.self.items c.in-Some.ensures.items c.loop-to.invariant.leads;
   walks = λ t p w. c.loop-to.invariant.walks t p
       (serve_call (network_of g.O.Step.behavior c.args.graph.now) c.loop-to.states.items c.deliver_all.new.states.items t c.loop-to.out.items c.deliver_all.new.out.items p c.in-Node.next c.in-Some.to c.in-Some.item
-      c.loop-to.queue.items c.pop_front.new.self.items _ c.step_node.new.states.items c.in-Some.ensures.items c.in-Node.is c.in_ok-said-in-Node.ensures.state c.in_ok-said-in-Node.ensures.said
+      c.loop-to.queue.items c.pop_front.new.self.items _ c.step_node.new.states.items c.in-Some.ensures.items c.in-Node.is c.in_ok-step_node-in-Node.ensures.state c.in_ok-step_node-in-Node.ensures.said
       c.in_ok-deliver_all-in-Node.ensures.walks w);
 }
 

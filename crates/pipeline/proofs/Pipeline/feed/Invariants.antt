@@ -1,12 +1,12 @@
-use Rattle.std.proofs.Common.{◌≡◌, ◌+◌, ◌-◌, ◌≤◌, length, drop}
+use Rattle.std.proofs.Common.{◌≡◌, ◌+◌, ◌-◌, ◌≤◌, [], length, drop}
 use Rattle.pipeline.specs.Parts.{settings_of, network, HaveKinds}
 use Rattle.pipeline.specs.Sources.{IsSource}
 use Rattle.pipeline.proofs.Feeding.{FeedsOn}
 use Rattle.pipeline.proofs.Pipeline.feed.Given as goal
 
 -- what was fed, and what is left
-abbrev pub invariant-loop-source : goal.invariant-loop-source
-invariant-loop-source l = record {
+abbrev pub invariant-loop-buffers : goal.invariant-loop-buffers
+invariant-loop-buffers l = record {
   source : IsSource l.self l.id l.path l.source;
   within : l.at ≤ length l.bytes;
   feeds : FeedsOn (settings_of l.self) (network l.self) l.id l.path l.bytes (drop l.at l.bytes) l.at l.fn.state l.state l.fn.out.items l.out.items;
@@ -14,7 +14,8 @@ invariant-loop-source l = record {
   lines : l.state.lines + length l.fn.out.items ≤ l.fn.state.lines + length l.out.items;
   kinds : HaveKinds l.self l.state.states.items;
   states : length l.state.states.items ≡ length l.fn.state.states.items;
+  empty : l.buffers.emitted.items ≡ [];
 }
 
-abbrev pub decreases-loop-source : goal.decreases-loop-source
-decreases-loop-source l = length l.bytes - l.at
+abbrev pub decreases-loop-buffers : goal.decreases-loop-buffers
+decreases-loop-buffers l = length l.bytes - l.at

@@ -29,19 +29,19 @@ returns-clause-fed c = λ path shared.
     let net = network c.args.self.now in
     let records = c.args.state.now.records in
     let record_of_it = record_with settings path (records + 1) (text_of settings c.args.token.now) in
-    let item : c.in_ok-item.item ≡ record_of_it = c.in_ok-item.ensures ∙ entry in
-    let pushed : Served net c.args.state.now.states.items [] (inputs net (c.in_ok-item.item ∷ [])) c.push.new.states.items c.push.new.out.items = rw c.new-made.ensures.items at c.in_ok-push.ensures.served in
-    let written : c.append_lines.new.out.items ≡ c.args.out.now.items ++ output_lines c.args.id (c.args.state.now.lines + 1) c.push.new.out.items = rw c.deref.ensures.value at c.in_ok-append_lines.ensures.written in
-    let lines : c.append_lines.new.lines ≡ c.args.state.now.lines + length c.push.new.out.items = rw c.deref.ensures.value at c.in_ok-append_lines.ensures.lines in
-    one_fed settings net c.args.id path c.args.token.now record_of_it c.push.new.out.items _ _ _ _
+    let item : c.in_ok-item.item ≡ record_of_it = c.in_ok-item.ensures.item ∙ entry in
+    let pushed : Served net c.args.state.now.states.items [] (inputs net (c.in_ok-item.item ∷ [])) c.push_by.new.states.items c.push_by.new.out.items = rw c.next.ensures.made at c.in_ok-push_by.ensures.served in
+    let written : c.append_lines.new.out.items ≡ c.args.out.now.items ++ output_lines c.args.id (c.args.state.now.lines + 1) c.push_by.new.out.items = rw c.deref.ensures.value at c.in_ok-append_lines.ensures.written in
+    let lines : c.append_lines.new.lines ≡ c.args.state.now.lines + length c.push_by.new.out.items = rw c.deref.ensures.value at c.in_ok-append_lines.ensures.lines in
+    one_fed settings net c.args.id path c.args.token.now record_of_it c.push_by.new.out.items _ _ _ _
     (record_one settings path records c.args.token.now some)
-    (subst (λ i. Served net c.args.state.now.states.items [] (inputs net (i ∷ [])) c.push.new.states.items c.push.new.out.items) item pushed) refl lines written
+    (subst (λ i. Served net c.args.state.now.states.items [] (inputs net (i ∷ [])) c.push_by.new.states.items c.push_by.new.out.items) item pushed) refl lines written
 
 pub returns-clause-states : goal.returns-clause-states
 returns-clause-states c =
     let nodes = c.args.self.now.graph in
     let net = network c.args.self.now in
-    rw (c.in_ok-push.ensures.served.states) (kinds_kept nodes c.args.state.now.states.items (inputs net (c.in_ok-item.item ∷ [])) c.requires.states)
+    rw (c.in_ok-push_by.ensures.served.states) (kinds_kept nodes c.args.state.now.states.items (inputs net (c.in_ok-item.item ∷ [])) c.requires.states)
 
-pub push-requires : goal.push-requires
-push-requires c = as_many c.args.self.now.graph c.args.state.now.states.items c.requires.states
+pub push_by-requires-clause-states : goal.push_by-requires-clause-states
+push_by-requires-clause-states c = as_many c.args.self.now.graph c.args.state.now.states.items c.requires.states

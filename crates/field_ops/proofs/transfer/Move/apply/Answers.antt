@@ -1,11 +1,15 @@
-use Rattle.std.proofs.Common.{◌∙◌, ap, sym}
-use Rattle.field_paths.specs.declared.path.Root.{Root}
-use Rattle.field_ops.specs.Roots.{same_root}
-use Rattle.field_ops.proofs.Moved.{differ}
+use Rattle.std.proofs.Common.{◌∙◌}
+use Rattle.std.proofs.lemmas.Result.{on_ok_weaker, IfErr-weaker}
+use Rattle.entry_model.specs.LogRecord.{log_record}
+use Rattle.field_ops.proofs.Moved.{moved_over}
 use Rattle.field_ops.proofs.transfer.Move.apply.Goals as goal
 
-pub between_roots-requires : goal.between_roots-requires
-between_roots-requires c =
-    let place = c.args.self.now in
-    differ place.from.root place.to.root
-    (ap (λ (r : Root). same_root r place.to.root) (sym c.root.ensures) ∙ ap (same_root c.root.result) (sym c.root-2.ensures) ∙ sym c.is_same.ensures ∙ c.if-is_same.false)
+pub returns-in-Below-clause-ok : goal.returns-in-Below-clause-ok
+returns-in-Below-clause-ok c =
+    let over = moved_over c.args.self.now.from c.args.self.now.to (log_record c.args.entry.now) c.in-Below.ensures in
+    on_ok_weaker c.put_copy.result (λ put. over ∙ put) c.put_copy.ensures.ok
+
+pub returns-in-Below-clause-fault : goal.returns-in-Below-clause-fault
+returns-in-Below-clause-fault c =
+    let over = moved_over c.args.self.now.from c.args.self.now.to (log_record c.args.entry.now) c.in-Below.ensures in
+    IfErr-weaker c.put_copy.result _ _ (λ fault refused known. over ∙ refused known) c.put_copy.ensures.fault

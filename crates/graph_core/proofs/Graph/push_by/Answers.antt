@@ -2,7 +2,7 @@ use Rattle.std.proofs.Common.{[], ◌∷◌}
 use Rattle.std.proofs.lemmas.Result.{IfOk-weaker}
 use Rattle.graph_core.specs.Traces.{network_of, inputs}
 use Rattle.graph_core.proofs.Pushing.{served, one_more}
-use Rattle.graph_core.proofs.Graph.push.Goals as goal
+use Rattle.graph_core.proofs.Graph.push_by.Goals as goal
 
 pub returns-clause-served : goal.returns-clause-served
 returns-clause-served g c =
