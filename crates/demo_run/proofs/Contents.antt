@@ -11,7 +11,7 @@ use Rattle.outside.specs.World.{Event, create, append, rename, History, bytes}
 
 -- ---- the file of each round
 
-abbrev chosen : Option ℕ → ℕ → ℕ
+abbrev pub chosen : Option ℕ → ℕ → ℕ
 chosen (Some file) next = file
 chosen None next = next
 
@@ -146,7 +146,7 @@ first_line n file true is empty filled = record {
 }
 first_line n file false is empty filled = absurd (omega (arith, filled, ap length empty, length-append (content n file) []))
 
-no_length : (text : List ℕ) → length text ≡ 0 → text ≡ []
+pub no_length : (text : List ℕ) → length text ≡ 0 → text ≡ []
 no_length [] none = refl
 no_length (byte ∷ text) none = absurd (omega (arith, none))
 

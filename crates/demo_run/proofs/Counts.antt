@@ -71,7 +71,7 @@ stops_are (Reopen ∷ before) = more_stops _ _ _ _ (stops_are before) (stop_is b
 abbrev pub Counts : ℕ → ℕ → List Move → Type 0
 Counts polls stops moves = (polls_in moves ≡ polls) × (stops_in moves ≡ stops) × (stop_in moves ≡ None)
 
-abbrev Has : ℕ → ℕ → Played → Type 0
+abbrev pub Has : ℕ → ℕ → Played → Type 0
 Has polls stops played = Counts polls stops (latest played)
 
 by_latest : (P : List Move → Type 0) (move : Move) (played : Played) → P (move ∷ latest played) → P (latest (with_move move played))
@@ -87,7 +87,7 @@ module _ (polls stops : ℕ) where
   keeps_rotation : (round : ℕ) (played : Played) → Has polls stops played → Has polls stops (with_rotation round played)
   keeps_rotation round played has = by_rotation (Has polls stops) round played (λ due file is. by_latest (Counts polls stops) (step (rename file (rotated_name round))) played has) has
 
-  keeps_all : (n : ℕ) → Has polls stops (played n) → Has polls stops (rotated n)
+  pub keeps_all : (n : ℕ) → Has polls stops (played n) → Has polls stops (rotated n)
   keeps_all n has = keeps_rotation (suc n) (lined n) (keeps_line (suc n) (filed n) (keeps_file (suc n) (played n) has))
 
 -- one more where the number is a multiple of seven

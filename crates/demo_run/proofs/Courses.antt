@@ -23,7 +23,7 @@ NonePlanned (poll ∷ before) = NonePlanned before
 NonePlanned (stop _ _ ∷ before) = NonePlanned before
 NonePlanned (reopen ∷ before) = NonePlanned before
 
-no_plan : (events : List Event) → NonePlanned (map move_of events) → plan_of events ≡ []
+pub no_plan : (events : List Event) → NonePlanned (map move_of events) → plan_of events ≡ []
 no_plan [] none = refl
 no_plan (World _ ∷ before) none = no_plan before none
 no_plan (During _ _ ∷ before) none = absurd none

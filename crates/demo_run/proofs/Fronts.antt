@@ -27,7 +27,7 @@ no_blanks (digit ∷ digits) all = (λ blank. (let never : 36 < 10 = subst (λ (
 number_plain : (round : ℕ) → round ≤ 1000 → NoBlank (decimal round)
 number_plain round few = no_blanks (decimal round) (decimal_is_IsNumeral round (omega (arith, few))).0.1
 
-line_short : (round : ℕ) → round ≤ 1000 → length (line_of round) ≤ 16
+pub line_short : (round : ℕ) → round ≤ 1000 → length (line_of round) ≤ 16
 line_short round few =
     let number : List ℕ = decimal round in
     let log : List ℕ = decimal (log_of round) in
@@ -116,7 +116,7 @@ module _ (most size : ℕ) (few : most ≤ 1000) (wide : 16 ≤ size) where
 
 -- ---- histories
 
-steps_append : (later moment : History) → steps_of (later ++ moment) ≡ steps_of later ++ steps_of moment
+pub steps_append : (later moment : History) → steps_of (later ++ moment) ≡ steps_of later ++ steps_of moment
 steps_append [] moment = refl
 steps_append (create file path ∷ later) moment = ap (λ (h : History). create file path ∷ h) (steps_append later moment)
 steps_append (append file more ∷ later) moment = ap (λ (h : History). append file more ∷ h) (steps_append later moment)
@@ -126,7 +126,7 @@ steps_append (look _ ∷ later) moment = steps_append later moment
 steps_append (miss _ ∷ later) moment = steps_append later moment
 steps_append (unlisted _ ∷ later) moment = steps_append later moment
 
-bytes_of_steps : (history : History) (file : ℕ) → bytes history file ≡ bytes (steps_of history) file
+pub bytes_of_steps : (history : History) (file : ℕ) → bytes history file ≡ bytes (steps_of history) file
 bytes_of_steps [] file = refl
 bytes_of_steps (create _ _ ∷ before) file = bytes_of_steps before file
 bytes_of_steps (append other more ∷ before) file = ap (λ (b : List ℕ). b ++ (if other == file then more else [])) (bytes_of_steps before file)

@@ -33,7 +33,7 @@ pub record Keeps (files lines output : ℕ) (image : Image DiskFile) : Type 0 wh
   pub output_is : output ≡ kept_by checkpoint
 
 -- So many rounds, each with a poll, and in each seventh with one more, which is stopped. The script had this ending, in whose
--- history the steps of others are those of the rounds, and the other numbers are those of its disk.
+-- history the steps of others are those of the rounds, and the other numbers are those of its disk. Each round's line is kept.
 pub record IsDemo (rounds : ℕ) (demo : Demo) : Type 0 where
   pub rounds_are : demo.rounds ≡ rounds
   pub polls : demo.polls ≡ rounds + rounds / 7
@@ -44,3 +44,4 @@ pub record IsDemo (rounds : ℕ) (demo : Demo) : Type 0 where
   pub ends : IsEnding settings_text events ending
   pub steps : IsOfRounds rounds (history_of ending.tree)
   pub keeps : Keeps demo.files demo.lines demo.output (seen_of ending.disk)
+  pub every_line : demo.lines ≡ rounds
