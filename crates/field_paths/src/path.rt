@@ -37,6 +37,13 @@ impl FieldPath {
         self.root
     }
 
+    /// The names of the members down from the root.
+    pub fn names(&self) -> &[Text]
+        ensures { result.now ≡ self.now.names }
+    {
+        &self.names
+    }
+
     /// Whether the path has no member.
     pub fn is_root(&self) -> bool
         ensures { IsTrue result ↔ (self.now.names ≡ []) }
