@@ -1,6 +1,9 @@
 pub mod Held
+pub mod Kept
 pub mod Moved
 pub mod Taken
 pub mod Retained
 pub mod Listed
 pub mod Rooted
+pub mod Raised
+pub mod Entered

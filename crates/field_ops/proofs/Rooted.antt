@@ -12,12 +12,12 @@ use Rattle.field_paths.specs.declared.path.Root.TheVariants.{Body, Attributes, R
 use Rattle.field_ops.specs.Roots.{no_fields, is_body, is_attributes, is_resource, any_root, with_roots}
 use Rattle.field_ops.specs.Rows.{emptied, with_found, with_listed, retained}
 
-abbrev Named : Bool → Bool → Bool → Root → Type 0
+abbrev pub Named : Bool → Bool → Bool → Root → Type 0
 Named b a r Body = b ≡ true
 Named b a r Attributes = a ≡ true
 Named b a r Resource = r ≡ true
 
-abbrev AllNamed : Bool → Bool → Bool → List Place → Type 0
+abbrev pub AllNamed : Bool → Bool → Bool → List Place → Type 0
 AllNamed b a r [] = Unit {0}
 AllNamed b a r (field ∷ listed) = Named b a r field.root × AllNamed b a r listed
 
@@ -94,7 +94,7 @@ first_named Body b a r = refl
 first_named Attributes b a r = refl
 first_named Resource b a r = refl
 
-all_named : (listed : List Place) → AllNamed (any_root is_body listed) (any_root is_attributes listed) (any_root is_resource listed) listed
+pub all_named : (listed : List Place) → AllNamed (any_root is_body listed) (any_root is_attributes listed) (any_root is_resource listed) listed
 all_named [] = tt
 all_named (field ∷ listed) = (
   first_named field.root (any_root is_body listed) (any_root is_attributes listed) (any_root is_resource listed),

@@ -17,6 +17,10 @@ no_fields = record {
   severity_text = [];
 }
 
+-- the place of a whole root
+abbrev pub root_place : Root → Place
+root_place root = record { root = root; names = [] }
+
 abbrev pub is_body : Root → Bool
 is_body Body = true
 is_body Attributes = false

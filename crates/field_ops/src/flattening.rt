@@ -1,19 +1,21 @@
 // Flattening a map into the one that holds it.
-ghost use Rattle.std.specs.Prelude.{◌≡◌, ◌≢◌, [], OnOk, OnErr, IfOk, IfErr, Ok, Err, Some, IfSome, IfNone};
+ghost use Rattle.std.specs.Prelude.{◌≡◌, ◌≢◌, [], OnOk, OnErr, IfOk, IfErr, Ok, Err, Some, IsTrue};
 ghost use Rattle.std.specs.BTreeMap.{insert_entry};
 ghost use Rattle.std.specs.Cmp.Lexicographic.{slice_cmp};
 ghost use Rattle.std.specs.Ordering.{nat_cmp};
-ghost use Rattle.entry_model.specs.Datum.{datum, fields, Members};
+ghost use Rattle.entry_model.specs.Datum.{datum, fields, Members, is_map};
 ghost use Rattle.entry_model.specs.LogRecord.{log_record, members_in};
 ghost use Rattle.field_paths.specs.MapOf.{members_seen};
 ghost use Rattle.field_paths.specs.Members.{member_at};
 ghost use Rattle.field_ops.specs.Outcome.{Outcome, where_found};
+ghost use Rattle.field_ops.specs.Roots.{root_place};
 ghost use Rattle.field_ops.specs.Rows.{flattened, member_of, with_members, raised_in, where_a_map};
 ghost use Rattle.field_ops.specs.declared.fault.FieldFault.TheVariants.{Memory};
 
 use crate::FieldFault;
+use crate::raising::{is_apart, raise_in_place};
 use entry_model::{Entry, Fields, Text, Value};
-use field_paths::FieldPath;
+use field_paths::{FieldPath, Root};
 use std::alloc::{AllocError, Global};
 
 /// Puts the members of a map into the map that holds it, in its place.
@@ -42,6 +44,19 @@ impl Flatten {
             → flattened self.now.parent self.now.name (log_record entry.old) ≡ Err fault) }
         ensures err { OnErr result (log_record entry.new ≡ log_record entry.old) }
     {
+        if !self.parent.is_root() {
+            return self.flatten_below(alloc, entry);
+        }
+        flatten_root(alloc, self.parent.root(), entry, &self.name)
+    }
+
+    fn flatten_below(&self, alloc: Global, entry: &mut Entry) -> Result<(), FieldFault>
+        ensures ok { OnOk result (flattened self.now.parent self.now.name (log_record entry.old)
+            ≡ Ok (log_record entry.new)) }
+        ensures fault { IfErr result (λ fault. fault ≢ Memory
+            → flattened self.now.parent self.now.name (log_record entry.old) ≡ Err fault) }
+        ensures err { OnErr result (log_record entry.new ≡ log_record entry.old) }
+    {
         let Some(holder) = self.parent.get(entry) else {
             return Err(FieldFault::Missing);
         };
@@ -49,6 +64,38 @@ impl Flatten {
         self.parent.set(alloc, entry, changed)?;
         Ok(())
     }
+}
+
+/// Flattens a map that a root of the entry holds.
+fn flatten_root(alloc: Global, root: Root, entry: &mut Entry, name: &Text) -> Result<(), FieldFault>
+    ensures ok { OnOk result (flattened (root_place root) name.now (log_record entry.old) ≡ Ok (log_record entry.new)) }
+    ensures fault { IfErr result (λ fault. fault ≢ Memory
+        → flattened (root_place root) name.now (log_record entry.old) ≡ Err fault) }
+    ensures err { OnErr result (log_record entry.new ≡ log_record entry.old) }
+{
+    match root {
+        Root::Body => flatten_in(alloc, &mut entry.body, name),
+        Root::Attributes => flatten_in(alloc, &mut entry.attributes, name),
+        Root::Resource => flatten_in(alloc, &mut entry.resource, name),
+    }
+}
+
+fn flatten_in(alloc: Global, holder: &mut Value, name: &Text) -> Result<(), FieldFault>
+    ensures ok { OnOk result ((raised : Members)
+        × (member_at name.now (members_in (datum holder.old)) ≡ Some (fields raised))
+        × (datum holder.new ≡ raised_in name.now (datum holder.old) raised)) }
+    ensures fault { IfErr result (λ fault. fault ≢ Memory → (then_so : Members → Outcome)
+        → where_found (member_at name.now (members_in (datum holder.old))) (λ value. where_a_map value then_so)
+        ≡ Err fault) }
+    ensures err { OnErr result (datum holder.new ≡ datum holder.old) }
+    ensures map { IsTrue (is_map holder.old) → IsTrue (is_map holder.new) }
+{
+    if is_apart(holder, name) {
+        return raise_in_place(holder, name);
+    }
+    // What a raised member replaces has to come back on a fault.
+    *holder = flatten_member(alloc, holder, name)?;
+    Ok(())
 }
 
 /// The map that holds a member, with the members of that member in its place.
@@ -84,8 +131,9 @@ pub(crate) fn raise(raised: Fields, members: &mut Fields) -> Result<(), AllocErr
     Ok(())
 }
 
-fn insert(members: &mut Fields, name: Text, value: Value) -> Result<(), AllocError>
-    ensures { OnOk result (members.new.entries ≡ insert_entry (slice_cmp nat_cmp) members.old.entries name value) }
+pub(crate) fn insert(members: &mut Fields, name: Text, value: Value) -> Result<(), AllocError>
+    ensures ok { OnOk result (members.new.entries ≡ insert_entry (slice_cmp nat_cmp) members.old.entries name value) }
+    ensures err { OnErr result (members.new.entries ≡ members.old.entries) }
 {
     members.insert(name, value)?;
     Ok(())

@@ -8,8 +8,10 @@
 
 mod fault;
 mod flattening;
+mod keeping;
 pub mod laws;
 mod merging;
+mod raising;
 mod retaining;
 mod root;
 mod single;

@@ -9,6 +9,7 @@ ghost use Rattle.field_paths.specs.ValueAt.{datum_at};
 ghost use Rattle.field_ops.specs.declared.fault.FieldFault.TheVariants.{Memory};
 
 use crate::FieldFault;
+use crate::keeping::{are_members, keep_members};
 use crate::root::begins_any;
 use entry_model::{Entry, Fields, Severity, Text, Value};
 use field_paths::{FieldPath, Root, SetFault};
@@ -33,6 +34,10 @@ impl Retain {
         ensures fault { IfErr result (λ fault. fault ≡ Memory) }
         ensures err { OnErr result (log_record entry.new ≡ log_record entry.old) }
     {
+        if are_members(&self.fields) {
+            keep_members(alloc, &self.fields, entry);
+            return Ok(());
+        }
         let mut kept = with_empty_maps(alloc);
         keep_listed(alloc, &self.fields, entry, &mut kept)?;
         move_roots(&self.fields, kept, entry);

@@ -240,6 +240,85 @@ fn raised_members_win(rt: HostRuntime) -> Result<(), Fail> {
     Ok(())
 }
 
+// A member of each letter, with this number.
+fn put_letters(
+    alloc: Global,
+    fields: &mut Fields,
+    letters: &str,
+    number: i64,
+) -> Result<(), AllocError> {
+    for letter in letters.chars() {
+        let mut name = String::new(alloc);
+        name.push(letter)?;
+        fields.insert(Text::new(name)?, Value::Int(number))?;
+    }
+    Ok(())
+}
+
+// The names of the members, each with a `+` behind where its number isn't zero.
+fn letters_of(alloc: Global, value: Option<&Value>) -> Result<String, Fail> {
+    let mut letters = String::new(alloc);
+    let Some(Value::Map(members)) = value else {
+        return Ok(letters);
+    };
+    for (name, value) in members.iter() {
+        letters.push_str(name.as_str())?;
+        if *value != Value::Int(0) {
+            letters.push('+')?;
+        }
+    }
+    Ok(letters)
+}
+
+// What becomes of a map at a field, which holds a map `m`.
+fn flattened(
+    alloc: Global,
+    (field, inner): (&str, &str),
+    beside: &str,
+    raised: &str,
+) -> Result<String, Fail> {
+    let mut members = map(alloc);
+    put_letters(alloc, &mut members, raised, 1)?;
+    let mut holder = map(alloc);
+    put_letters(alloc, &mut holder, beside, 0)?;
+    put(alloc, &mut holder, "m", Value::Map(members))?;
+    let mut entry = sample(alloc)?;
+    path(alloc, field)?.set(alloc, &mut entry, Value::Map(holder))?;
+    flatten(alloc, &mut entry, inner)??;
+    letters_of(alloc, path(alloc, field)?.get(&entry))
+}
+
+#[test]
+fn raised_members_stand_among_those_beside(rt: HostRuntime) -> Result<(), Fail> {
+    let alloc = rt.alloc();
+    let places = [
+        ("body", "body.m"),
+        ("attributes", "attributes.m"),
+        ("resource", "resource.m"),
+        ("body.a.b", "body.a.b.m"),
+    ];
+    let table = [
+        ("ac", "bd", "ab+cd+"),
+        ("xz", "ab", "a+b+xz"),
+        ("ac", "ab", "a+b+c"),
+        ("a", "bm", "ab+m+"),
+        ("a", "m", "am+"),
+        ("ac", "", "ac"),
+        ("", "ab", "a+b+"),
+        ("", "", ""),
+    ];
+    for place in places {
+        for (beside, raised, expected) in table {
+            assert_eq!(rt;
+                flattened(alloc, place, beside, raised)?.as_str(),
+                expected,
+                "{raised} among {beside}"
+            );
+        }
+    }
+    Ok(())
+}
+
 // Which of these fields are there, as letters.
 fn fields_there(alloc: Global, entry: &Entry) -> Result<String, Fail> {
     let mut letters = String::new(alloc);
@@ -249,6 +328,8 @@ fn fields_there(alloc: Global, entry: &Entry) -> Result<String, Fail> {
         ('c', "body.c"),
         ('x', "attributes.x"),
         ('y', "attributes.y"),
+        ('r', "resource.r"),
+        ('s', "resource.s"),
     ] {
         if path(alloc, field)?.get(entry).is_some() {
             letters.push(letter)?;
@@ -257,12 +338,23 @@ fn fields_there(alloc: Global, entry: &Entry) -> Result<String, Fail> {
     Ok(letters)
 }
 
-fn kept(alloc: Global, first: &str, second: &str) -> Result<String, Fail> {
+fn retain(alloc: Global, listed: &[&str], entry: &mut Entry) -> Result<(), Fail> {
     let mut fields = Vec::new(alloc);
-    fields.push(path(alloc, first)?)?;
-    fields.push(path(alloc, second)?)?;
+    for field in listed {
+        fields.push(path(alloc, field)?)?;
+    }
+    Retain::new(fields).apply(alloc, entry)?;
+    Ok(())
+}
+
+// Of the sample with {r: 1, s: 2} as its resource.
+fn kept(alloc: Global, listed: &[&str]) -> Result<String, Fail> {
     let mut entry = sample(alloc)?;
-    Retain::new(fields).apply(alloc, &mut entry)?;
+    let mut resource = map(alloc);
+    put(alloc, &mut resource, "r", Value::Int(1))?;
+    put(alloc, &mut resource, "s", Value::Int(2))?;
+    entry.resource = Value::Map(resource);
+    retain(alloc, listed, &mut entry)?;
     fields_there(alloc, &entry)
 }
 
@@ -270,25 +362,48 @@ fn kept(alloc: Global, first: &str, second: &str) -> Result<String, Fail> {
 fn retains(rt: HostRuntime) -> Result<(), Fail> {
     let alloc = rt.alloc();
     let table = [
-        ("attributes.x", "attributes.x", "abcx"),
-        ("attributes.y", "attributes.zz", "abcy"),
-        ("attributes", "attributes.x", "abcxy"),
+        ("attributes.x", "attributes.x", "abcxrs"),
+        ("attributes.y", "attributes.zz", "abcyrs"),
+        ("attributes", "attributes.x", "abcxyrs"),
         ("attributes.zz", "resource.a", "abc"),
-        ("body.a", "body.a.b", "abxy"),
-        ("body.a.b", "body.a", "abxy"),
-        ("body.a.a", "body.zz", "axy"),
-        ("body.c", "attributes.x", "cx"),
-        ("body", "body.c", "abcxy"),
-        ("resource.a", "resource", "abcxy"),
-        ("body.c.d", "attributes.y", "y"),
+        ("resource.s", "attributes.x", "abcxs"),
+        ("attributes.a", "body.x", "rs"),
+        ("body.zz", "body.c", "cxyrs"),
+        ("body.a", "body.a", "abxyrs"),
+        ("body.a", "body.a.b", "abxyrs"),
+        ("body.a.b", "body.a", "abxyrs"),
+        ("body.a.a", "body.zz", "axyrs"),
+        ("body.a.b", "body.c", "abcxyrs"),
+        ("body.c", "attributes.x", "cxrs"),
+        ("body", "body.c", "abcxyrs"),
+        ("resource.a", "resource", "abcxyrs"),
+        ("body.c.d", "attributes.y", "yrs"),
     ];
     for (first, second, expected) in table {
         assert_eq!(rt;
-            kept(alloc, first, second)?.as_str(),
+            kept(alloc, &[first, second])?.as_str(),
             expected,
             "{first} and {second}"
         );
     }
+    let each_root = ["body.c", "attributes.y", "resource.r"];
+    assert_eq!(rt; kept(alloc, &each_root)?.as_str(), "cyr");
+    Ok(())
+}
+
+// The values of what is kept, and a body that is no map.
+#[test]
+fn retained_members_have_their_values(rt: HostRuntime) -> Result<(), Fail> {
+    let alloc = rt.alloc();
+    let mut entry = Entry::new(alloc, Text::from_str(alloc, "s")?)?;
+    entry.attributes = Value::Map(pair(alloc)?);
+    retain(alloc, &["attributes.b"], &mut entry)?;
+    let mut left = map(alloc);
+    put(alloc, &mut left, "b", Value::Int(2))?;
+    assert!(rt; entry.attributes == Value::Map(left));
+    assert!(rt; entry.body == text(alloc, "s")?);
+    retain(alloc, &["body.s"], &mut entry)?;
+    assert!(rt; entry.body == Value::Map(map(alloc)));
     Ok(())
 }
 

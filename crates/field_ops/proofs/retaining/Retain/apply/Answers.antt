@@ -13,6 +13,6 @@ returns-clause-ok c =
     let kept = log_record c.keep_listed.new.kept in
     retained_by_roots listed before kept (log_record c.move_roots.new.entry)
     (c.in_ok-keep_listed.ensures
-    ∙ ap (λ (l : List Place). with_listed l before (log_record c.with_empty_maps-kept.result)) c.deref.ensures.value
+    ∙ ap (λ (l : List Place). with_listed l before (log_record c.with_empty_maps-kept.result)) c.deref-2.ensures.value
     ∙ ap (with_listed listed before) c.with_empty_maps-kept.ensures)
-    (c.move_roots.ensures ∙ ap (λ (l : List Place). with_roots (any_root is_body l) (any_root is_attributes l) (any_root is_resource l) kept before) c.deref-2.ensures.value)
+    (c.move_roots.ensures ∙ ap (λ (l : List Place). with_roots (any_root is_body l) (any_root is_attributes l) (any_root is_resource l) kept before) c.deref-3.ensures.value)

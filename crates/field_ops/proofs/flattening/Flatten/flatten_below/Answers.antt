@@ -6,7 +6,7 @@ use Rattle.field_paths.specs.Change.{set_at}
 use Rattle.field_paths.specs.Members.{member_at}
 use Rattle.field_ops.specs.Outcome.{Outcome, where_found, or_refused}
 use Rattle.field_ops.specs.Rows.{raised_in, where_a_map}
-use Rattle.field_ops.proofs.flattening.Flatten.apply.Goals as goal
+use Rattle.field_ops.proofs.flattening.Flatten.flatten_below.Goals as goal
 
 pub returns-in_err-changed-clause-fault : goal.returns-in_err-changed-clause-fault
 returns-in_err-changed-clause-fault c =

@@ -1,0 +1,7 @@
+use Rattle.std.proofs.Common.{◌≡◌}
+use Rattle.field_paths.specs.MapOf.{members_seen}
+use Rattle.field_ops.specs.Names.{without_members}
+use Rattle.field_ops.proofs.raising.remove_all.Given as goal
+
+abbrev pub invariant-loop-name : goal.invariant-loop-name
+invariant-loop-name l = without_members (members_seen l.name-iterator) (members_seen l.members.entries) ≡ without_members (members_seen l.names.entries) (members_seen l.initial.members.entries)

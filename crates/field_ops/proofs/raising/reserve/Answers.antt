@@ -1,0 +1,34 @@
+use Rattle.std.proofs.Common.{◌∙◌, ap, subst, ℕ, List}
+use Rattle.entry_model.specs.declared.value.Value.{Value}
+use Rattle.field_paths.specs.MapOf.{members_seen}
+use Rattle.field_ops.specs.Names.{without_members}
+use Rattle.field_ops.proofs.Raised.{Put, none_put, all_put, disjoint_left}
+use Rattle.field_ops.proofs.Entered.{one_reserved}
+use Rattle.field_ops.proofs.raising.reserve.Goals as goal
+
+pub loop-name-init : goal.loop-name-init
+loop-name-init c =
+    rw (c.into_iter-name-iterator.ensures.into_iter_gives, c.iter-name-items.ensures.rest)
+    (none_put (members_seen c.args.raised.now.entries) (members_seen c.args.members.now.entries))
+
+pub returns-in-Err-clause-err : goal.returns-in-Err-clause-err
+returns-in-Err-clause-err c =
+    let raised = members_seen c.args.raised.now.entries in
+    c.remove_all.ensures ∙ ap (without_members raised) c.in-Err.ensures.err ∙ c.loop-name.invariant.left
+    ∙ disjoint_left raised (members_seen c.args.members.now.entries) c.requires
+
+pub loop-name-preserved : goal.loop-name-preserved
+loop-name-preserved c =
+    one_reserved c.in-Some.name.now c.in-Some._value.now c.loop-name.name-iterator c.next.new.self
+    (members_seen c.args.raised.now.entries) (members_seen c.args.members.now.entries) (members_seen c.loop-name.members.entries) (members_seen c.reserve_name.new.members.entries)
+    c.in-Some.ensures.steps c.in_default.ensures.ok c.in_default.ensures.ascend c.loop-name.invariant
+
+pub returns-clause-put : goal.returns-clause-put
+returns-clause-put c = c.loop-name.invariant.put
+
+pub returns-clause-named : goal.returns-clause-named
+returns-clause-named c =
+    let raised = members_seen c.args.raised.now.entries in
+    let before = members_seen c.args.members.now.entries in
+    let now = members_seen c.loop-name.members.entries in
+    all_put raised before now (subst (λ (left : List (List ℕ × Value)). Put raised before (members_seen left) now) c.in-None.ensures.steps.0 c.loop-name.invariant)
