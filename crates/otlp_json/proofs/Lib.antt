@@ -4,7 +4,9 @@ pub mod Escapes
 pub mod Members
 pub mod NoLf
 pub mod Numbered
+pub mod Opened
 pub mod Plain
+pub mod Scopes
 pub mod Splits
 pub mod SplitsOfLines
 pub mod SplitsOfRecords

@@ -5,5 +5,6 @@ pub mod IsOf64Bits
 pub mod OutputLine
 pub mod OutputLines
 pub mod RecordText
+pub mod Scope
 pub mod Template
 pub mod ValueText

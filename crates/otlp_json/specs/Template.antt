@@ -5,6 +5,7 @@ use Rattle.entry_model.specs.LogRecord.{LogRecord}
 use Rattle.field_paths.specs.Members.{with_member}
 use Rattle.otlp_json.specs.Escaped.{escaped}
 use Rattle.otlp_json.specs.OutputLine.{output_line}
+use Rattle.otlp_json.specs.Scope.{end_text}
 use Rattle.otlp_json.specs.declared.template.Template.{Template}
 
 -- ---- what the lines are
@@ -26,13 +27,6 @@ text_record resource attributes body = record {
 }
 
 -- ---- how a template gives them
-
--- the end of a line in two parts: up to its number, and from there on
-abbrev pub file_text : ℕ → List ℕ
-file_text id = codes "\"agent.file\",\"value\":{\"intValue\":\"" ++ decimal id ++ codes "\"}},{\"key\":\"agent.line\",\"value\":{\"intValue\":\""
-
-abbrev pub end_text : ℕ → List ℕ
-end_text number = decimal number ++ codes "\"}}],\"name\":\"stanza_agent\"}}]}]}\n"
 
 -- the record's number, where the records have one, and what stands between it and the text
 abbrev pub number_text : Bool → List ℕ → ℕ → List ℕ

@@ -1,8 +1,8 @@
 //! The agent's output lines: one JSON object a log record, in the [OTLP/JSON encoding] of OTLP 1.x.
 //!
 //! The one contract for the layer above is that of [`line`]: what it appends is exactly the definition
-//! `output_line`, for every entry. A [`Template`] has what the lines of a file's texts share, and [`Template::line`] appends
-//! the same bytes.
+//! `output_line`, for every entry. A [`Scope`] has what the lines of a file share, a [`Template`] what those of its texts do,
+//! and [`Scope::line`] and [`Template::line`] append the same bytes.
 //!
 //! [OTLP/JSON encoding]: https://opentelemetry.io/docs/specs/otlp/#json-protobuf-encoding
 #![tactic(auto)]
@@ -10,13 +10,14 @@
 ghost use Rattle.std.specs.Prelude.{◌≡◌, ◌++◌, OnOk, OnErr};
 ghost use Rattle.entry_model.specs.LogRecord.{log_record};
 ghost use Rattle.otlp_json.specs.HasFront.{HasFront};
-ghost use Rattle.otlp_json.specs.OutputLine.{output_line, line_tail};
-ghost use Rattle.otlp_json.specs.Template.{file_text, end_text};
+ghost use Rattle.otlp_json.specs.OutputLine.{output_line};
+ghost use Rattle.otlp_json.specs.Scope.{entry_text, scope_text, end_text};
 
 pub mod integers;
 mod lanes;
 pub mod laws;
 mod record;
+mod scope;
 mod string;
 mod template;
 #[cfg(test)]
@@ -24,6 +25,7 @@ mod tests;
 mod value;
 
 use entry_model::Entry;
+pub use scope::Scope;
 use std::alloc::{AllocError, Global};
 pub use template::Template;
 
@@ -55,28 +57,30 @@ fn append_line(id: u32, number: u64, entry: &Entry, out: &mut Vec<u8>) -> Result
         ≡ out.old.items ++ output_line id number (log_record entry.now)) }
     ensures front { HasFront out.old.items out.new.items }
 {
-    out.extend_from_slice(b"{\"resourceLogs\":[{\"resource\":{\"attributes\":")?;
-    record::append_attributes(&entry.resource, out)?;
-    out.extend_from_slice(b"},\"scopeLogs\":[{\"logRecords\":[")?;
-    record::append_record(entry, out)?;
-    out.extend_from_slice(b"],\"scope\":{\"attributes\":[{\"key\":")?;
-    append_tail(id, number, out)
-}
-
-fn append_tail(id: u32, number: u64, out: &mut Vec<u8>) -> Result<(), AllocError>
-    ensures ok { OnOk result (out.new.items ≡ out.old.items ++ line_tail id number) }
-    ensures front { HasFront out.old.items out.new.items }
-{
-    append_file(id, out)?;
+    append_entry(entry, out)?;
+    append_scope(id, out)?;
     append_end(number, out)
 }
 
-// Up to the line's number.
-pub(crate) fn append_file(id: u32, out: &mut Vec<u8>) -> Result<(), AllocError>
-    ensures ok { OnOk result (out.new.items ≡ out.old.items ++ file_text id) }
+// Up to the record's closing brace.
+pub(crate) fn append_entry(entry: &Entry, out: &mut Vec<u8>) -> Result<(), AllocError>
+    ensures ok { OnOk result (out.new.items ≡ out.old.items ++ entry_text (log_record entry.now)) }
     ensures front { HasFront out.old.items out.new.items }
 {
-    out.extend_from_slice(b"\"agent.file\",\"value\":{\"intValue\":\"")?;
+    out.extend_from_slice(b"{\"resourceLogs\":[{\"resource\":{\"attributes\":")?;
+    record::append_attributes(&entry.resource, out)?;
+    out.extend_from_slice(b"},\"scopeLogs\":[{\"logRecords\":[{\"attributes\":")?;
+    record::append_record_members(entry, out)
+}
+
+// From the record's closing brace up to the line's number.
+pub(crate) fn append_scope(id: u32, out: &mut Vec<u8>) -> Result<(), AllocError>
+    ensures ok { OnOk result (out.new.items ≡ out.old.items ++ scope_text id) }
+    ensures front { HasFront out.old.items out.new.items }
+{
+    out.extend_from_slice(
+        b"}],\"scope\":{\"attributes\":[{\"key\":\"agent.file\",\"value\":{\"intValue\":\"",
+    )?;
     string::append_decimal(u64::from(id), out)?;
     out.extend_from_slice(b"\"}},{\"key\":\"agent.line\",\"value\":{\"intValue\":\"")
 }

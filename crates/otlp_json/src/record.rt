@@ -4,24 +4,24 @@ ghost use Rattle.entry_model.specs.Datum.{datum};
 ghost use Rattle.entry_model.specs.LogRecord.{log_record, members_in};
 ghost use Rattle.field_paths.specs.MapOf.{members_seen};
 ghost use Rattle.otlp_json.specs.HasFront.{HasFront};
-ghost use Rattle.otlp_json.specs.RecordText.{attributes_text, body_text, severity_number_text, severity_name_text, time_text, record_text};
+ghost use Rattle.otlp_json.specs.RecordText.{attributes_text, body_text, severity_number_text, severity_name_text, time_text};
+ghost use Rattle.otlp_json.specs.Scope.{record_members};
 
 use crate::string::{append_decimal, append_escaped};
-use crate::value::{append_members, append_value};
+use crate::value::{append_opened_members, append_value};
 use entry_model::{Entry, Fields, Value};
 use std::alloc::AllocError;
 
-pub fn append_record(entry: &Entry, out: &mut Vec<u8>) -> Result<(), AllocError>
-    ensures ok { OnOk result (out.new.items ≡ out.old.items ++ record_text (log_record entry.now)) }
+/// From the first member's value on, without the closing brace.
+pub fn append_record_members(entry: &Entry, out: &mut Vec<u8>) -> Result<(), AllocError>
+    ensures ok { OnOk result (out.new.items ≡ out.old.items ++ record_members (log_record entry.now)) }
     ensures front { HasFront out.old.items out.new.items }
 {
-    out.extend_from_slice(b"{\"attributes\":")?;
     append_attributes(&entry.attributes, out)?;
     append_body(&entry.body, out)?;
     append_severity_number(entry.severity.number, out)?;
     append_severity_name(entry.severity_text.as_str(), out)?;
-    append_time(entry.timestamp, out)?;
-    out.extend_from_slice(b"}")
+    append_time(entry.timestamp, out)
 }
 
 pub fn append_attributes(attributes: &Value, out: &mut Vec<u8>) -> Result<(), AllocError>
@@ -43,8 +43,7 @@ pub fn append_fields(fields: &Fields, out: &mut Vec<u8>) -> Result<(), AllocErro
     if fields.is_empty() {
         return out.extend_from_slice(b"[]");
     }
-    out.extend_from_slice(b"[")?;
-    append_members(fields, out)?;
+    append_opened_members(b"[{\"key\":\"", fields, out)?;
     out.extend_from_slice(b"]")
 }
 
@@ -54,6 +53,11 @@ fn append_body(body: &Value, out: &mut Vec<u8>) -> Result<(), AllocError>
 {
     match body {
         Value::Null => Ok(()),
+        Value::Text(text) => {
+            out.extend_from_slice(b",\"body\":{\"stringValue\":\"")?;
+            append_escaped(text.as_str().as_bytes(), out)?;
+            out.extend_from_slice(b"\"}")
+        }
         _ => {
             out.extend_from_slice(b",\"body\":")?;
             append_value(body, out)

@@ -11,8 +11,8 @@ ghost use Rattle.otlp_json.specs.ValueText.{members_text};
 
 use crate::record::append_fields;
 use crate::string::{append_decimal, append_escaped};
-use crate::value::append_members;
-use crate::{append_end, append_file};
+use crate::value::{append_members, append_opened_members};
+use crate::{append_end, append_scope};
 use entry_model::{Fields, Text};
 use std::alloc::{AllocError, Global};
 
@@ -47,8 +47,8 @@ impl Template {
         let numbered = number.is_some();
         let behind = append_attributes(alloc, attributes, number, &mut front)?;
         let mut back = Vec::new(alloc);
-        back.extend_from_slice(b"\"}}],\"scope\":{\"attributes\":[{\"key\":")?;
-        append_file(id, &mut back)?;
+        back.extend_from_slice(b"\"}")?;
+        append_scope(id, &mut back)?;
         Ok(Template {
             front,
             numbered,
@@ -177,17 +177,6 @@ fn append_behind(fields: &Fields, out: &mut Vec<u8>) -> Result<(), AllocError>
     ensures { OnOk result (out.new.items ≡ out.old.items ++ codes "\"}}" ++ members_text (codes ",") (members_seen fields.now.entries) ++ codes "],\"body\":{\"stringValue\":\"") }
 {
     out.extend_from_slice(b"\"}}")?;
-    append_more(fields, out)?;
+    append_opened_members(b",{\"key\":\"", fields, out)?;
     out.extend_from_slice(b"],\"body\":{\"stringValue\":\"")
-}
-
-// The members, with a comma ahead of each.
-fn append_more(fields: &Fields, out: &mut Vec<u8>) -> Result<(), AllocError>
-    ensures { OnOk result (out.new.items ≡ out.old.items ++ members_text (codes ",") (members_seen fields.now.entries)) }
-{
-    if fields.is_empty() {
-        return Ok(());
-    }
-    out.extend_from_slice(b",")?;
-    append_members(fields, out)
 }

@@ -1,5 +1,5 @@
 // Lines of known entries, each written by hand from the OTLP/JSON encoding.
-use crate::{Template, line};
+use crate::{Scope, Template, line};
 use entry_model::{Entry, Fields, Severity, Text, Value, Values};
 use std::alloc::{AllocError, Global};
 use std::test::Fail;
@@ -48,6 +48,17 @@ fn with_body(alloc: Global, body: Value) -> Entry {
 fn line_of(alloc: Global, id: u32, number: u64, entry: &Entry) -> Result<Vec<u8>, AllocError> {
     let mut out = Vec::new(alloc);
     line(alloc, id, number, entry, &mut out)?;
+    Ok(out)
+}
+
+fn line_by_scope(
+    alloc: Global,
+    scope: &Scope,
+    number: u64,
+    entry: &Entry,
+) -> Result<Vec<u8>, AllocError> {
+    let mut out = Vec::new(alloc);
+    scope.line(number, entry, &mut out)?;
     Ok(out)
 }
 
@@ -196,13 +207,17 @@ fn bodies(rt: HostRuntime) -> Result<(), Fail> {
             ",\"body\":{\"kvlistValue\":{\"values\":[{\"key\":\"one\",\"value\":{\"intValue\":\"1\"}},{\"key\":\"two\",\"value\":{\"arrayValue\":{\"values\":[{},{\"kvlistValue\":{\"values\":[]}}]}}}]}}",
         ),
     ];
+    let scope = Scope::new(alloc, 7)?;
     for (body, rest) in table {
-        let line = line_of(alloc, 7, 12, &with_body(alloc, body))?;
-        assert_eq!(rt;
-            line.as_slice(),
-            expected(alloc, rest)?.as_slice(),
-            "at {rest}"
-        );
+        let entry = with_body(alloc, body);
+        let wanted = expected(alloc, rest)?;
+        let lines = [
+            line_of(alloc, 7, 12, &entry)?,
+            line_by_scope(alloc, &scope, 12, &entry)?,
+        ];
+        for line in lines {
+            assert_eq!(rt; line.as_slice(), wanted.as_slice(), "at {rest}");
+        }
     }
     Ok(())
 }
@@ -236,18 +251,21 @@ fn severities_and_times(rt: HostRuntime) -> Result<(), Fail> {
             ",\"severityNumber\":13,\"severityText\":\"w\",\"timeUnixNano\":\"5\"",
         ),
     ];
+    let scope = Scope::new(alloc, 7)?;
     for (number, name, time, rest) in table {
         assert!(rt; number <= 24);
         let mut entry = with_body(alloc, Value::Null);
         entry.severity = Severity { number };
         entry.severity_text = Text::from_str(alloc, name)?;
         entry.timestamp = time;
-        let line = line_of(alloc, 7, 12, &entry)?;
-        assert_eq!(rt;
-            line.as_slice(),
-            expected(alloc, rest)?.as_slice(),
-            "at {rest}"
-        );
+        let wanted = expected(alloc, rest)?;
+        let lines = [
+            line_of(alloc, 7, 12, &entry)?,
+            line_by_scope(alloc, &scope, 12, &entry)?,
+        ];
+        for line in lines {
+            assert_eq!(rt; line.as_slice(), wanted.as_slice(), "at {rest}");
+        }
     }
     Ok(())
 }

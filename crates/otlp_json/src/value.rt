@@ -1,8 +1,9 @@
 // An AnyValue, and the values inside it.
-ghost use Rattle.std.specs.Prelude.{◌≡◌, ◌++◌, [], OnOk, map};
+ghost use Rattle.std.specs.Prelude.{◌≡◌, ◌++◌, ℕ, List, [], OnOk, codes, map};
 ghost use Rattle.entry_model.specs.Datum.{boolean, int, datum, items_of, members_of};
+ghost use Rattle.otlp_json.specs.Escaped.{escaped};
 ghost use Rattle.otlp_json.specs.HasFront.{HasFront};
-ghost use Rattle.otlp_json.specs.ValueText.{value_text, items_text, members_text, key_value_text};
+ghost use Rattle.otlp_json.specs.ValueText.{value_text, items_text, members_text};
 
 use crate::string::{append_escaped, append_integer};
 use entry_model::{Fields, Value, Values};
@@ -43,11 +44,22 @@ fn append_items(values: &Values, out: &mut Vec<u8>) -> Result<(), AllocError>
 {
     let mut separator: &[u8] = b"";
     for value in values {
-        out.extend_from_slice(separator)?;
+        append_separator(separator, out)?;
         append_value(value, out)?;
         separator = b",";
     }
     Ok(())
+}
+
+// Appending nothing costs as much as appending a byte.
+fn append_separator(separator: &[u8], out: &mut Vec<u8>) -> Result<(), AllocError>
+    ensures ok { OnOk result (out.new.items ≡ out.old.items ++ separator.now) }
+    ensures front { HasFront out.old.items out.new.items }
+{
+    if separator.is_empty() {
+        return Ok(());
+    }
+    out.extend_from_slice(separator)
 }
 
 #[cycle(value)]
@@ -57,26 +69,65 @@ pub fn append_members(fields: &Fields, out: &mut Vec<u8>) -> Result<(), AllocErr
         ++ members_text [] (members_of (map (λ field. (field.0, datum field.1)) fields.now.entries))) }
     ensures front { HasFront out.old.items out.new.items }
 {
-    let mut separator: &[u8] = b"";
+    append_opened_members(b"{\"key\":\"", fields, out)
+}
+
+/// `opening` is what stands ahead of the first member's key.
+#[cycle(value)]
+pub fn append_opened_members(
+    opening: &[u8],
+    fields: &Fields,
+    out: &mut Vec<u8>,
+) -> Result<(), AllocError>
+    ensures ok { OnOk result ((before : List ℕ) → opening.now ≡ before ++ codes "{\"key\":\""
+        → out.new.items ≡ out.old.items
+        ++ members_text before (members_of (map (λ field. (field.0, datum field.1)) fields.now.entries))) }
+    ensures front { HasFront out.old.items out.new.items }
+{
+    let mut front = opening;
     for (key, value) in fields {
-        out.extend_from_slice(separator)?;
-        append_member(key.as_str(), value, out)?;
-        separator = b",";
+        append_member(front, key.as_str(), value, out)?;
+        front = b",{\"key\":\"";
     }
     Ok(())
 }
 
 #[cycle(value)]
-fn append_member(key: &str, value: &Value, out: &mut Vec<u8>) -> Result<(), AllocError>
+fn append_member(
+    front: &[u8],
+    key: &str,
+    value: &Value,
+    out: &mut Vec<u8>,
+) -> Result<(), AllocError>
     ensures ok { OnOk result (out.new.items
-        ≡ out.old.items ++ key_value_text key.now (value_text (datum value.now))) }
+        ≡ out.old.items ++ front.now ++ escaped key.now ++ codes "\",\"value\":" ++ value_text (datum value.now) ++ codes "}") }
     ensures front { HasFront out.old.items out.new.items }
 {
-    out.extend_from_slice(b"{\"key\":\"")?;
+    out.extend_from_slice(front)?;
     append_escaped(key.as_bytes(), out)?;
-    out.extend_from_slice(b"\",\"value\":")?;
-    append_value(value, out)?;
-    out.extend_from_slice(b"}")
+    append_member_value(value, out)
+}
+
+// From behind the key on.
+#[cycle(value)]
+fn append_member_value(value: &Value, out: &mut Vec<u8>) -> Result<(), AllocError>
+    ensures ok { OnOk result (out.new.items
+        ≡ out.old.items ++ (codes "\",\"value\":" ++ value_text (datum value.now) ++ codes "}")) }
+    ensures front { HasFront out.old.items out.new.items }
+{
+    match value {
+        Value::Text(text) => {
+            out.extend_from_slice(b"\",\"value\":{\"stringValue\":\"")?;
+            append_escaped(text.as_str().as_bytes(), out)?;
+            out.extend_from_slice(b"\"}}")
+        }
+        Value::Int(number) => append_member_int(*number, out),
+        _ => {
+            out.extend_from_slice(b"\",\"value\":")?;
+            append_value(value, out)?;
+            out.extend_from_slice(b"}")
+        }
+    }
 }
 
 fn append_bool(flag: bool, out: &mut Vec<u8>) -> Result<(), AllocError>
@@ -97,4 +148,14 @@ fn append_int(number: i64, out: &mut Vec<u8>) -> Result<(), AllocError>
     out.extend_from_slice(b"{\"intValue\":\"")?;
     append_integer(number, out)?;
     out.extend_from_slice(b"\"}")
+}
+
+fn append_member_int(number: i64, out: &mut Vec<u8>) -> Result<(), AllocError>
+    ensures ok { OnOk result (out.new.items
+        ≡ out.old.items ++ (codes "\",\"value\":" ++ value_text (int number) ++ codes "}")) }
+    ensures front { HasFront out.old.items out.new.items }
+{
+    out.extend_from_slice(b"\",\"value\":{\"intValue\":\"")?;
+    append_integer(number, out)?;
+    out.extend_from_slice(b"\"}}")
 }

@@ -14,13 +14,14 @@ use Rattle.settings_text.specs.declared.settings.Settings.{Settings}
 abbrev pub number_name : Settings → Option (List ℕ)
 number_name settings = if settings.include_file_record_number then Some (codes "log.file.record_number") else None
 
--- what the records of the file with this path share
-pub record IsShared (settings : Settings) (path : List ℕ) (shared : Shared) : Type 0 where
+-- what the records of the file with this id and path share
+pub record IsShared (settings : Settings) (id : ℕ) (path : List ℕ) (shared : Shared) : Type 0 where
   pub attributes : members_seen shared.attributes.entries ≡ file_attributes settings path
   pub number : shared.number ≡ number_name settings
+  pub scope : shared.scope ≡ id
 
 -- where there are no operators, the template is that of the file's lines; else what is shared is what its records share
 abbrev pub IsSource : Pipeline → ℕ → List ℕ → Source → Type 0
 IsSource pipeline id path (Lines template) =
     (pipeline.graph ≡ []) × IsTemplate id (settings_of pipeline).resource (file_attributes (settings_of pipeline) path) (number_name (settings_of pipeline)) template
-IsSource pipeline id path (Entries shared) = IsShared (settings_of pipeline) path shared
+IsSource pipeline id path (Entries shared) = IsShared (settings_of pipeline) id path shared

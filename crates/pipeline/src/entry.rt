@@ -56,7 +56,7 @@ impl Pipeline {
         number: u64,
     ) -> Result<Fields, AllocError>
         requires { number ≤ 2 ^ 62 }
-        ensures { IfOk result (λ members. (path : List ℕ) → IsShared (settings_of self.now) path shared.now
+        ensures { IfOk result (λ members. (id : ℕ) (path : List ℕ) → IsShared (settings_of self.now) id path shared.now
             → members_seen members.entries ≡ attributes_at (settings_of self.now) path number) }
     {
         let attributes = copy_fields(alloc, &shared.attributes)?;
@@ -75,7 +75,7 @@ impl Pipeline {
         body: String,
     ) -> Result<Entry, AllocError>
         requires { number ≤ 2 ^ 62 }
-        ensures { IfOk result (λ entry. (path : List ℕ) → IsShared (settings_of self.now) path shared.now
+        ensures { IfOk result (λ entry. (id : ℕ) (path : List ℕ) → IsShared (settings_of self.now) id path shared.now
             → log_record entry ≡ record_with (settings_of self.now) path number (string_bytes body)) }
     {
         Ok(Entry {

@@ -22,7 +22,7 @@ use graph_core::laws as graph;
 use line_splitter::{Token, entry_text};
 use op_kinds::Record;
 use otlp_json::laws::{line_is_one_line, lines_append};
-use otlp_json::{Template, line};
+use otlp_json::{Scope, Template};
 use std::alloc::{AllocError, Global};
 
 impl Pipeline {
@@ -65,7 +65,7 @@ impl Pipeline {
         let mut at = 0;
         while let Some(token) = self.next_token(alloc, &bytes[at..])? {
             let text = &bytes[at..][token.from..token.to];
-            self.feed_token(alloc, state, id, &source, &mut buffers, text, out)?;
+            self.feed_token(alloc, state, &source, &mut buffers, text, out)?;
             at += token.after;
         }
         Ok(at)
@@ -83,7 +83,6 @@ impl Pipeline {
         &self,
         alloc: Global,
         state: &mut FileState,
-        id: u32,
         source: &Source,
         buffers: &mut Buffers,
         token: &[u8],
@@ -93,9 +92,9 @@ impl Pipeline {
         requires lines { state.old.lines ≤ 2 ^ 40 + length out.old.items }
         requires records { state.old.records + 1 ≤ 2 ^ 62 }
         requires empty { buffers.old.emitted.items ≡ [] }
-        ensures fed { OnOk result ((path : List ℕ) → IsSource self.now id path source.now
+        ensures fed { OnOk result ((id : ℕ) (path : List ℕ) → IsSource self.now id path source.now
             → Fed (settings_of self.now) (network self.now) id path (token.now ∷ []) state.old state.new out.old.items out.new.items) }
-        ensures lines { OnOk result ((path : List ℕ) → IsSource self.now id path source.now
+        ensures lines { OnOk result ((id : ℕ) (path : List ℕ) → IsSource self.now id path source.now
             → state.new.lines + length out.old.items ≤ state.old.lines + length out.new.items) }
         ensures records { OnOk result (state.new.records ≡ state.old.records + 1) }
         ensures states { OnOk result (HaveKinds self.now state.new.states.items) }
@@ -105,7 +104,7 @@ impl Pipeline {
         match source {
             Source::Lines(template) => self.feed_text(alloc, state, template, token, out),
             Source::Entries(shared) => {
-                self.feed_entry(alloc, state, id, shared, buffers, token, out)
+                self.feed_entry(alloc, state, shared, buffers, token, out)
             }
         }
     }
@@ -150,7 +149,6 @@ impl Pipeline {
         &self,
         alloc: Global,
         state: &mut FileState,
-        id: u32,
         shared: &Shared,
         buffers: &mut Buffers,
         token: &[u8],
@@ -160,7 +158,7 @@ impl Pipeline {
         requires lines { state.old.lines ≤ 2 ^ 40 + length out.old.items }
         requires records { state.old.records + 1 ≤ 2 ^ 62 }
         requires empty { buffers.old.emitted.items ≡ [] }
-        ensures fed { OnOk result ((path : List ℕ) → IsShared (settings_of self.now) path shared.now
+        ensures fed { OnOk result ((id : ℕ) (path : List ℕ) → IsShared (settings_of self.now) id path shared.now
             → Fed (settings_of self.now) (network self.now) id path (token.now ∷ []) state.old state.new out.old.items out.new.items) }
         ensures lines { OnOk result (state.new.lines + length out.old.items ≤ state.old.lines + length out.new.items) }
         ensures records { OnOk result (state.new.records ≡ state.old.records + 1) }
@@ -181,7 +179,7 @@ impl Pipeline {
         let (emitted, made) = (&mut buffers.emitted, &mut buffers.made);
         self.graph
             .push_by(alloc, &mut state.states, item, emitted, made)?;
-        append_lines(alloc, id, &mut state.lines, made, out)?;
+        append_lines(&shared.scope, &mut state.lines, made, out)?;
         Ok(())
     }
 }
@@ -206,22 +204,21 @@ fn append_text(
 
 // Appends the lines of the records, and counts them.
 fn append_lines(
-    alloc: Global,
-    id: u32,
+    scope: &Scope,
     lines: &mut u64,
     made: &[Record],
     out: &mut Vec<u8>,
 ) -> Result<(), AllocError>
     requires { lines.old ≤ 2 ^ 40 + length out.old.items }
     ensures lines { OnOk result (lines.new ≡ lines.old + length made.now) }
-    ensures written { OnOk result (out.new.items ≡ out.old.items ++ output_lines id (lines.old + 1) made.now) }
+    ensures written { OnOk result (out.new.items ≡ out.old.items ++ output_lines scope.now (lines.old + 1) made.now) }
     ensures within { OnOk result (lines.new + length out.old.items ≤ lines.old + length out.new.items) }
 {
     lines_append();
     line_is_one_line();
     for record in made {
         *lines += 1;
-        line(alloc, id, *lines, record.entry(), out)?;
+        scope.line(*lines, record.entry(), out)?;
     }
     Ok(())
 }

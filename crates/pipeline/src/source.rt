@@ -5,7 +5,7 @@ ghost use Rattle.pipeline.specs.Sources.{number_name, IsSource};
 
 use crate::Pipeline;
 use entry_model::{Fields, Text};
-use otlp_json::Template;
+use otlp_json::{Scope, Template};
 use std::alloc::{AllocError, Global};
 
 /// How tokens become lines.
@@ -17,12 +17,13 @@ pub(crate) enum Source {
     Entries(Shared),
 }
 
-/// What the entries of a file share.
+/// What the entries of a file and their lines share.
 #[derive(Drop)]
 pub(crate) struct Shared {
     pub(crate) attributes: Fields,
     /// The attribute that has a record's number, where one is asked for.
     pub(crate) number: Option<Text>,
+    pub(crate) scope: Scope,
 }
 
 impl Pipeline {
@@ -32,7 +33,12 @@ impl Pipeline {
         let attributes = self.file_attributes(alloc, path)?;
         let number = self.number_name(alloc)?;
         if !self.graph.nodes().is_empty() {
-            return Ok(Source::Entries(Shared { attributes, number }));
+            let scope = Scope::new(alloc, id)?;
+            return Ok(Source::Entries(Shared {
+                attributes,
+                number,
+                scope,
+            }));
         }
         let resource = self.settings.resource.as_fields();
         let template = Template::new(alloc, id, resource, attributes, number)?;

@@ -25,14 +25,14 @@ loop-buffers-preserved c =
     let lines : LineLaws = record { none = c.lines_append.ensures.none; append = c.lines_append.ensures.append } in
     let so_far = c.loop-buffers.invariant in
     let begins = rw (take_rest c.args.bytes.now c.loop-buffers.at) at (rw c.in-Some.is at c.in_ok-token.ensures).begins in
-    let fed = rw (take_rest c.args.bytes.now c.loop-buffers.at) at (c.in_ok-feed_token.ensures.fed c.args.path.now so_far.source) in
+    let fed = rw (take_rest c.args.bytes.now c.loop-buffers.at) at (c.in_ok-feed_token.ensures.fed c.args.id c.args.path.now so_far.source) in
     record {
       source = so_far.source;
       within = omega (arith, begins.within, length-drop c.loop-buffers.at c.args.bytes.now);
       feeds = subst (λ rest. FeedsOn (settings_of c.args.self.now) (network c.args.self.now) c.args.id c.args.path.now c.args.bytes.now rest (c.loop-buffers.at + c.in-Some.token.after) c.args.state.now c.feed_token.new.state c.args.out.now.items c.feed_token.new.out.items) (drop-drop c.in-Some.token.after c.loop-buffers.at c.args.bytes.now)
           (feeds_token (settings_of c.args.self.now) (network c.args.self.now) c.args.id c.args.path.now graph lines c.args.bytes.now c.args.state.now c.args.out.now.items (drop c.loop-buffers.at c.args.bytes.now) c.loop-buffers.at _ c.loop-buffers.state c.feed_token.new.state c.loop-buffers.out.items c.feed_token.new.out.items begins so_far.feeds fed);
       records = omega (arith, c.in_ok-feed_token.ensures.records, so_far.records, begins.some_used);
-      lines = omega (arith, c.in_ok-feed_token.ensures.lines c.args.path.now so_far.source, so_far.lines);
+      lines = omega (arith, c.in_ok-feed_token.ensures.lines c.args.id c.args.path.now so_far.source, so_far.lines);
       kinds = c.in_ok-feed_token.ensures.states;
       states = c.feed_token.ensures.many ∙ so_far.states;
       empty = c.in_ok-feed_token.ensures.empty;

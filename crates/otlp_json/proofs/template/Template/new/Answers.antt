@@ -18,4 +18,4 @@ returns c =
     ap (λ has. front ++ number_text has behind n) c.is_some-numbered.ensures
     ∙ c.in_ok-behind.ensures n
     ∙ ap (λ bytes. bytes ++ members_text [] (numbered c.args.number n attributes) ++ codes "],\"body\":{\"stringValue\":\"") begun)
-    (rw (c.in_ok-append_file.ensures.ok, c.in_ok-extend_from_slice-3.ensures.items, c.new-back.ensures.items) refl)
+    (rw (c.in_ok-append_scope.ensures.ok, c.in_ok-extend_from_slice-3.ensures.items, c.new-back.ensures.items) refl)

@@ -1,0 +1,28 @@
+-- A line in three parts: what it tells of its entry, what the lines of a file share, and what follows from its number on.
+use Rattle.std.specs.Prelude.{ℕ, List, ◌++◌, codes, decimal}
+use Rattle.entry_model.specs.LogRecord.{LogRecord}
+use Rattle.otlp_json.specs.RecordText.{attributes_text, body_text, severity_number_text, severity_name_text, time_text}
+
+-- the record from its first member's value on, without the closing brace
+unfoldable pub record_members : LogRecord → List ℕ
+record_members entry =
+    attributes_text entry.attributes
+    ++ body_text entry.body
+    ++ severity_number_text entry.severity
+    ++ severity_name_text entry.severity_text
+    ++ time_text entry.timestamp
+
+-- up to the record's closing brace
+unfoldable pub entry_text : LogRecord → List ℕ
+entry_text entry =
+    codes "{\"resourceLogs\":[{\"resource\":{\"attributes\":" ++ attributes_text entry.resource
+    ++ codes "},\"scopeLogs\":[{\"logRecords\":[{\"attributes\":" ++ record_members entry
+
+-- from there up to the line's number
+unfoldable pub scope_text : ℕ → List ℕ
+scope_text id =
+    codes "}],\"scope\":{\"attributes\":[{\"key\":\"agent.file\",\"value\":{\"intValue\":\"" ++ decimal id
+    ++ codes "\"}},{\"key\":\"agent.line\",\"value\":{\"intValue\":\""
+
+abbrev pub end_text : ℕ → List ℕ
+end_text number = decimal number ++ codes "\"}}],\"name\":\"stanza_agent\"}}]}]}\n"
