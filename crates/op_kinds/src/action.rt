@@ -69,6 +69,7 @@ impl Action {
     }
 
     /// Does it: puts out what comes of the entry on the one port, and changes what is kept.
+    #[inline(always)]
     pub(crate) fn apply(
         &self,
         alloc: Global,
@@ -104,6 +105,7 @@ impl Action {
     }
 
     /// Does it without groups.
+    #[inline(always)]
     fn apply_row(
         &self,
         alloc: Global,

@@ -91,6 +91,7 @@ impl Step for AnyOp {
         Record::new(alloc, item.entry.copy(alloc)?)
     }
 
+    #[inline(always)]
     fn step(
         &self,
         alloc: Global,

@@ -22,6 +22,7 @@ pub(crate) struct Conditional {
 
 impl Conditional {
     /// Emits what it makes of an entry. Where it can't be done, the entry is sent on unchanged or dropped.
+    #[inline(always)]
     pub(crate) fn emit(
         &self,
         alloc: Global,
@@ -45,6 +46,7 @@ impl Conditional {
         }
     }
 
+    #[inline(always)]
     fn apply(
         &self,
         alloc: Global,
