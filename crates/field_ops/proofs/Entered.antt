@@ -1,7 +1,7 @@
 -- One name more of a map in memory, as members are raised from it.
-use Rattle.std.proofs.Common.{◌≡◌, ℕ, List, ◌∷◌, ◌∙◌, ap, sym, refl, subst, Option, Some, None, option_map, Ok, Bool, false}
-use Rattle.std.specs.Option.{IsSome, is_some, unwrap_or}
-use Rattle.std.specs.BTreeMap.{BTreeMap, is_at}
+use Rattle.std.proofs.Common.{◌≡◌, ℕ, List, ◌∷◌, ◌∙◌, ap, sym, refl, subst, Option, Some, None, option_map, Bool, false}
+use Rattle.std.specs.Option.{IsSome, is_some}
+use Rattle.std.specs.BTreeMap.{is_at}
 use Rattle.std.specs.Map.{lookup, keys_of, remove_entry, set_value}
 use Rattle.std.specs.List.Sorted.{IsStrictlySortedBy}
 use Rattle.std.specs.Ordering.{nat_cmp}
@@ -10,17 +10,13 @@ use Rattle.entry_model.specs.declared.value.Value.{Value}
 use Rattle.entry_model.specs.declared.value.Value.TheOpen.{Value-F}
 use Rattle.entry_model.specs.declared.value.Value.TheVariants as value
 use Rattle.entry_model.specs.declared.value.Value.TheFolds.{fold-roll-Value}
-use Rattle.entry_model.specs.Datum.{Datum, datum, datum_step, null, fields, Members}
+use Rattle.entry_model.specs.Datum.{Datum, datum, datum_step, null, Members}
 use Rattle.entry_model.specs.Lawful.{KeysAscend}
-use Rattle.entry_model.specs.LogRecord.{members_in}
-use Rattle.entry_model.proofs.Data.{datum_map}
 use Rattle.field_paths.specs.MapOf.{members_seen}
 use Rattle.field_paths.specs.Members.{member_at, with_member, without_member}
 use Rattle.field_paths.proofs.Entries.{member_at-seen, with_member-set, without_member-seen}
 use Rattle.field_ops.specs.Names.{without_members, AreDisjoint, AreNamedIn}
-use Rattle.field_ops.specs.Roots.{no_fields}
-use Rattle.field_ops.specs.Rows.{with_members, where_a_map}
-use Rattle.field_ops.proofs.Held.{members_held, held, no_map_refused}
+use Rattle.field_ops.specs.Rows.{with_members}
 use Rattle.field_ops.proofs.Raised.{Put, one_put, stays_named, named_rest, named_first}
 
 abbrev Entries : Type 0
@@ -40,29 +36,6 @@ pub next_apart : (name : List ℕ) (v : Value) (left rest es : List (List ℕ ×
 next_apart name v left rest es b l is absent apart =
     subst (λ (one : List (List ℕ × Value)). AreDisjoint (members_seen one) (members_seen es)) (sym l)
     (member_at-seen name es ∙ ap (option_map datum) (none_of (found name es) (sym is ∙ absent)), apart)
-
--- the map at a name is the one that is found there
-pub apart_held : (holder : Datum) (members inner : BTreeMap (List ℕ) Value) (name : List ℕ) (one : Value) (raised : Members) → datum (value.Map members) ≡ holder
-    → found name members.entries ≡ Some one → one ≡ value.Map inner → member_at name (members_in holder) ≡ Some (fields raised)
-    → AreDisjoint (members_seen inner.entries) (members_seen members.entries) → AreDisjoint raised (members_in holder)
-apart_held holder members inner name one raised e f is there apart =
-    subst (AreDisjoint raised) (sym (members_held holder members e)) (subst (λ (r : Members). AreDisjoint r (members_seen members.entries)) same apart)
-  where
-    same : members_seen inner.entries ≡ raised
-    same = ap (λ (o : Option Datum). members_in (unwrap_or o null))
-        (sym (held holder members name e ∙ ap (option_map datum) f ∙ ap (λ (v : Value). Some (datum v)) is ∙ ap Some (datum_map inner)) ∙ there)
-
-pub none_held : (holder : Datum) (members : BTreeMap (List ℕ) Value) (name : List ℕ) (raised : Members) → datum (value.Map members) ≡ holder
-    → found name members.entries ≡ None → member_at name (members_in holder) ≡ Some (fields raised) → ⊥
-none_held holder members name raised e f there = let none = held holder members name e ∙ ap (option_map datum) f in absurd (cc (none, there))
-
-pub no_map_held : (holder : Datum) (members : BTreeMap (List ℕ) Value) (name : List ℕ) (one : Value) (raised : Members) → datum (value.Map members) ≡ holder
-    → found name members.entries ≡ Some one → ((inner : BTreeMap (List ℕ) Value) → one ≡ value.Map inner → ⊥) → member_at name (members_in holder) ≡ Some (fields raised) → ⊥
-no_map_held holder members name one raised e f other there =
-    let same : datum one ≡ fields raised = ap (λ (o : Option Datum). unwrap_or o null) (sym (held holder members name e ∙ ap (option_map datum) f) ∙ there) in
-    let refused = no_map_refused one (λ _. Ok no_fields) other in
-    let taken = ap (λ (d : Datum). where_a_map d (λ _. Ok no_fields)) same in
-    absurd (cc (refused, taken))
 
 pub datum_null : datum value.Null ≡ null
 datum_null = ap datum (sym value.rolls-Null) ∙ fold-roll-Value Datum datum_step Value-F.Null

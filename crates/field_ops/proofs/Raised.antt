@@ -109,13 +109,6 @@ first_or_rest name other value rest there = by (cmp other name) refl there
     by Equal e h = inl (exact_bytes other name e)
     by Greater e h = inr h
 
-disjoint_put : (name : List ℕ) (value : Datum) (raised ms : Members) → IsSome (member_at name ms) → AreDisjoint raised ms → AreDisjoint raised (with_member name value ms)
-disjoint_put name value no_members ms there apart = tt
-disjoint_put name value (member one x raised) ms there apart = (
-  member_elsewhere name one value ms (λ (same : one ≡ name). absurd (cc (subst IsSome (ap (λ (k : List ℕ). member_at k ms) (sym same) ∙ apart.0) there))) ∙ apart.0,
-  disjoint_put name value raised ms there apart.1,
-)
-
 pub disjoint_left : (raised ms : Members) → AreDisjoint raised ms → without_members raised ms ≡ ms
 disjoint_left no_members ms apart = refl
 disjoint_left (member one x raised) ms apart = ap (without_members raised) (left_nothing one ms apart.0) ∙ disjoint_left raised ms apart.1
@@ -191,18 +184,17 @@ raised_and_left name (member one x raised) ms before order there apart =
     raised_and_left name raised (with_member one x ms) before (put_ascends one x None ms tt order) there apart.1
     ∙ ap (with_members raised) (sym (put_and_left name one x None ms order (λ (same : name ≡ one). absurd (cc (subst IsSome (ap (λ (k : List ℕ). member_at k before) same ∙ apart.0) there)))))
 
--- the null that is left at the name is in nobody's way
-pub apart_from_null : (name : List ℕ) (value : Datum) (raised ms now : Members) → now ≡ with_member name null ms → member_at name ms ≡ Some value → AreDisjoint raised ms → AreDisjoint raised now
-apart_from_null name value raised ms now e there apart =
-    subst (AreDisjoint raised) (sym e) (disjoint_put name null raised ms (subst IsSome (sym there) refl) apart)
+-- the name at which the value is put back is there
+pub null_there : (name : List ℕ) (ms nulled now : Members) → nulled ≡ with_member name null ms → now ≡ nulled → IsSome (member_at name now)
+null_there name ms nulled now n s = subst IsSome (sym (ap (member_at name) (s ∙ n) ∙ member_there name null ms)) refl
 
 -- the names of the raised members were put, then their values, and the name was left out
-pub raised_in_place : (name : List ℕ) (value : Datum) (raised ms nulled reserved filled done : Members) → KeysAscend None ms → member_at name ms ≡ Some value → AreDisjoint raised ms
+pub raised_in_place : (name : List ℕ) (raised ms nulled reserved filled done : Members) → KeysAscend None ms → AreDisjoint raised nulled
     → nulled ≡ with_member name null ms → with_members raised reserved ≡ with_members raised nulled → filled ≡ with_members raised reserved → done ≡ without_member name filled
     → done ≡ with_members raised (without_member name ms)
-raised_in_place name value raised ms nulled reserved filled done order there apart n r f d =
+raised_in_place name raised ms nulled reserved filled done order apart n r f d =
     d ∙ ap (without_member name) (f ∙ r ∙ ap (with_members raised) n)
-    ∙ raised_and_left name raised (with_member name null ms) ms (put_ascends name null None ms tt order) (subst IsSome (sym there) refl) apart
+    ∙ raised_and_left name raised (with_member name null ms) nulled (put_ascends name null None ms tt order) (null_there name ms nulled nulled n refl) apart
     ∙ ap (with_members raised) (left_put name null None ms order)
 
 -- the value that was at the name is put back
@@ -210,7 +202,3 @@ pub put_back : (name : List ℕ) (value : Datum) (ms nulled now done : Members) 
     → nulled ≡ with_member name null ms → now ≡ nulled → done ≡ with_member name value now → done ≡ ms
 put_back name value ms nulled now done order there n s d =
     d ∙ ap (with_member name value) (s ∙ n) ∙ put_twice name value null ms ∙ put_again name value None ms order there
-
--- the name at which the value is put back is there
-pub null_there : (name : List ℕ) (ms nulled now : Members) → nulled ≡ with_member name null ms → now ≡ nulled → IsSome (member_at name now)
-null_there name ms nulled now n s = subst IsSome (sym (ap (member_at name) (s ∙ n) ∙ member_there name null ms)) refl

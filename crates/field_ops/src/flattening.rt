@@ -13,7 +13,7 @@ ghost use Rattle.field_ops.specs.Rows.{flattened, member_of, with_members, raise
 ghost use Rattle.field_ops.specs.declared.fault.FieldFault.TheVariants.{Memory};
 
 use crate::FieldFault;
-use crate::raising::{is_apart, raise_in_place};
+use crate::raising::raise_in_place;
 use entry_model::{Entry, Fields, Text, Value};
 use field_paths::{FieldPath, Root};
 use std::alloc::{AllocError, Global};
@@ -90,8 +90,8 @@ fn flatten_in(alloc: Global, holder: &mut Value, name: &Text) -> Result<(), Fiel
     ensures err { OnErr result (datum holder.new ≡ datum holder.old) }
     ensures map { IsTrue (is_map holder.old) → IsTrue (is_map holder.new) }
 {
-    if is_apart(holder, name) {
-        return raise_in_place(holder, name);
+    if raise_in_place(holder, name)? {
+        return Ok(());
     }
     // What a raised member replaces has to come back on a fault.
     *holder = flatten_member(alloc, holder, name)?;

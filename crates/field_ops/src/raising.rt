@@ -1,5 +1,5 @@
 // Raising the members of a member, without a copy of the map that holds it.
-ghost use Rattle.std.specs.Prelude.{◌≡◌, ◌≢◌, OnOk, OnErr, IfOk, IfErr, Ok, Err, OnSome, IfSome, IfNone, Some, None, IsSome, IsTrue};
+ghost use Rattle.std.specs.Prelude.{◌≡◌, ◌≢◌, OnOk, OnErr, IfOk, IfErr, Ok, Err, OnSome, IfSome, IfNone, Some, None, IsSome, IsTrue, false};
 ghost use Rattle.entry_model.specs.Datum.{datum, fields, null, Members};
 ghost use Rattle.entry_model.specs.Lawful.{KeysAscend};
 ghost use Rattle.entry_model.specs.LogRecord.{members_in};
@@ -16,23 +16,6 @@ use entry_model::{Fields, Text, Value};
 use std::alloc::AllocError;
 use std::mem;
 
-/// Whether no member of the map at the name has the name of one beside it, or its own. Where no map is, none has.
-pub(crate) fn is_apart(holder: &Value, name: &Text) -> bool
-    ensures { IsTrue result → (raised : Members) → member_at name.now (members_in (datum holder.now)) ≡ Some (fields raised)
-        → AreDisjoint raised (members_in (datum holder.now)) }
-{
-    let Value::Map(members) = holder else {
-        return true;
-    };
-    let Some(member) = members.get(name) else {
-        return true;
-    };
-    let Value::Map(raised) = member else {
-        return true;
-    };
-    are_disjoint(raised, members)
-}
-
 fn are_disjoint(raised: &Fields, members: &Fields) -> bool
     ensures { IsTrue result → AreDisjoint (members_seen raised.now.entries) (members_seen members.now.entries) }
 {
@@ -44,12 +27,13 @@ fn are_disjoint(raised: &Fields, members: &Fields) -> bool
     true
 }
 
-/// Puts the members of the map at the name in its place.
-pub(crate) fn raise_in_place(holder: &mut Value, name: &Text) -> Result<(), FieldFault>
-    requires { (raised : Members) → member_at name.now (members_in (datum holder.old)) ≡ Some (fields raised)
-        → AreDisjoint raised (members_in (datum holder.old)) }
-    ensures ok { OnOk result ((raised : Members) × (member_at name.now (members_in (datum holder.old)) ≡ Some (fields raised))
+/// Puts the members of the map at the name in its place. Answers false, and changes nothing, where one of them has the name of a
+/// member beside the map, or the map's own.
+pub(crate) fn raise_in_place(holder: &mut Value, name: &Text) -> Result<bool, FieldFault>
+    ensures ok { IfOk result (λ is_raised. IsTrue is_raised → (raised : Members)
+        × (member_at name.now (members_in (datum holder.old)) ≡ Some (fields raised))
         × (datum holder.new ≡ raised_in name.now (datum holder.old) raised)) }
+    ensures unchanged { IfOk result (λ is_raised. is_raised ≡ false → datum holder.new ≡ datum holder.old) }
     ensures fault { IfErr result (λ fault. fault ≢ Memory → (then_so : Members → Outcome)
         → where_found (member_at name.now (members_in (datum holder.old))) (λ value. where_a_map value then_so)
         ≡ Err fault) }
@@ -69,24 +53,30 @@ pub(crate) fn raise_in_place(holder: &mut Value, name: &Text) -> Result<(), Fiel
 }
 
 /// Each name is put before the first value is moved: only a new name can want memory.
-fn raise_among(members: &mut Fields, name: &Text) -> Result<(), FieldFault>
-    requires { (raised : Members) → member_at name.now (members_seen members.old.entries) ≡ Some (fields raised)
-        → AreDisjoint raised (members_seen members.old.entries) }
-    ensures ok { OnOk result ((raised : Members) × (member_at name.now (members_seen members.old.entries) ≡ Some (fields raised))
+fn raise_among(members: &mut Fields, name: &Text) -> Result<bool, FieldFault>
+    ensures ok { IfOk result (λ is_raised. IsTrue is_raised → (raised : Members)
+        × (member_at name.now (members_seen members.old.entries) ≡ Some (fields raised))
         × (members_seen members.new.entries ≡ with_members raised (without_member name.now (members_seen members.old.entries)))) }
+    ensures unchanged { IfOk result (λ is_raised. is_raised ≡ false
+        → members_seen members.new.entries ≡ members_seen members.old.entries) }
     ensures fault { IfErr result (λ fault. fault ≢ Memory → (then_so : Members → Outcome)
         → where_found (member_at name.now (members_seen members.old.entries)) (λ value. where_a_map value then_so)
         ≡ Err fault) }
     ensures err { OnErr result (members_seen members.new.entries ≡ members_seen members.old.entries) }
 {
     let raised = take_map(members, name)?;
+    if !are_disjoint(&raised, members) {
+        let whole = Value::Map(raised);
+        put(members, name, whole);
+        return Ok(false);
+    }
     if let Err(fault) = reserve(&raised, members) {
         put(members, name, Value::Map(raised));
         return Err(fault.into());
     }
     fill(raised, members);
     remove(members, name);
-    Ok(())
+    Ok(true)
 }
 
 /// Takes the map at the name, and leaves null there.
