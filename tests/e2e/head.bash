@@ -6,11 +6,11 @@ settings='{"include":["app.log"],"start_at":"beginning"}'
 # The LF at the end of a report, which command substitution drops.
 LF=$'\n'
 
-# wait_for COMMAND..: it has a minute, or the seconds that LIMIT gives.
-wait_for() { timeout "${LIMIT:-60}" "$@"; }
+# wait_for COMMAND..: it has a minute, or the seconds that LIMIT gives, and more where the program is slow.
+wait_for() { timeout $((slow * ${LIMIT:-60})) "$@"; }
 
 # wait_long COMMAND..: five times as long, for what runs the program many times.
-wait_long() { timeout $((5 * ${LIMIT:-60})) "$@"; }
+wait_long() { timeout $((5 * slow * ${LIMIT:-60})) "$@"; }
 
 # grown FILE LINES: waits until the file has so many lines, as long as a run may take.
 grown() { wait_for bash -c 'until [ -e "$1" ] && [ "$(wc -l <"$1")" -ge "$2" ]; do sleep 0.05; done' - "$@"; }

@@ -9,8 +9,6 @@
 
 mod row;
 mod tables;
-#[cfg(test)]
-mod tests;
 
 pub use row::{Row, find, find_bytes, find_fold, find_fold_bytes, is_sorted};
 pub use tables::{aliases, directives, months, severities};

@@ -15,15 +15,11 @@
 //! each id from the next one before up to the new one is there; where one is missing, the count of rows is refused.
 #![tactic(auto)]
 
-#[cfg(test)]
-mod change_tests;
 mod changes;
 pub mod laws;
 mod put;
 mod read;
 mod rows;
-#[cfg(test)]
-mod tests;
 
 pub use changes::apply;
 use file_tracker::Bytes;

@@ -14,8 +14,6 @@ pub mod laws;
 mod program;
 mod reading;
 mod rounds;
-#[cfg(test)]
-mod tests;
 
 pub use command::{Command, MAX_ROUNDS};
 pub use reading::command_of;

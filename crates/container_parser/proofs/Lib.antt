@@ -7,3 +7,6 @@ pub mod Records
 pub mod OneLine
 pub mod Paths
 pub mod Ends
+pub mod Options
+pub mod LinesRead
+pub mod PodsTold

@@ -6,3 +6,5 @@ pub mod CriLines
 pub mod DockerLines
 pub mod Lines
 pub mod Pods
+pub mod Computed
+pub mod Told

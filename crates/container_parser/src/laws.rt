@@ -1,5 +1,6 @@
 // What the definitions imply.
-ghost use Rattle.std.specs.Prelude.{◌≡◌, ◌≢◌, ℕ, List};
+ghost use Rattle.std.specs.Prelude.{◌≡◌, ◌≢◌, ◌↔◌, ℕ, List, Some};
+ghost use Rattle.container_parser.specs.Computed.{line_read, pod_in};
 ghost use Rattle.container_parser.specs.Lines.{IsLine, IsLineFault};
 ghost use Rattle.container_parser.specs.Pods.{IsPodPath};
 ghost use Rattle.container_parser.specs.declared.fault.ContainerFault.{ContainerFault as line_fault};
@@ -23,4 +24,14 @@ pub fn line_has_one_fault()
 /// A path has the names of one pod at most.
 pub fn path_is_of_one_pod()
     ensures { (path : List ℕ) (pod other : pod_record) → IsPodPath path pod → IsPodPath path other → pod ≡ other }
+{}
+
+/// What is computed of a line is what the grammar of its format gives it, and none where that gives none.
+pub fn lines_are_read()
+    ensures { (format : line_format) (text : List ℕ) (line : line_record) → (line_read format text ≡ Some line) ↔ IsLine format text line }
+{}
+
+/// What is computed of a path is the pod whose names it has, and none where it has none.
+pub fn pods_are_told()
+    ensures { (path : List ℕ) (pod : pod_record) → (pod_in path ≡ Some pod) ↔ IsPodPath path pod }
 {}

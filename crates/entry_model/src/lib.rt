@@ -10,8 +10,6 @@ mod copy;
 mod depth;
 mod entry;
 pub mod laws;
-#[cfg(test)]
-mod tests;
 mod text;
 mod value;
 

@@ -19,8 +19,6 @@ mod parser;
 mod pattern;
 mod place;
 mod read;
-#[cfg(test)]
-mod tests;
 mod token;
 mod tree;
 mod values;

@@ -15,8 +15,6 @@ mod raising;
 mod retaining;
 mod root;
 mod single;
-#[cfg(test)]
-mod tests;
 mod transfer;
 
 pub use fault::FieldFault;

@@ -15,8 +15,6 @@ mod read;
 mod relation;
 mod set;
 mod take;
-#[cfg(test)]
-mod tests;
 
 pub use path::{FieldPath, PathFault, Root, SetFault, TakeFault};
 pub use relation::Relation;

@@ -15,8 +15,6 @@ mod index;
 mod row;
 mod search;
 mod steps;
-#[cfg(test)]
-mod tests;
 mod tracker;
 
 pub use bytes::Bytes;

@@ -20,7 +20,5 @@ mod pattern;
 mod reader;
 mod search;
 mod start;
-#[cfg(test)]
-mod tests;
 
 pub use glob::{Glob, GlobFault};

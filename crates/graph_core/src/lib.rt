@@ -27,8 +27,6 @@ ghost use Rattle.graph_core.specs.Traces.{network_of, start_states, inputs, clos
 
 mod build;
 pub mod laws;
-#[cfg(test)]
-mod tests;
 mod walk;
 
 use std::alloc::{AllocError, Global};

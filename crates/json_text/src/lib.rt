@@ -13,8 +13,6 @@ pub mod laws;
 mod number;
 mod reader;
 mod strings;
-#[cfg(test)]
-mod tests;
 
 pub use fault::JsonFault;
 pub use reader::read;

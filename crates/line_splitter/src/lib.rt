@@ -15,6 +15,3 @@ mod tokens;
 
 pub use texts::{entry_text, trim};
 pub use tokens::{Token, begins_with_first, keeps_tokens, next};
-
-#[cfg(test)]
-mod tests;

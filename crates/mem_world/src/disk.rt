@@ -19,8 +19,6 @@ mod log;
 mod plans;
 mod store;
 mod tear;
-#[cfg(test)]
-mod tests;
 
 use log::Change;
 use outside::{CallFault, DiskFile, Failed};

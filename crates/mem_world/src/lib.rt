@@ -16,8 +16,6 @@
 mod disk;
 mod sink;
 mod source;
-#[cfg(test)]
-mod tests;
 mod tree;
 mod world;
 

@@ -5,9 +5,6 @@ ghost use Rattle.outside.specs.Stream.{TakesFront};
 ghost use Rattle.outside.specs.World.{Told};
 ghost use Rattle.mem_world.specs.DiskFailures.{is_due, after_call};
 
-#[cfg(test)]
-mod tests;
-
 use crate::disk::failures::Failures;
 use outside::{Failed, Source};
 use std::alloc::{AllocError, Global};

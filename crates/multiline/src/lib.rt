@@ -19,6 +19,3 @@ mod stops;
 pub use cutter::Cutter;
 pub use fault::PatternFault;
 pub use line_splitter::Token;
-
-#[cfg(test)]
-mod tests;

@@ -6,7 +6,7 @@ use Rattle.std.specs.Cmp.Lexicographic.{slice_cmp}
 use Rattle.std.specs.declared.alloc.AllocError.{AllocError}
 use Rattle.std.specs.declared.cmp.Ordering.{Ordering}
 use Rattle.std.specs.declared.cmp.Ordering.TheVariants.{Less, Equal, Greater}
-use Rattle.container_entries.specs.Told.{with_pod, pod_asked, told_by}
+use Rattle.container_parser.specs.Told.{with_pod, pod_asked, told_by}
 use Rattle.container_parser.specs.declared.line.ContainerLine.{ContainerLine}
 use Rattle.container_parser.specs.declared.pod.Pod.{Pod}
 use Rattle.entry_model.specs.Datum.{text, Members, no_members, member}

@@ -1,6 +1,6 @@
 -- What is made of an entry whose body is a line that a container's runtime wrote: parts of one line are joined.
 use Rattle.std.specs.Prelude.{[], ◌∷◌, Bool, false, not, if◌then◌else◌, Option, None, Some, option_and_then, List}
-use Rattle.container_entries.specs.Told.{Read, body_read, told_by}
+use Rattle.container_parser.specs.Told.{Read, body_read, told_by}
 use Rattle.container_parser.specs.declared.format.Format.{Format}
 use Rattle.container_parser.specs.declared.format.Format.TheVariants.{Docker, Crio, Containerd}
 use Rattle.container_parser.specs.declared.line.ContainerLine.{ContainerLine}

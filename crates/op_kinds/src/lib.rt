@@ -15,8 +15,6 @@ mod cause;
 mod compiling;
 mod condition;
 mod conditional;
-#[cfg(test)]
-mod group_tests;
 mod joining;
 pub mod laws;
 mod pairs;
@@ -29,10 +27,6 @@ mod router;
 mod row;
 mod saving;
 mod state;
-#[cfg(test)]
-mod syslog_tests;
-#[cfg(test)]
-mod tests;
 mod types;
 
 pub use any_op::{AnyOp, fresh_state};

@@ -20,8 +20,6 @@ mod record;
 mod scope;
 mod string;
 mod template;
-#[cfg(test)]
-mod tests;
 mod value;
 
 use entry_model::Entry;

@@ -19,24 +19,12 @@ mod entry;
 mod fault;
 mod feed;
 mod globs;
-#[cfg(test)]
-mod group_tests;
 pub mod laws;
-#[cfg(test)]
-mod multiline_tests;
-#[cfg(test)]
-mod one_operator;
-#[cfg(test)]
-mod parser_tests;
 mod restore;
 mod source;
 mod splitter;
 mod state;
-#[cfg(test)]
-mod tests;
 mod text;
-#[cfg(test)]
-mod time_tests;
 mod wiring;
 
 pub use fault::BuildFault;

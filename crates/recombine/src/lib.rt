@@ -19,8 +19,6 @@ mod joining;
 pub mod laws;
 mod saving;
 mod stepping;
-#[cfg(test)]
-mod tests;
 
 pub use fault::StepFault;
 pub use groups::Groups;

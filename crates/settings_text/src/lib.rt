@@ -24,8 +24,6 @@ ghost use Rattle.serde_json.specs.View.{view};
 ghost use Rattle.settings_text.specs.Kinds as kinds;
 
 mod fault;
-#[cfg(test)]
-mod group_tests;
 mod ids;
 mod kinds;
 pub mod laws;
@@ -35,23 +33,13 @@ mod mapping;
 mod mappings;
 mod multilines;
 mod names;
-#[cfg(test)]
-mod operator_tests;
 mod operators;
-#[cfg(test)]
-mod parser_tests;
 mod parsers;
 mod parsing;
 mod place;
 mod settings;
 mod severities;
-#[cfg(test)]
-mod shown;
-#[cfg(test)]
-mod tests;
 mod texts;
-#[cfg(test)]
-mod time_tests;
 mod times;
 mod types;
 mod values;

@@ -17,8 +17,6 @@ mod get;
 pub mod laws;
 mod put;
 pub mod read;
-#[cfg(test)]
-mod tests;
 mod value;
 
 pub use get::{get_bytes, get_entry, get_text, get_u32, get_u64};

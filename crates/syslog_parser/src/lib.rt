@@ -23,8 +23,6 @@ mod rfc5424;
 mod senders;
 mod stamps;
 mod syslog;
-#[cfg(test)]
-mod tests;
 
 pub use fault::SyslogFault;
 pub use rfc3164::read_3164;

@@ -24,8 +24,6 @@ mod records;
 mod regex_fault;
 mod regex_op;
 mod search;
-#[cfg(test)]
-mod tests;
 
 pub use csv_op::CsvOp;
 pub use fault::ParseFault;

@@ -23,8 +23,6 @@ pub mod laws;
 mod layout;
 mod names;
 mod parts;
-#[cfg(test)]
-mod tests;
 
 pub use atoms::Reading;
 pub use calendar::instant_of;

@@ -16,8 +16,6 @@ mod presets;
 mod rule;
 mod severity_op;
 mod spelled;
-#[cfg(test)]
-mod tests;
 mod time_op;
 
 pub use fault::StampFault;

@@ -1,6 +1,7 @@
 # Runs that are killed, and two agents in one folder.
 
-check_kills() { wait_long "$root/tests/e2e/kills" "$agent" 200 20261128; }
+# Fewer runs where the program is slow.
+check_kills() { wait_long "$root/tests/e2e/kills" "$agent" $((10 + 190 / slow)) 20261128; }
 
 # Two agents at once know nothing of each other. Here one of two lines is written twice and the other isn't at all, and
 # both end with status 0.

@@ -1,5 +1,5 @@
 use Rattle.std.proofs.Common.{◌≡◌, ◌∙◌, true, false, ap, subst, refl}
-use Rattle.container_entries.specs.Told.{told_by}
+use Rattle.container_parser.specs.Told.{told_by}
 use Rattle.entry_model.specs.LogRecord.{LogRecord, log_record}
 use Rattle.op_kinds.specs.Kept.{open_groups}
 use Rattle.recombine.proofs.JudgeLemmas.{shallow_is, deep_is}

@@ -1,0 +1,133 @@
+// What becomes of an entry.
+ghost use Rattle.std.specs.Prelude.{◌≡◌, codes, IfOk, OnOk, IsTrue, option_and_then, option_map};
+ghost use Rattle.std.specs.BTreeMap.{insert_entry};
+ghost use Rattle.std.specs.Cmp.Lexicographic.{slice_cmp};
+ghost use Rattle.std.specs.Ordering.{nat_cmp};
+ghost use Rattle.container_parser.specs.DockerLines.{text_in};
+ghost use Rattle.entry_model.specs.Datum as model;
+ghost use Rattle.entry_model.specs.Datum.{datum, fields, is_map};
+ghost use Rattle.entry_model.specs.LogRecord.{log_record, members_in};
+ghost use Rattle.field_paths.specs.MapOf.{members_seen};
+ghost use Rattle.field_paths.specs.Members.{with_member, member_at};
+ghost use Rattle.container_parser.specs.Computed.{pod_in};
+ghost use Rattle.container_parser.specs.Told as told;
+
+use crate::line::ContainerLine;
+use crate::pod::{Pod, pod_of_path};
+use entry_model::{Entry, Fields, Text, Value};
+use std::alloc::{AllocError, Global};
+
+/// The entry with what its line says, and with the pod of its file.
+#[tactic(auto, unfolding(crate::specs::Told::told_by))]
+pub fn told_by(
+    alloc: Global,
+    by_path: bool,
+    line: ContainerLine,
+    entry: Entry,
+) -> Result<Entry, AllocError>
+    ensures { IfOk result (λ made. log_record made ≡ told.told_by by_path line (log_record entry)) }
+{
+    let pod = pod_asked(alloc, by_path, &entry)?;
+    let attributes = with_text(alloc, entry.attributes, "log.iostream", line.stream)?;
+    let resource = with_pod(alloc, entry.resource, pod)?;
+    Ok(Entry {
+        body: Value::Text(line.text),
+        attributes,
+        resource,
+        timestamp: Some(line.timestamp),
+        severity: entry.severity,
+        severity_text: entry.severity_text,
+    })
+}
+
+fn pod_asked(alloc: Global, by_path: bool, entry: &Entry) -> Result<Option<Pod>, AllocError>
+    ensures { IfOk result (λ pod. pod ≡ told.pod_asked by_path (log_record entry.now)) }
+{
+    if !by_path {
+        return Ok(None);
+    }
+    match path_of(alloc, &entry.attributes)? {
+        Some(path) => pod_of(alloc, path.as_str()),
+        None => Ok(None),
+    }
+}
+
+/// The path of the file, where the attributes have it.
+fn path_of(alloc: Global, attributes: &Value) -> Result<Option<Text>, AllocError>
+    ensures { IfOk result (λ path. path ≡ option_and_then text_in (member_at (codes "log.file.path") (members_in (datum attributes.now)))) }
+{
+    let name = Text::from_str(alloc, "log.file.path")?;
+    match member_of(attributes, &name) {
+        Some(value) => text_in(value),
+        None => Ok(None),
+    }
+}
+
+fn member_of<'v>(map: &'v Value, name: &Text) -> Option<&'v Value>
+    ensures { option_map (λ member. datum member.now) result ≡ member_at name.now (members_in (datum map.now)) }
+{
+    let Value::Map(members) = map else {
+        return None;
+    };
+    members.get(name)
+}
+
+fn text_in(value: &Value) -> Result<Option<Text>, AllocError>
+    ensures { IfOk result (λ found. found ≡ text_in (datum value.now)) }
+{
+    match value {
+        Value::Text(text) => Ok(Some(text.share()?)),
+        Value::Null | Value::Bool(_) | Value::Int(_) | Value::List(_) | Value::Map(_) => Ok(None),
+    }
+}
+
+#[tactic(auto, using(crate::proofs::PodsTold::pod_is_told))]
+fn pod_of(alloc: Global, path: &str) -> Result<Option<Pod>, AllocError>
+    ensures { IfOk result (λ pod. pod ≡ pod_in path.now) }
+{
+    let pod = pod_of_path(alloc, path)?;
+    Ok(pod)
+}
+
+fn with_pod(alloc: Global, resource: Value, pod: Option<Pod>) -> Result<Value, AllocError>
+    requires { IsTrue (is_map resource) }
+    ensures { IfOk result (λ value. datum value ≡ fields (told.with_pod pod (members_in (datum resource)))) }
+{
+    let Some(pod) = pod else {
+        return Ok(resource);
+    };
+    let resource = with_text(alloc, resource, "k8s.container.name", pod.container)?;
+    let resource = with_text(alloc, resource, "k8s.container.restart_count", pod.restarts)?;
+    let resource = with_text(alloc, resource, "k8s.namespace.name", pod.namespace)?;
+    let resource = with_text(alloc, resource, "k8s.pod.name", pod.pod)?;
+    let resource = with_text(alloc, resource, "k8s.pod.uid", pod.uid)?;
+    Ok(resource)
+}
+
+/// A map with a text at a name.
+fn with_text(alloc: Global, map: Value, name: &str, content: Text) -> Result<Value, AllocError>
+    ensures { IfOk result (λ value. datum value ≡ fields (with_member name.now (model.text content) (members_in (datum map)))) }
+{
+    let mut members = members_of(alloc, map);
+    insert(alloc, &mut members, name, Value::Text(content))?;
+    Ok(Value::Map(members))
+}
+
+fn insert(alloc: Global, fields: &mut Fields, name: &str, value: Value) -> Result<(), AllocError>
+    ensures { OnOk result (fields.new.entries ≡ insert_entry (slice_cmp nat_cmp) fields.old.entries name.now value) }
+{
+    let name = Text::from_str(alloc, name)?;
+    fields.insert(name, value)?;
+    Ok(())
+}
+
+fn members_of(alloc: Global, map: Value) -> Fields
+    ensures { members_seen result.entries ≡ members_in (datum map) }
+{
+    match map {
+        Value::Map(members) => members,
+        Value::Null | Value::Bool(_) | Value::Int(_) | Value::Text(_) | Value::List(_) => {
+            Fields::new(alloc)
+        }
+    }
+}

@@ -1,0 +1,102 @@
+// Pipelines that are fed.
+use crate::refusal::refusal;
+use crate::unanswered::Unanswered;
+use pipeline::Pipeline;
+use settings_text::laws::settings_keep_limits;
+use settings_text::read;
+use state_codec::CodecFault;
+use std::alloc::{AllocError, Global};
+
+/// The most tokens, lines and bytes of a case.
+const MOST: u64 = 10_000_000;
+
+/// How far a file was fed.
+#[derive(Drop)]
+pub struct Run {
+    pub records: u64,
+    pub lines: u64,
+    /// What the operators keep, as bytes.
+    pub kept: Vec<u8>,
+    pub out: Vec<u8>,
+}
+
+impl Run {
+    pub fn new(alloc: Global, kept: Vec<u8>) -> Run {
+        Run {
+            records: 0,
+            lines: 0,
+            kept,
+            out: Vec::new(alloc),
+        }
+    }
+}
+
+pub fn pipeline_of(alloc: Global, settings: &[u8]) -> Result<Pipeline, Unanswered> {
+    settings_keep_limits();
+    match read(alloc, settings) {
+        Ok(settings) => match Pipeline::build(alloc, settings) {
+            Ok(pipeline) => Ok(pipeline),
+            Err(fault) => Err(Unanswered::Refused(refusal(alloc, fault)?)),
+        },
+        Err(fault) => Err(Unanswered::Refused(format!(in alloc; "{fault}")?)),
+    }
+}
+
+/// Before the first token of a file.
+pub fn begun(alloc: Global, pipeline: &Pipeline) -> Result<Run, AllocError> {
+    let state = pipeline.fresh(alloc)?;
+    let mut kept = Vec::new(alloc);
+    pipeline.save(alloc, &state, &mut kept)?;
+    Ok(Run::new(alloc, kept))
+}
+
+/// Feeds a log so many bytes at a time, and restores what is kept before each.
+pub fn go_on(
+    alloc: Global,
+    pipeline: &Pipeline,
+    path: &str,
+    log: &[u8],
+    size: usize,
+    run: &mut Run,
+) -> Result<(), Unanswered> {
+    let mut from = 0usize;
+    let mut to = 0usize;
+    for _ in 0..=log.len() {
+        to = to.saturating_add(size).min(log.len());
+        let Some(piece) = log.get(from..to) else {
+            break;
+        };
+        let used = feed(alloc, pipeline, path, piece, run)?;
+        from = from.saturating_add(used);
+        if to == log.len() {
+            break;
+        }
+    }
+    Ok(())
+}
+
+// Restores what is kept, feeds the bytes, and saves. How many bytes were used.
+fn feed(
+    alloc: Global,
+    pipeline: &Pipeline,
+    path: &str,
+    bytes: &[u8],
+    run: &mut Run,
+) -> Result<usize, Unanswered> {
+    let mut state = match pipeline.restore(alloc, run.records, run.lines, &run.kept) {
+        Ok(state) => state,
+        Err(CodecFault::Memory) => return Err(Unanswered::Memory),
+        Err(CodecFault::Malformed { at }) => {
+            return Err(Unanswered::Refused(format!(in alloc; "malformed at {at}")?));
+        }
+    };
+    if state.records > MOST || state.lines > MOST || bytes.len() as u64 > MOST {
+        return Err(Unanswered::Refused(String::from_str(alloc, "too long")?));
+    }
+    let used = pipeline.feed(alloc, &mut state, 7, path, bytes, &mut run.out)?;
+    run.kept.clear();
+    pipeline.save(alloc, &state, &mut run.kept)?;
+    run.records = state.records;
+    run.lines = state.lines;
+    Ok(used)
+}

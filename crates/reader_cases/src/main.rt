@@ -1,0 +1,36 @@
+//! The cases of the small readers: values and entries, paths, expressions, globs, JSON, tables of names, lines, entries of several
+//! lines, command lines, spellings and what knows the files. The files in data/ have the cases, a subject each, and the
+//! program prints how many there are and which differ.
+//!
+//! In an input, `«3:ab»` stands for `ababab`.
+#![tactic(auto)]
+
+mod checkpoints;
+mod commands;
+mod entries;
+mod expressions;
+mod globs;
+mod lines;
+mod paths;
+mod readers;
+mod spellings;
+mod tables;
+mod texts;
+mod trackers;
+mod values;
+
+use case_files::check_file;
+use readers::Readers;
+use std::io::{BufWriter, Write};
+use std::{env, fs, io};
+
+fn main(rt: HostRuntime) -> io::Result<()> {
+    let alloc = rt.alloc();
+    let mut readers = Readers::new(alloc)?;
+    let mut out = BufWriter::new(alloc, io::writer(&rt))?;
+    for name in env::args(&rt)?.skip(1) {
+        let text = fs::read_to_string(&rt, name.as_str())?;
+        check_file(alloc, name.as_str(), text.as_str(), &mut readers, &mut out)?;
+    }
+    out.flush()
+}

@@ -1,0 +1,33 @@
+// Reads settings that stand in files of cases, and compares what comes of them with what is wanted there. Its arguments are the
+// names of the files.
+//
+// The calls are `settings`, whose input is the text of settings, `operator`, whose input is the one operator of settings, and
+// `times N`, whose input is a text of settings in which a line that begins with `* ` stands for N of what is behind that. The
+// answer is the refusal, or what the settings say: their includes and each key that isn't at its default, and behind
+// `settings whole` each key. Behind `times` it is `taken`.
+#![tactic(auto)]
+
+mod answers;
+mod operators;
+mod settings;
+mod values;
+
+use answers::SettingsAnswers;
+use case_files::check_file;
+use std::{env, fs, io};
+
+fn main(rt: HostRuntime) -> io::Result<()> {
+    let alloc = rt.alloc();
+    let mut out = io::writer(&rt);
+    for name in env::args(&rt)?.skip(1) {
+        let text = fs::read_to_string(&rt, name.as_str())?;
+        check_file(
+            alloc,
+            name.as_str(),
+            text.as_str(),
+            &mut SettingsAnswers,
+            &mut out,
+        )?;
+    }
+    Ok(())
+}
