@@ -25,38 +25,6 @@ check_regexes() {
     [ "$count" -gt 10 ]
 }
 
-check_conversions() {
-    local folder count=0
-    has_yaml || return 0
-    for folder in "$root"/tests/e2e/filelog/*/; do
-        from_filelog settings "$folder/collector.yaml" >given && from_filelog same given "$folder/settings.json" || {
-            echo "in $folder"
-            return 1
-        }
-        count=$((count + 1))
-    done
-    [ "$count" = 5 ]
-}
-
-# becomes NAME: the configuration's settings make of its logs the entries that they should.
-becomes() {
-    local folder=$root/tests/e2e/filelog/$1
-    # The logs lie in this folder in place of the root.
-    sed -E 's#"/(var|srv)/#"\1/#g' "$folder/settings.json" >settings.json
-    find "$folder" -mindepth 1 -maxdepth 1 -type d -exec cp -R {} . \;
-    quietly && "$root/examples/show" | diff "$folder/expected" -
-}
-
-check_nginx() { becomes nginx; }
-
-check_syslog() { becomes syslog; }
-
-check_java() { becomes java; }
-
-check_kubernetes() { becomes kubernetes; }
-
-check_json() { becomes json; }
-
 # converts STATUS WORD..: the tool ends with the status; what it prints is in `given`, and what it tells in `said`.
 converts() {
     local want=$1 status
@@ -66,6 +34,53 @@ converts() {
     [ "$status" = "$want" ] || { echo "status $status, not $want" && cat said && return 1; }
 }
 
+# A folder of tests/e2e/filelog has a Collector's configuration collector.yaml, the words in `arguments` that the tool is given
+# beside it, and either the settings that it gives, with logs and the records in `expected` that are made of them, or in `told`
+# what can't be had.
+converts_as_wanted() {
+    local words=()
+    [ ! -e "$1/arguments" ] || read -ra words <"$1/arguments"
+    if [ -e "$1/told" ]; then
+        converts 1 "${words[@]}" "$1/collector.yaml" && [ ! -s given ] && grep ': left out: ' said | diff "$1/told" -
+    else
+        converts 0 "${words[@]}" "$1/collector.yaml" && from_filelog same given "$1/settings.json"
+    fi || {
+        echo "in $1"
+        return 1
+    }
+}
+
+check_conversions() {
+    local folder wrong=0 whole=0 refused=0
+    has_yaml || return 0
+    for folder in "$root"/tests/e2e/filelog/*/; do
+        converts_as_wanted "${folder%/}" || wrong=1
+        [ ! -e "$folder/settings.json" ] || whole=$((whole + 1))
+        [ ! -e "$folder/told" ] || refused=$((refused + 1))
+    done
+    [ "$wrong" = 0 ] && [ "$whole" = 30 ] && [ "$refused" = 6 ]
+}
+
+# becomes FOLDER: the configuration's settings make of its logs the entries that they should.
+becomes() {
+    # The logs lie in this folder in place of the root.
+    sed -E 's#"/(var|srv)/#"\1/#g' "$1/settings.json" >settings.json
+    find "$1" -mindepth 1 -maxdepth 1 -type d -exec cp -R {} . \;
+    quietly && "$root/examples/show" | diff "$1/expected" -
+}
+
+check_records() {
+    local folder wrong=0
+    for folder in "$root"/tests/e2e/filelog/*/; do
+        [ -e "$folder/settings.json" ] || continue
+        rm -rf one && mkdir one && (cd one && becomes "${folder%/}") || {
+            echo "in $folder"
+            wrong=1
+        }
+    done
+    [ "$wrong" = 0 ]
+}
+
 check_notes() {
     has_yaml || return 0
     converts 0 "$root/tests/e2e/filelog/nginx/collector.yaml" && from_filelog same given "$root/tests/e2e/filelog/nginx/settings.json" || return 1
@@ -73,6 +88,8 @@ check_notes() {
 receivers.filelog/nginx.include: note: a log that was renamed is taken only where a pattern matches its new name too, as app.log* does
 receivers.filelog/nginx.poll_interval: note: the agent polls when it is told to: let what tells it do so each 0.5 seconds
 receivers.filelog/nginx.storage: note: the agent always keeps its place in each file, in its folder
+receivers.filelog/nginx.operators[0].timestamp.layout: note: it reads no time with a fraction of a second: write %S.%L where the log has one
+receivers.filelog/nginx.operators[0]: note: a line whose time or severity isn't read stays unparsed; the receiver keeps what else is parsed
 T
 }
 
@@ -88,7 +105,8 @@ receivers:
       - {type: uri_parser}
       - {type: regex_parser, regex: '(?P<1st>x)', parse_from: message}
 Y
-    converts 1 some.yaml && [ ! -s given ] && cp said first && converts 0 --partly some.yaml && diff first said || return 1
+    converts 1 some.yaml && [ ! -s given ] && cp said first && converts 0 --partly some.yaml || return 1
+    diff <(cat said; echo "from-filelog: it can't be had as a whole, so nothing was written; --partly gives the rest") first || return 1
     diff said - <<'T' || return 1
 receivers.filelog/nginx.encoding: left out: logs are read as UTF-8: let the program log so
 receivers.filelog/nginx.operators[1]: left out: there is no operator uri_parser: let a regex_parser cut it, or the Collector behind
@@ -102,15 +120,50 @@ T
 check_receivers() {
     has_yaml || return 0
     printf 'receivers: {filelog/a: {include: [/a*]}, otlp: {}, filelog: {include: [/b*]}}' >some.yaml
-    converts 0 some.yaml && [ "$(tr -d ' \n' <given)" = '{"include":["/a*"]}{"include":["/b*"]}' ] &&
-        [ "$(cat said)" = 'receivers: note: each of filelog/a, filelog wants a folder of its own: --receiver prints one' ] &&
-        converts 0 --receiver filelog some.yaml && [ "$(tr -d ' \n' <given)" = '{"include":["/b*"]}' ] && [ ! -s said ] &&
-        converts 0 - <some.yaml &&
+    converts 0 --receiver filelog some.yaml && [ "$(tr -d ' \n' <given)" = '{"include":["/b*"]}' ] && [ ! -s said ] &&
         converts 2 --receiver filelog/c some.yaml && [ "$(cat said)" = 'from-filelog: there is no receiver filelog/c' ] &&
         converts 2 - <<<'receivers: {otlp: {}}' && [ "$(cat said)" = 'from-filelog: there is no receiver filelog' ] &&
-        converts 1 - <<<'receivers: {filelog: }' && [ "$(cat said)" = 'receivers.filelog.include: left out: this key has to be there' ] &&
+        converts 1 - <<<'receivers: {filelog: }' && [ ! -s given ] &&
+        [ "$(cat said)" = "receivers.filelog.include: left out: this key has to be there${LF}from-filelog: nothing can be had of it" ] &&
         converts 2 - <<<'{' && grep -q '^from-filelog: this is no YAML' said &&
         converts 2 zz.yaml && converts 2
+}
+
+# Several receivers are never printed behind one another: each comes into a folder of its own.
+check_several_receivers() {
+    has_yaml || return 0
+    printf 'receivers: {filelog/a: {include: [/a*]}, otlp: {}, filelog: {include: [/b*]}}' >some.yaml
+    converts 2 some.yaml && [ ! -s given ] && [ "$(cat said)" = 'from-filelog: there are 2 receivers, and each wants a folder of its own: --receiver NAME prints one of filelog/a, filelog, --into FOLDER writes them all' ] &&
+        converts 0 --into agents some.yaml && [ ! -s given ] && [ ! -s said ] &&
+        [ "$(cd agents && echo *)" = 'filelog filelog-a' ] &&
+        [ "$(tr -d ' \n' <agents/filelog-a/settings.json)" = '{"include":["/a*"]}' ] &&
+        [ "$(tr -d ' \n' <agents/filelog/settings.json)" = '{"include":["/b*"]}' ] || return 1
+    # What can't be had of one leaves nothing of any.
+    printf 'receivers: {filelog/a: {include: [/a*], header: {}}, filelog: {include: [/b*]}}' >some.yaml
+    converts 1 --into none some.yaml && [ ! -e none ] && tail -n 1 said | grep -q -- '--partly gives the rest$' &&
+        converts 0 --into none --partly some.yaml && [ "$(cd none && echo *)" = 'filelog filelog-a' ]
+}
+
+# What a receiver_creator starts is told of, and isn't passed over.
+check_receiver_creator() {
+    has_yaml || return 0
+    cat >some.yaml <<'Y'
+receivers:
+  receiver_creator/logs:
+    watch_observers: [k8s_observer]
+    receivers:
+      filelog/pod:
+        rule: type == "pod.container"
+        config: {include: ['/var/log/pods/`pod.namespace`_`pod.name`_`pod.uid`/*/*.log']}
+      redis: {rule: port == 6379}
+Y
+    converts 1 some.yaml && [ ! -s given ] && diff said - <<'T' || return 1
+receivers.receiver_creator/logs.receivers.filelog/pod: left out: receivers are started by what an observer finds, which the agent doesn't ask: write a receiver filelog whose include has /var/log/pods/*/*/*.log, with routes by k8s.pod.name and what else the operator container tells
+from-filelog: nothing can be had of it
+T
+    echo '  filelog: {include: [/b*]}' >>some.yaml
+    converts 1 some.yaml && [ ! -s given ] && grep -q '^receivers.receiver_creator/logs.receivers.filelog/pod: left out' said &&
+        converts 0 --partly some.yaml && [ "$(tr -d ' \n' <given)" = '{"include":["/b*"]}' ]
 }
 
 # The program has each type of operators that the tool writes.
@@ -126,6 +179,18 @@ check_types() {
         count=$((count + 1))
     done
     [ "$count" -gt 15 ]
+}
+
+# The table of what converts in docs/MIGRATION.md is that of the configurations, and so is what it shows of ten of them.
+check_table() {
+    from_filelog table >rows && diff rows <(grep '^| \[[a-z0-9_]*\](../tests/e2e/filelog/' "$root/docs/MIGRATION.md") &&
+        grep -q "$(grep -c '| whole' rows) of $(wc -l <rows) convert whole\." "$root/docs/MIGRATION.md"
+}
+
+check_ten() {
+    local names
+    mapfile -t names < <(sed -n 's/^#### //p' "$root/docs/MIGRATION.md")
+    [ "${#names[@]}" = 10 ] && diff <(from_filelog shown "${names[@]}") <(sed -n '/^#### /,/^## /p' "$root/docs/MIGRATION.md" | sed '/^## /d')
 }
 
 # Each receiver that docs/MIGRATION.md shows gives the settings behind it.

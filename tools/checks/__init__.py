@@ -1,0 +1,1 @@
+"""What tools/check-settings is made of."""
