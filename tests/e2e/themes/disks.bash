@@ -246,3 +246,22 @@ check_output_put_back() {
     truncate -s 326 output.jsonl
     once 0 "$(summary 1 1 0 652)$LF" && tail -c +327 output.jsonl >rest && mv rest output.jsonl && tells '1 2 app.log world'
 }
+
+# A limit on the size of files ends the agent by a signal. Nothing that was kept is lost, and the next run goes on.
+check_limit_on_the_size_of_files() {
+    local status
+    a_log
+    once 0 "$(one_line)$LF" && seq 1 100 >>app.log || return 1
+    (ulimit -f 1 && exec "$agent" once) >report 2>/dev/null
+    status=$?
+    [ "$status" = $((128 + $(kill -l XFSZ))) ] && run 0 "326$LF" committed && quietly && [ "$(told | wc -l)" = 101 ] &&
+        [ "$(told | cut -d ' ' -f 2 | sort -n | uniq | wc -l)" = 101 ]
+}
+
+# Where it may open too few files it ends with 7, and leaves what is kept.
+check_limit_on_open_files() {
+    a_log
+    once 0 "$(one_line)$LF" && echo world >>app.log || return 1
+    (ulimit -n 8 && exec "$agent" once) >report 2>/dev/null
+    [ $? = 7 ] && [ "$(cat report)" = 'fault 7 disk' ] && once 0 "$(summary 1 1 0 652)$LF" && bodies '["hello", "world"]'
+}

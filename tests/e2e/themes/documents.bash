@@ -20,7 +20,7 @@ each_document() {
 # `examples` runs, other programs' settings, and pictures.
 kinds_are_known() {
     ! find blocks -type f ! -name '*.settings' ! -name '*.log' ! -name '*.report' ! -name '*.output' ! -name '*.console' \
-        ! -name '*.sh' ! -name '*.yaml' ! -name '*.text' | grep .
+        ! -name '*.filelog' ! -name '*.converted' ! -name '*.sh' ! -name '*.yaml' ! -name '*.text' | grep .
 }
 
 check_kinds_of_blocks() { each_document kinds_are_known; }
@@ -157,30 +157,68 @@ check_patterns() {
     [ "$count" -gt 10 ]
 }
 
-# Each status of the table has a section, and the README has the same statuses.
+# The statuses are those of the definition, and each has a section, to which its number leads.
 check_statuses_have_sections() {
     local status place
-    document rows "$root/docs/STATUSES.md" Status Line >statuses || return 1
-    while IFS=$'\x1f' read -r status _; do
-        place=${status#*(#}
-        place=${place%)}
+    sed -n 's/^- \*\*\[\([0-9]*\)\](#\([a-z0-9-]*\))\*\*.*/\1 \2/p' "$root/docs/STATUSES.md" >statuses
+    diff <(cut -d ' ' -f 1 statuses) <({ printf '0\n9\n'; sed -n 's/^status_of .* = \([0-9]*\)$/\1/p' "$root"/crates/*/specs/Status.antt; } | sort -n -u) || return 1
+    while read -r status place; do
         grep -q -i -x "## ${place//-/ }" "$root/docs/STATUSES.md" || {
-            echo "there is no section $place"
+            echo "there is no section $place of $status"
             return 1
         }
     done <statuses
-    diff <(sed 's/^\[\([0-9]*\)\].*/\1/' statuses) <(document rows "$root/README.md" Status | cut -d $'\x1f' -f 1)
 }
 
-# The links between the documents lead somewhere.
-check_links() {
-    local file link
-    for file in "${documents[@]}"; do
-        while read -r link; do
-            [ -e "$(dirname "$file")/$link" ] || {
-                echo "$(basename "$file") links to $link"
+# What documents name is there: paths, crates, functions, units, commands, and what their links lead to.
+check_names() {
+    document names "$root" "${documents[@]}" "$root"/{CONTRIBUTING,CHANGELOG}.md >names && [ ! -s names ] || {
+        echo "what documents name and what isn't there:"
+        cat names
+        return 1
+    }
+}
+
+# What isn't there is told.
+check_names_that_are_gone() {
+    printf '%s\n' '`docs/NONE.md` `stanza_agent::no_such_name` `stanza_agent frob` `examples/run none`' '[none](none.md)' >text.md
+    printf '```sh\ntools/none x\nsystemctl start stanza-agent-none.timer\n```\n' >>text.md
+    cp text.md DECISIONS.md && echo '`no_such_name` `NoSuchName`' >>DECISIONS.md
+    document names "$root" text.md DECISIONS.md >names
+    [ "$(grep -c '^text.md: ' names)" = 7 ] && [ "$(grep -c '^DECISIONS.md: ' names)" = 9 ]
+}
+
+# The indexes of the long documents lead to each of their sections.
+check_indexes() {
+    local file heading place
+    for file in PROMISES DECISIONS; do
+        sed -n '/^## Where to find/,/^## /p' "$root/docs/$file.md" >index
+        while read -r heading; do
+            place=$(tr -d "',." <<<"${heading,,}" | tr ' ' -)
+            grep -q -F "](#$place)" index || {
+                echo "$file.md: the index doesn't have: $heading"
                 return 1
             }
-        done < <(grep -o '](\([^)#:]\+\)[)#]' "$file" | sed 's/^](//;s/[)#]$//')
+        done < <(sed -n 's/^## //p' "$root/docs/$file.md" | grep -v -e '^In one page$' -e '^Where to find')
+    done
+}
+
+# The table has each crate once, the map each whose name doesn't tell that it is for cases or tests, and the README each of the toolchain's crates, of which some come in parts.
+check_crates_are_told() {
+    local known library crate
+    known=$(sed -n 's/^\([a-z_0-9]*\):.*/\1/p' "$root/crates.txt" | sort)
+    diff <(echo "$known") <(document rows "$root/docs/ARCHITECTURE.md" Crate 'Stands on' | cut -d $'\x1f' -f 1 | grep -o '[a-z_0-9]*' | sort) || return 1
+    sed -n '/^## The layers/,/^## A poll/p' "$root/docs/ARCHITECTURE.md" >map
+    for crate in $(grep -v '_cases$\|_tests$' <<<"$known"); do
+        grep -q -w "$crate" map || {
+            echo "the map doesn't have $crate"
+            return 1
+        }
+    done
+    for library in $(sed -n 's/^[a-z_0-9]*: //p' "$root/crates.txt" | tr ' ' '\n' | sort -u | grep -v -x -F "$known" | grep -v -x 'jiff_.*\|regex_.*'); do
+        sed -n '/^Proved with/,/^$/p' "$root/README.md" | grep -q -F "\`$library\`" || {
+            echo "the README doesn't name $library"
+            return 1
+        }
     done
 }

@@ -67,12 +67,3 @@ check_hand_over_of_nothing() {
     quietly && mv output.jsonl away && ! hand_over 2>/dev/null && [ "$(ls spool)" = new ] && [ ! -e handed ] || return 1
     mv away output.jsonl && hand_over && handed '1 1 app.log hello' && [ "$(ls spool)" = 0000000000000.jsonl ]
 }
-
-check_units() {
-    command -v systemd-analyze >/dev/null || return 0
-    sed "s#/usr/local/lib/stanza_agent/#$root/examples/rotated/#;s#/usr/local/bin/stanza_agent#$work/bin/stanza_agent#" \
-        "$root/examples/rotated/stanza-agent.service" >stanza-agent.service
-    cp "$root/examples/rotated/stanza-agent.timer" .
-    systemd-analyze verify "$PWD/stanza-agent.service" "$PWD/stanza-agent.timer" 2>"$work/shown"
-    ! grep stanza-agent "$work/shown"
-}
