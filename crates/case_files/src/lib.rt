@@ -10,7 +10,7 @@
 //! ```
 //!
 //! The input has any number of lines, and `\xNN` in it stands for the byte NN. The contract for the layer above:
-//! [`Case::read`] takes a block apart (`IsCase`), and [`check_file`] asks for the answer of each case of a file, and prints
+//! [`Case::read`] takes a block apart (`IsCase`), and [`check_files`] asks for the answer of each case of the files, and prints
 //! those that differ.
 #![tactic(auto)]
 
@@ -19,5 +19,5 @@ mod checking;
 mod escapes;
 
 pub use case::Case;
-pub use checking::{Answers, check_file};
+pub use checking::{Answers, check_files};
 pub use escapes::{shown, unescaped};

@@ -9,7 +9,5 @@ mod ending;
 pub mod laws;
 mod playing;
 mod show;
-#[cfg(test)]
-mod tests;
 
 pub use show::{Demo, play_rounds};

@@ -10,7 +10,7 @@ use std::alloc::{AllocError, Global};
 const SETTINGS: &[u8] = b"{\"include\":[\"d*.log*\"],\"start_at\":\"beginning\"}";
 
 /// What a demonstration shows.
-#[derive(Clone, Copy, Debug, PartialEq, Eq)]
+#[derive(Clone, Copy, Debug)]
 pub struct Demo {
     pub rounds: u16,
     /// How many polls there were, those that were stopped too.

@@ -1,5 +1,5 @@
 // The parts of a tree that are open, and what ends them.
-ghost use Rattle.std.specs.Prelude.{◌≡◌, IfOk};
+ghost use Rattle.std.specs.Prelude.{◌≡◌, ◌∷◌, ◌++◌, [], IfOk};
 ghost use Rattle.std.specs.List.{count_by, list_any};
 ghost use Rattle.expr_lang.specs.Begun.{is_group};
 ghost use Rattle.expr_lang.specs.Machine.{joined_and, joined_or, joined, nests, has_room as have_room, frame, frames_of};
@@ -81,6 +81,28 @@ pub fn has_room(frames: &Vec<Frame>) -> bool
     open_levels(frames) < MAX_DEPTH
 }
 
+fn boxed(alloc: Global, left: Node, right: Node) -> Result<(Box<Node>, Box<Node>), AllocError>
+    ensures left { IfOk result (λ sides. sides.0.value ≡ left) }
+    ensures right { IfOk result (λ sides. sides.1.value ≡ right) }
+{
+    let left = Box::new(alloc, left)?;
+    let right = Box::new(alloc, right)?;
+    Ok((left, right))
+}
+
+/// The operand, where the last frame stays.
+fn put_back(
+    mut frames: Vec<Frame>,
+    frame: Frame,
+    operand: Node,
+) -> Result<(Vec<Frame>, Node), AllocError>
+    ensures frames { IfOk result (λ join. join.0.items ≡ frames.items ++ (frame ∷ [])) }
+    ensures operand { IfOk result (λ join. join.1 ≡ operand) }
+{
+    frames.push(frame)?;
+    Ok((frames, operand))
+}
+
 /// An operand with the conjunction of which it is the last part.
 pub fn join_and(
     alloc: Global,
@@ -92,14 +114,10 @@ pub fn join_and(
 {
     match frames.pop() {
         Some(Frame::And { at, left }) => {
-            let left = Box::new(alloc, left)?;
-            let right = Box::new(alloc, operand)?;
+            let (left, right) = boxed(alloc, left, operand)?;
             Ok((frames, Node::And { at, left, right }))
         }
-        Some(frame) => {
-            frames.push(frame)?;
-            Ok((frames, operand))
-        }
+        Some(frame) => put_back(frames, frame, operand),
         None => Ok((frames, operand)),
     }
 }
@@ -115,14 +133,10 @@ fn join_or(
 {
     match frames.pop() {
         Some(Frame::Or { at, left }) => {
-            let left = Box::new(alloc, left)?;
-            let right = Box::new(alloc, operand)?;
+            let (left, right) = boxed(alloc, left, operand)?;
             Ok((frames, Node::Or { at, left, right }))
         }
-        Some(frame) => {
-            frames.push(frame)?;
-            Ok((frames, operand))
-        }
+        Some(frame) => put_back(frames, frame, operand),
         None => Ok((frames, operand)),
     }
 }

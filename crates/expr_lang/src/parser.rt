@@ -29,11 +29,20 @@ pub enum Phase {
 }
 
 /// The tokens so far.
-#[derive(Drop)]
 pub struct Parser {
     phase: Phase,
     /// From the outermost to the innermost.
     frames: Vec<Frame>,
+}
+
+// By hand, so that what drops one goes by this call, and not by what each phase may hold.
+impl Drop for Parser {
+    fn drop(self) {
+        let Parser {
+            phase: _phase,
+            frames: _frames,
+        } = self;
+    }
 }
 
 /// The kinds of tokens that may come next.
@@ -135,7 +144,11 @@ fn whole(mut frames: Vec<Frame>, operand: Node) -> Option<Node>
     ensures { ended (frames_of frames.items, tree operand) ≡ option_map tree result }
 {
     match frames.pop() {
-        Some(_) => None,
+        Some(frame) => {
+            drop(frame);
+            drop(operand);
+            None
+        }
         None => Some(operand),
     }
 }
@@ -334,8 +347,15 @@ fn leave_group(
 {
     match frames.pop() {
         Some(Frame::Group) => Ok(Some(settle(alloc, frames, operand)?)),
-        Some(_) => Ok(None),
-        None => Ok(None),
+        Some(frame) => {
+            drop(frame);
+            drop(operand);
+            Ok(None)
+        }
+        None => {
+            drop(operand);
+            Ok(None)
+        }
     }
 }
 

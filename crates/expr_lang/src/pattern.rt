@@ -1,5 +1,5 @@
 // Patterns of regular expressions, and what searches texts for them.
-ghost use Rattle.std.specs.Prelude.{◌≡◌, IfOk};
+ghost use Rattle.std.specs.Prelude.{◌≡◌, IfOk, IfSome};
 ghost use Rattle.regex.specs.Strings.{matcher_pattern, regex_pattern, regex_source};
 ghost use Rattle.expr_lang.specs.IsReadByDefault.{IsReadByDefault};
 ghost use Rattle.expr_lang.specs.Patterns.{is_found};
@@ -88,14 +88,20 @@ impl Searches {
     ) -> Result<bool, AllocError>
         ensures { IfOk result (λ found. found ≡ is_found (regex_source pattern.now.regex) text.now) }
     {
-        if let Ok(mut searches) = self.by_place.try_borrow_mut() {
-            if let Some(search) = searches.get_mut(&at) {
-                if search.pattern.source() == pattern.source() {
-                    return Ok(search.is_in(text));
-                }
-            }
+        match self.find_kept(at, pattern, text) {
+            Some(found) => Ok(found),
+            None => self.find_anew(alloc, at, pattern, text),
         }
-        self.find_anew(alloc, at, pattern, text)
+    }
+
+    /// As `find`, by the search that is kept for the place, where it is for this pattern and not lent.
+    fn find_kept(&self, at: usize, pattern: &Pattern, text: &str) -> Option<bool>
+        ensures { IfSome result (λ found. found ≡ is_found (regex_source pattern.now.regex) text.now) }
+    {
+        match self.by_place.try_borrow_mut() {
+            Ok(mut searches) => found_by(&mut *searches, at, pattern, text),
+            Err(_) => None,
+        }
     }
 
     /// As `find`, by a search that is made now. It is kept where the others aren't lent.
@@ -112,9 +118,40 @@ impl Searches {
     {
         let mut search = Box::new(alloc, Search::new(alloc, pattern)?)?;
         let found = search.is_in(text);
-        if let Ok(mut searches) = self.by_place.try_borrow_mut() {
-            searches.insert(at, search)?;
-        }
+        self.keep(at, search)?;
         Ok(found)
     }
+
+    fn keep(&self, at: usize, search: Box<Search<'static>>) -> Result<(), AllocError> {
+        match self.by_place.try_borrow_mut() {
+            Ok(mut searches) => put(&mut *searches, at, search),
+            Err(_) => Ok(()),
+        }
+    }
+}
+
+/// As `find`, by what is kept for the place.
+fn found_by(
+    searches: &mut BTreeMap<usize, Box<Search<'static>>>,
+    at: usize,
+    pattern: &Pattern,
+    text: &str,
+) -> Option<bool>
+    ensures { IfSome result (λ found. found ≡ is_found (regex_source pattern.now.regex) text.now) }
+{
+    let search = searches.get_mut(&at)?;
+    if search.pattern.source() == pattern.source() {
+        Some(search.is_in(text))
+    } else {
+        None
+    }
+}
+
+fn put(
+    searches: &mut BTreeMap<usize, Box<Search<'static>>>,
+    at: usize,
+    search: Box<Search<'static>>,
+) -> Result<(), AllocError> {
+    searches.insert(at, search)?;
+    Ok(())
 }

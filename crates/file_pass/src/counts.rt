@@ -6,7 +6,7 @@ use crate::ending::Ending;
 use crate::found::Found;
 
 /// How many of the paths led to what. Each of 32 bits stands still at 2^32 - 1.
-#[derive(Clone, Copy, Debug, PartialEq, Eq)]
+#[derive(Clone, Copy)]
 pub struct Counts {
     /// Files that were opened and not empty.
     pub files: u32,

@@ -12,7 +12,7 @@ pub struct OpenFile {
 }
 
 /// How the reading of a file ended.
-#[derive(Clone, Copy, Debug, PartialEq, Eq)]
+#[derive(Clone, Copy)]
 pub enum Ending {
     /// At the place that was asked for.
     Whole,

@@ -2,7 +2,7 @@
 use crate::ending::Ending;
 
 /// What was found at a path.
-#[derive(Clone, Copy, Debug, PartialEq, Eq)]
+#[derive(Clone, Copy)]
 pub enum Found {
     /// No plain file has the path.
     Gone,

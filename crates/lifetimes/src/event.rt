@@ -2,7 +2,7 @@
 use mem_world::WorldStep;
 
 /// One event of a script.
-#[derive(Debug, PartialEq, Drop)]
+#[derive(Drop)]
 pub enum Event {
     /// Another process does this step. It has to be lawful after what came before.
     World(WorldStep),

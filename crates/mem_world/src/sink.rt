@@ -10,7 +10,7 @@ use outside::{CallFault, Sink};
 use std::alloc::{AllocError, Global};
 
 /// An output in memory.
-#[derive(Debug, Drop)]
+#[derive(Drop)]
 pub struct MemSink {
     bytes: Vec<u8>,
     failures: Failures,

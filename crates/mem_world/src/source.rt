@@ -10,7 +10,7 @@ use outside::{Failed, Source};
 use std::alloc::{AllocError, Global};
 
 /// An input in memory, which gives its bytes in pieces.
-#[derive(Debug, Drop)]
+#[derive(Drop)]
 pub struct MemSource {
     bytes: Vec<u8>,
     position: usize,

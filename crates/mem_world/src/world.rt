@@ -6,11 +6,11 @@ use entry_model::Text;
 use std::alloc::{AllocError, AllocFailed, Global};
 
 /// The number by which a log file is known, whatever its name is.
-#[derive(Clone, Copy, Debug, PartialEq, Eq)]
+#[derive(Clone, Copy)]
 pub struct FileName(pub u32);
 
 /// One step of another process.
-#[derive(Debug, PartialEq, Drop)]
+#[derive(Drop)]
 pub enum WorldStep {
     /// A new, empty file with this name.
     Create { file: FileName, path: Text },
@@ -23,7 +23,7 @@ pub enum WorldStep {
 }
 
 /// Why a step was not played.
-#[derive(Clone, Copy, Debug, PartialEq, Eq)]
+#[derive(Clone, Copy, PartialEq, Eq)]
 pub enum StepFault {
     /// No process can do this step now.
     NotLawful,

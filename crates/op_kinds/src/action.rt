@@ -21,7 +21,6 @@ use std::alloc::{AllocError, Global};
 use time_severity::{SeverityOp, TimeOp};
 
 /// What an operator with one output does with an entry.
-#[derive(Drop)]
 pub(crate) enum Action {
     Noop,
     /// Lines of containers are read, and their parts joined.
@@ -40,6 +39,28 @@ pub(crate) enum Action {
     Filter(Expr),
     /// Entries are joined.
     Recombine(Join),
+}
+
+// By hand, so that what drops one goes by this call, and not by what each kind may hold.
+impl Drop for Action {
+    fn drop(self) {
+        match self {
+            Action::Noop => {}
+            Action::Container(_container) => {}
+            Action::Move(_move) => {}
+            Action::Copy(_copy) => {}
+            Action::Add(_add) => {}
+            Action::Remove(_remove) => {}
+            Action::Flatten(_flatten) => {}
+            Action::Retain(_retain) => {}
+            Action::Parse(_parse) => {}
+            Action::Time(_time) => {}
+            Action::Severity(_severity) => {}
+            Action::Syslog(_syslog) => {}
+            Action::Filter(_condition) => {}
+            Action::Recombine(_join) => {}
+        }
+    }
 }
 
 /// What becomes of an entry that is changed in place.

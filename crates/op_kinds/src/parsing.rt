@@ -16,7 +16,6 @@ use std::alloc::Global;
 use time_severity::{SeverityOp, TimeOp};
 
 /// Where a parser reads and writes, and what it stamps entries with.
-#[derive(Drop)]
 pub(crate) struct Keys {
     pub(crate) from: FieldPath,
     pub(crate) to: FieldPath,
@@ -24,11 +23,30 @@ pub(crate) struct Keys {
     pub(crate) severity: Option<SeverityOp>,
 }
 
+impl Drop for Keys {
+    fn drop(self) {
+        let Keys {
+            from: _from,
+            to: _to,
+            timestamp: _timestamp,
+            severity: _severity,
+        } = self;
+    }
+}
+
 /// Puts the members that a value says into an entry, and stamps it.
-#[derive(Drop)]
 pub(crate) struct Parse {
     pub(crate) parser: Parser,
     pub(crate) keys: Keys,
+}
+
+impl Drop for Parse {
+    fn drop(self) {
+        let Parse {
+            parser: _parser,
+            keys: _keys,
+        } = self;
+    }
 }
 
 impl Parse {

@@ -6,6 +6,7 @@ use crate::running::{Run, begun, go_on, pipeline_of};
 use crate::unanswered::Unanswered;
 use crate::words::Words;
 use case_files::{Answers, Case, shown};
+use pipeline::Pipeline;
 use std::alloc::{AllocError, Global};
 
 /// Answers the calls.
@@ -44,29 +45,54 @@ fn ran(alloc: Global, call: &str, input: &[u8], words: Words) -> Result<String, 
     let (head, lines) = parted(input);
     let settings = settings_of(alloc, call, head)?;
     let pipeline = pipeline_of(alloc, &settings)?;
-    let log = log_of(alloc, lines, words)?;
-    let mut run = begun(alloc, &pipeline)?;
-    go_on(alloc, &pipeline, words.path(), &log, words.size, &mut run)?;
+    let run = run_of(alloc, &pipeline, lines, words)?;
     told(alloc, call, &run)
+}
+
+fn run_of(
+    alloc: Global,
+    pipeline: &Pipeline,
+    lines: &[u8],
+    words: Words,
+) -> Result<Run, Unanswered> {
+    let mut run = begun(alloc, pipeline)?;
+    feed_log(alloc, pipeline, lines, words, &mut run)?;
+    Ok(run)
+}
+
+fn feed_log(
+    alloc: Global,
+    pipeline: &Pipeline,
+    lines: &[u8],
+    words: Words,
+    run: &mut Run,
+) -> Result<(), Unanswered> {
+    let log = log_of(alloc, lines, words)?;
+    go_on(alloc, pipeline, words.path(), &log, words.size, run)
 }
 
 fn told(alloc: Global, call: &str, run: &Run) -> Result<String, Unanswered> {
     match call {
         "operator" | "entry" | "records" | "pieces" => Ok(records(alloc, &run.out)?),
         "kept" => Ok(shown(alloc, &run.kept)?),
-        "joined" => {
-            let sent = records(alloc, &run.out)?;
-            let open = closed(alloc, "body.t", &run.kept)?;
-            let answer = format!(in alloc; "{sent}\nopen\n{open}")?;
-            Ok(String::from_str(alloc, answer.trim_matches('\n'))?)
-        }
-        "output" => {
-            let lines = shown(alloc, &run.out)?;
-            let answer = format!(in alloc; "records {} lines {}\n{lines}", run.records, run.lines)?;
-            Ok(String::from_str(alloc, answer.trim_end_matches('\n'))?)
-        }
+        "joined" => joined(alloc, run),
+        "output" => Ok(output(alloc, run)?),
         _ => Ok(String::from_str(alloc, "no call")?),
     }
+}
+
+fn joined(alloc: Global, run: &Run) -> Result<String, Unanswered> {
+    let mut answer = records(alloc, &run.out)?;
+    let open = closed(alloc, "body.t", &run.kept)?;
+    write!(answer, "\nopen\n{open}")?;
+    Ok(String::from_str(alloc, answer.trim_matches('\n'))?)
+}
+
+fn output(alloc: Global, run: &Run) -> Result<String, AllocError> {
+    let lines = shown(alloc, &run.out)?;
+    let (records, count) = (run.records, run.lines);
+    let answer = format!(in alloc; "records {records} lines {count}\n{lines}")?;
+    String::from_str(alloc, answer.trim_end_matches('\n'))
 }
 
 // What a log gives where these bytes were kept before it, with a line of two hyphens between them.
@@ -75,7 +101,6 @@ fn restored(alloc: Global, input: &[u8], words: Words) -> Result<String, Unanswe
     let pipeline = pipeline_of(alloc, settings)?;
     let (kept, lines) = cut_at(kept, b"\n--\n").unwrap_or((kept, b""));
     let mut run = Run::new(alloc, Vec::from_slice(alloc, kept)?);
-    let log = log_of(alloc, lines, words)?;
-    go_on(alloc, &pipeline, words.path(), &log, words.size, &mut run)?;
+    feed_log(alloc, &pipeline, lines, words, &mut run)?;
     Ok(records(alloc, &run.out)?)
 }

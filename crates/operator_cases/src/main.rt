@@ -29,21 +29,9 @@ mod unanswered;
 mod words;
 
 use calls::Operators;
-use case_files::check_file;
-use std::{env, fs, io};
+use case_files::check_files;
+use std::io;
 
 fn main(rt: HostRuntime) -> io::Result<()> {
-    let alloc = rt.alloc();
-    let mut out = io::writer(&rt);
-    for name in env::args(&rt)?.skip(1) {
-        let text = fs::read_to_string(&rt, name.as_str())?;
-        check_file(
-            alloc,
-            name.as_str(),
-            text.as_str(),
-            &mut Operators,
-            &mut out,
-        )?;
-    }
-    Ok(())
+    check_files(&rt, &mut Operators)
 }

@@ -25,13 +25,19 @@ fn record(alloc: Global, line: &str) -> Result<String, AllocError> {
     let Some((record, _scope)) = rest.split_once(r#"}],"scope":{"#) else {
         return String::from_str(alloc, line);
     };
-    let whole = if resource.is_empty() {
-        format!(in alloc; "{{{record}}}")?
+    let mut whole = String::new(alloc);
+    if resource.is_empty() {
+        write!(whole, "{{{record}}}")?;
     } else {
-        format!(in alloc; r#"{{"resource":[{resource}],{record}}}"#)?
-    };
-    let plain = plain(alloc, whole.as_str())?;
-    gathered(alloc, shown(alloc, plain.as_bytes())?.as_str())
+        write!(whole, r#"{{"resource":[{resource}],{record}}}"#)?;
+    }
+    simple(alloc, whole.as_str())
+}
+
+fn simple(alloc: Global, otlp: &str) -> Result<String, AllocError> {
+    let plain = plain(alloc, otlp)?;
+    let shown = shown(alloc, plain.as_bytes())?;
+    gathered(alloc, shown.as_str())
 }
 
 // The text with `<COUNT*LETTER>` for a letter that stands more than 200 times in a row.

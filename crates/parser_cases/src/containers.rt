@@ -28,22 +28,30 @@ pub fn cri(alloc: Global, text: &str) -> Result<String, AllocError> {
 
 /// Time, stream, `full` or `part`, and the text, or the fault.
 fn line(alloc: Global, text: &str, format: Format) -> Result<String, AllocError> {
-    let read = match read_line(alloc, text, format) {
-        Ok(read) => read,
-        Err(fault) => return format!(in alloc; "{fault:?}"),
-    };
-    let mut out = format!(in alloc; "{} ", read.timestamp)?;
-    write_text(read.stream.as_str(), &mut out)?;
-    out.push_str(if read.partial { " part " } else { " full " })?;
-    write_text(read.text.as_str(), &mut out)?;
+    match read_line(alloc, text, format) {
+        Ok(read) => line_told(alloc, &read),
+        Err(fault) => format!(in alloc; "{fault:?}"),
+    }
+}
+
+fn line_told(alloc: Global, line: &ContainerLine) -> Result<String, AllocError> {
+    let mut out = String::new(alloc);
+    write!(out, "{} ", line.timestamp)?;
+    write_text(line.stream.as_str(), &mut out)?;
+    out.push_str(if line.partial { " part " } else { " full " })?;
+    write_text(line.text.as_str(), &mut out)?;
     Ok(out)
 }
 
 /// `pod`, with a path as the input: the names in it, or `none`.
 pub fn pod(alloc: Global, text: &str) -> Result<String, AllocError> {
-    let Some(pod) = pod_of_path(alloc, text)? else {
-        return String::from_str(alloc, "none");
-    };
+    match pod_of_path(alloc, text)? {
+        Some(pod) => pod_told(alloc, &pod),
+        None => String::from_str(alloc, "none"),
+    }
+}
+
+fn pod_told(alloc: Global, pod: &Pod) -> Result<String, AllocError> {
     let Pod {
         namespace,
         pod,
@@ -66,16 +74,30 @@ pub fn container(alloc: Global, words: &str, text: &str) -> Result<String, Alloc
         by_path: by_path == "pod",
     };
     let entry = entry_of(alloc, text, path)?;
-    let Some((_format, line)) = op.read(alloc, &entry)? else {
-        return String::from_str(alloc, "none");
-    };
-    let told = told_by(alloc, op.by_path, line, entry)?;
-    let mut out = format!(in alloc; "time {}\nbody ", told.timestamp.unwrap_or(0))?;
-    write_value(&told.body, &mut out)?;
+    match op.read(alloc, &entry)? {
+        Some((_format, line)) => entry_told(alloc, op.by_path, line, entry),
+        None => String::from_str(alloc, "none"),
+    }
+}
+
+fn entry_told(
+    alloc: Global,
+    by_path: bool,
+    line: ContainerLine,
+    entry: Entry,
+) -> Result<String, AllocError> {
+    let told = told_by(alloc, by_path, line, entry)?;
+    entry_shown(alloc, &told)
+}
+
+fn entry_shown(alloc: Global, entry: &Entry) -> Result<String, AllocError> {
+    let mut out = String::new(alloc);
+    write!(out, "time {}\nbody ", entry.timestamp.unwrap_or(0))?;
+    write_value(&entry.body, &mut out)?;
     out.push_str("\nattributes ")?;
-    write_value(&told.attributes, &mut out)?;
+    write_value(&entry.attributes, &mut out)?;
     out.push_str("\nresource ")?;
-    write_value(&told.resource, &mut out)?;
+    write_value(&entry.resource, &mut out)?;
     Ok(out)
 }
 
@@ -91,10 +113,14 @@ fn format_of(name: &str) -> Option<Format> {
 fn entry_of(alloc: Global, body: &str, path: &str) -> Result<Entry, AllocError> {
     let mut entry = Entry::new(alloc, Text::from_str(alloc, body)?)?;
     if !path.is_empty() {
-        let mut attributes = Fields::new(alloc);
-        let name = Text::from_str(alloc, "log.file.path")?;
-        attributes.insert(name, Value::Text(Text::from_str(alloc, path)?))?;
-        entry.attributes = Value::Map(attributes);
+        entry.attributes = Value::Map(attributes_of(alloc, path)?);
     }
     Ok(entry)
+}
+
+fn attributes_of(alloc: Global, path: &str) -> Result<Fields, AllocError> {
+    let mut attributes = Fields::new(alloc);
+    let name = Text::from_str(alloc, "log.file.path")?;
+    attributes.insert(name, Value::Text(Text::from_str(alloc, path)?))?;
+    Ok(attributes)
 }

@@ -11,9 +11,9 @@ mod shown;
 mod stamps;
 mod times;
 
-use case_files::{Answers, Case, check_file};
+use case_files::{Answers, Case, check_files};
 use std::alloc::{AllocError, Global};
-use std::{env, fs, io};
+use std::io;
 use time_severity::SeverityOp;
 
 /// What cases leave for those behind them.
@@ -66,17 +66,5 @@ fn answer(alloc: Global, call: &str, words: &str, text: &str) -> Result<String, 
 }
 
 fn main(rt: HostRuntime) -> io::Result<()> {
-    let alloc = rt.alloc();
-    let mut answers = ParserCases { severity: None };
-    for name in env::args(&rt)?.skip(1) {
-        let text = fs::read_to_string(&rt, name.as_str())?;
-        check_file(
-            alloc,
-            name.as_str(),
-            text.as_str(),
-            &mut answers,
-            &mut io::writer(&rt),
-        )?;
-    }
-    Ok(())
+    check_files(&rt, &mut ParserCases { severity: None })
 }

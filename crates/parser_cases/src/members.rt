@@ -61,16 +61,19 @@ fn csv(alloc: Global, words: &str, value: &Value) -> Result<String, AllocError> 
 
 /// Two searches by one parser have one answer.
 fn regex(alloc: Global, pattern: &str, value: &Value) -> Result<String, AllocError> {
-    let op = match RegexOp::new(alloc, pattern) {
-        Ok(op) => op,
-        Err(fault) => return format!(in alloc; "{fault:?}"),
-    };
-    let first = told(alloc, op.apply(alloc, value))?;
-    let second = told(alloc, op.apply(alloc, value))?;
-    if first.as_str() == second.as_str() {
-        return Ok(first);
+    match RegexOp::new(alloc, pattern) {
+        Ok(op) => searched_twice(alloc, &op, value),
+        Err(fault) => format!(in alloc; "{fault:?}"),
     }
-    format!(in alloc; "{first}\nand then {second}")
+}
+
+fn searched_twice(alloc: Global, op: &RegexOp, value: &Value) -> Result<String, AllocError> {
+    let mut first = told(alloc, op.apply(alloc, value))?;
+    let second = told(alloc, op.apply(alloc, value))?;
+    if first != second {
+        write!(first, "\nand then {second}")?;
+    }
+    Ok(first)
 }
 
 /// The first two texts of a list in JSON. One that isn't there is empty.

@@ -19,15 +19,19 @@ pub fn rfc3164(alloc: Global, words: &str, text: &str) -> Result<String, AllocEr
 
 /// Severity, time and members, or the fault.
 fn told(alloc: Global, outcome: Result<Syslog, SyslogFault>) -> Result<String, AllocError> {
-    let syslog = match outcome {
-        Ok(syslog) => syslog,
-        Err(fault) => return format!(in alloc; "{fault:?}"),
-    };
+    match outcome {
+        Ok(syslog) => message_told(alloc, &syslog),
+        Err(fault) => format!(in alloc; "{fault:?}"),
+    }
+}
+
+fn message_told(alloc: Global, syslog: &Syslog) -> Result<String, AllocError> {
+    let mut out = String::new(alloc);
     let severity = syslog.severity;
-    let mut out = match syslog.timestamp {
-        Some(time) => format!(in alloc; "{severity} {time} ")?,
-        None => format!(in alloc; "{severity} - ")?,
-    };
+    match syslog.timestamp {
+        Some(time) => write!(out, "{severity} {time} ")?,
+        None => write!(out, "{severity} - ")?,
+    }
     write_members(&syslog.fields, &mut out)?;
     Ok(out)
 }

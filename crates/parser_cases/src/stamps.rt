@@ -1,7 +1,7 @@
 // Entries that are stamped with times and severities. Before that an entry has the time 7 and the severity 3, `before`.
 use crate::shown::write_text;
 use crate::times::kind_of;
-use entry_model::{Entry, Severity, Text};
+use entry_model::{Entry, Severity, Text, Value};
 use field_paths::FieldPath;
 use std::alloc::{AllocError, Global};
 use time_layout::Layout;
@@ -14,16 +14,23 @@ pub fn mapping(alloc: Global, words: &str, text: &str) -> Result<Option<Severity
     let Ok(from) = FieldPath::read(alloc, from) else {
         return Ok(None);
     };
-    let mut rules = Vec::new(alloc);
-    for line in text.lines() {
-        let Some(rule) = rule_of(alloc, line)? else {
-            return Ok(None);
-        };
-        rules.push(rule)?;
-    }
+    let Some(rules) = rules_of(alloc, text)? else {
+        return Ok(None);
+    };
     let preset = flags.contains("preset");
     let overwrite_text = flags.contains("overwrite_text");
     Ok(Some(SeverityOp::new(from, preset, overwrite_text, rules)))
+}
+
+fn rules_of(alloc: Global, text: &str) -> Result<Option<Vec<SeverityRule>>, AllocError> {
+    let mut rules = Vec::new(alloc);
+    for line in text.lines() {
+        match rule_of(alloc, line)? {
+            Some(rule) => rules.push(rule)?,
+            None => return Ok(None),
+        }
+    }
+    Ok(Some(rules))
 }
 
 fn rule_of(alloc: Global, line: &str) -> Result<Option<SeverityRule>, AllocError> {
@@ -49,33 +56,61 @@ fn range_of(text: &str) -> Option<(i64, i64)> {
 
 /// `severity`, with a body in JSON as the input: the entry's number and name by the last mapping, or the fault.
 pub fn severity(alloc: Global, op: &Option<SeverityOp>, text: &str) -> Result<String, AllocError> {
-    let (Some(op), Some(mut entry)) = (op, entry_of(alloc, text)?) else {
-        return String::from_str(alloc, "no mapping or no body");
-    };
-    let mut wanted = entry.copy(alloc)?;
-    let outcome = op.apply(alloc, &mut entry);
-    if outcome.is_ok() {
-        wanted.severity = entry.severity;
-        wanted.severity_text = entry.severity_text.share()?;
+    match op {
+        Some(op) => severity_by(alloc, op, text),
+        None => String::from_str(alloc, "no mapping"),
     }
-    let mut stamp = format!(in alloc; "{} ", entry.severity.number)?;
+}
+
+fn severity_by(alloc: Global, op: &SeverityOp, text: &str) -> Result<String, AllocError> {
+    match entry_of(alloc, text)? {
+        Some(mut entry) => graded(alloc, op, &mut entry, text),
+        None => String::from_str(alloc, "no body"),
+    }
+}
+
+fn graded(
+    alloc: Global,
+    op: &SeverityOp,
+    entry: &mut Entry,
+    text: &str,
+) -> Result<String, AllocError> {
+    let outcome = op.apply(alloc, entry);
+    let mut stamp = String::new(alloc);
+    write!(stamp, "{} ", entry.severity.number)?;
     write_text(entry.severity_text.as_str(), &mut stamp)?;
-    stamped(alloc, outcome, stamp, entry == wanted)
+    if outcome.is_ok() {
+        entry.severity = Severity { number: 3 };
+        entry.severity_text = Text::from_str(alloc, "before")?;
+    }
+    let same = is_before(alloc, entry, text)?;
+    stamped(alloc, outcome, stamp.as_str(), same)
 }
 
 /// `stamp FROM epoch KIND` or `stamp FROM layout LOCATION LAYOUT`, with a body in JSON as the input: the entry's time, or the
 /// fault.
 pub fn stamp(alloc: Global, words: &str, text: &str) -> Result<String, AllocError> {
-    let (Some(op), Some(mut entry)) = (time_op(alloc, words)?, entry_of(alloc, text)?) else {
-        return String::from_str(alloc, "no operator or no body");
-    };
-    let mut wanted = entry.copy(alloc)?;
-    let outcome = op.apply(alloc, &mut entry);
-    if outcome.is_ok() {
-        wanted.timestamp = entry.timestamp;
+    match time_op(alloc, words)? {
+        Some(op) => stamp_by(alloc, &op, text),
+        None => String::from_str(alloc, "no operator"),
     }
+}
+
+fn stamp_by(alloc: Global, op: &TimeOp, text: &str) -> Result<String, AllocError> {
+    match entry_of(alloc, text)? {
+        Some(mut entry) => timed(alloc, op, &mut entry, text),
+        None => String::from_str(alloc, "no body"),
+    }
+}
+
+fn timed(alloc: Global, op: &TimeOp, entry: &mut Entry, text: &str) -> Result<String, AllocError> {
+    let outcome = op.apply(alloc, entry);
     let stamp = format!(in alloc; "{}", entry.timestamp.unwrap_or(0))?;
-    stamped(alloc, outcome, stamp, entry == wanted)
+    if outcome.is_ok() {
+        entry.timestamp = Some(7);
+    }
+    let same = is_before(alloc, entry, text)?;
+    stamped(alloc, outcome, stamp.as_str(), same)
 }
 
 fn time_op(alloc: Global, words: &str) -> Result<Option<TimeOp>, AllocError> {
@@ -95,23 +130,36 @@ fn time_kind(alloc: Global, told: &str) -> Option<TimeKind> {
     Some(TimeKind::Layout(layout))
 }
 
+// Whether an entry is as `entry_of` gave it.
+fn is_before(alloc: Global, entry: &Entry, text: &str) -> Result<bool, AllocError> {
+    match entry_of(alloc, text)? {
+        Some(before) => Ok(before == *entry),
+        None => Ok(false),
+    }
+}
+
 fn entry_of(alloc: Global, text: &str) -> Result<Option<Entry>, AllocError> {
-    let Ok(body) = json_text::read(alloc, text) else {
-        return Ok(None);
-    };
+    match json_text::read(alloc, text) {
+        Ok(body) => Ok(Some(entry_with(alloc, body)?)),
+        Err(_) => Ok(None),
+    }
+}
+
+fn entry_with(alloc: Global, body: Value) -> Result<Entry, AllocError> {
+    let severity_text = Text::from_str(alloc, "before")?;
     let mut entry = Entry::new(alloc, Text::empty())?;
     entry.body = body;
     entry.severity = Severity { number: 3 };
-    entry.severity_text = Text::from_str(alloc, "before")?;
+    entry.severity_text = severity_text;
     entry.timestamp = Some(7);
-    Ok(Some(entry))
+    Ok(entry)
 }
 
 /// The stamp or the fault. `same` says that the entry is else as it was.
 fn stamped(
     alloc: Global,
     outcome: Result<(), StampFault>,
-    stamp: String,
+    stamp: &str,
     same: bool,
 ) -> Result<String, AllocError> {
     let more = if same { "" } else { ", and more is changed" };

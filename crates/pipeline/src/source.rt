@@ -9,12 +9,21 @@ use otlp_json::{Scope, Template};
 use std::alloc::{AllocError, Global};
 
 /// How tokens become lines.
-#[derive(Drop)]
 pub(crate) enum Source {
     /// Without operators: each by what the lines share.
     Lines(Template),
     /// Through the operators: each as an entry.
     Entries(Shared),
+}
+
+// By hand, so that what drops one goes by this call, and not by what each kind may hold.
+impl Drop for Source {
+    fn drop(self) {
+        match self {
+            Source::Lines(_template) => {}
+            Source::Entries(_shared) => {}
+        }
+    }
 }
 
 /// What the entries of a file and their lines share.

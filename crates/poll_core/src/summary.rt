@@ -3,7 +3,7 @@ use file_pass::Taking;
 use tree_walk::Walk;
 
 /// The numbers of one poll. Each of 32 bits stands still at 2^32 - 1.
-#[derive(Clone, Copy, Debug, PartialEq, Eq)]
+#[derive(Clone, Copy, Debug)]
 pub struct Summary {
     /// Files that were opened and not empty.
     pub files: u32,

@@ -13,8 +13,16 @@ pub fn checkpoint(alloc: Global, bytes: &[u8]) -> Result<String, AllocError> {
     };
     let mut again = Vec::new(alloc);
     encode(alloc, &checkpoint, &mut again)?;
-    let mut text = checkpoint_text(alloc, &checkpoint)?;
-    let digits = hexadecimal(alloc, &again)?;
+    text_and_spelling(alloc, &checkpoint, &again)
+}
+
+fn text_and_spelling(
+    alloc: Global,
+    checkpoint: &Checkpoint,
+    spelling: &[u8],
+) -> Result<String, AllocError> {
+    let mut text = checkpoint_text(alloc, checkpoint)?;
+    let digits = hexadecimal(alloc, spelling)?;
     add_line(&mut text, digits.as_str())?;
     Ok(text)
 }
@@ -29,13 +37,10 @@ pub fn change(alloc: Global, bytes: &[u8]) -> Result<String, AllocError> {
 
 fn checkpoint_text(alloc: Global, checkpoint: &Checkpoint) -> Result<String, AllocError> {
     let settings = one_line(alloc, checkpoint.settings.as_slice())?;
-    let mut text = format!(in alloc;
-        "settings [{settings}] output {} next {}",
-        checkpoint.output_length, checkpoint.next_id
-    )?;
+    let (output, next) = (checkpoint.output_length, checkpoint.next_id);
+    let mut text = format!(in alloc; "settings [{settings}] output {output} next {next}")?;
     for row in checkpoint.rows.as_slice() {
-        let line = format!(in alloc; "{row:?}")?;
-        add_line(&mut text, line.as_str())?;
+        write!(text, "\n{row:?}")?;
     }
     Ok(text)
 }
@@ -75,22 +80,31 @@ pub fn offsets(alloc: Global, words: &str, ids: &str) -> Result<String, AllocErr
     for word in ids.split_whitespace() {
         rows.push(row_of(alloc, word.parse::<u32>().unwrap_or(0), 100)?)?;
     }
+    let next_id = u32::try_from(number(words, 1)).unwrap_or(0);
+    let change = spelled(alloc, next_id, rows)?;
+    let before = checkpoint_of(alloc, u32::try_from(number(words, 0)).unwrap_or(0))?;
+    match apply(alloc, 1, before, &change) {
+        Ok(after) => offsets_of(alloc, &after),
+        Err(fault) => format!(in alloc; "{fault}"),
+    }
+}
+
+// The bytes of a change to these rows.
+fn spelled(alloc: Global, next_id: u32, rows: Vec<Row>) -> Result<Vec<u8>, AllocError> {
     let change = Change {
         output_length: 10,
-        next_id: u32::try_from(number(words, 1)).unwrap_or(0),
+        next_id,
         rows: Rows::new(rows),
     };
     let mut bytes = Vec::new(alloc);
     encode_change(alloc, &change, &mut bytes)?;
-    let before = checkpoint_of(alloc, u32::try_from(number(words, 0)).unwrap_or(0))?;
-    let after = match apply(alloc, 1, before, &bytes) {
-        Ok(after) => after,
-        Err(fault) => return format!(in alloc; "{fault}"),
-    };
+    Ok(bytes)
+}
+
+fn offsets_of(alloc: Global, checkpoint: &Checkpoint) -> Result<String, AllocError> {
     let mut found = String::from_str(alloc, "offsets")?;
-    for row in after.rows.as_slice() {
-        let offset = format!(in alloc; " {}", row.offset)?;
-        found.push_str(offset.as_str())?;
+    for row in checkpoint.rows.as_slice() {
+        write!(found, " {}", row.offset)?;
     }
     Ok(found)
 }

@@ -46,44 +46,80 @@ fn parts_of(alloc: Global, text: &str) -> Parts {
 }
 
 fn put_member(parts: &mut Parts, name: &str, value: Value) {
-    match (name, value) {
-        ("body", value) => parts.body = value,
-        ("attributes", Value::Map(fields)) => parts.attributes = fields,
-        ("resource", Value::Map(fields)) => parts.resource = fields,
-        ("severity_number", Value::Int(number @ 0..=24)) => {
-            parts.severity = Severity {
-                number: number as u8,
-            };
-        }
-        ("severity_text", Value::Text(text)) => parts.severity_text = text,
-        ("timestamp", Value::Int(time)) => parts.timestamp = u64::try_from(time).ok(),
+    match name {
+        "body" => parts.body = value,
+        "attributes" => put_fields(&mut parts.attributes, value),
+        "resource" => put_fields(&mut parts.resource, value),
+        "severity_number" => parts.severity = severity_of(&value, parts.severity),
+        "severity_text" => put_text(&mut parts.severity_text, value),
+        "timestamp" => parts.timestamp = time_of(&value),
         _ => {}
+    }
+}
+
+fn put_fields(fields: &mut Fields, value: Value) {
+    if let Value::Map(given) = value {
+        *fields = given;
+    }
+}
+
+fn put_text(text: &mut Text, value: Value) {
+    if let Value::Text(given) = value {
+        *text = given;
+    }
+}
+
+fn severity_of(value: &Value, before: Severity) -> Severity {
+    match value {
+        Value::Int(number) if 0 <= *number && *number <= 24 => Severity {
+            number: *number as u8,
+        },
+        _ => before,
+    }
+}
+
+fn time_of(value: &Value) -> Option<u64> {
+    match value {
+        Value::Int(time) => u64::try_from(*time).ok(),
+        _ => None,
     }
 }
 
 /// All that an entry has, also what is empty.
 pub fn entry_text(alloc: Global, entry: &Entry) -> Result<String, AllocError> {
-    let body = value_text(alloc, &entry.body)?;
-    let attributes = value_text(alloc, &entry.attributes)?;
-    let resource = value_text(alloc, &entry.resource)?;
-    let name = one_line(alloc, entry.severity_text.as_str().as_bytes())?;
-    let mut text = format!(in alloc;
-        "{{\"body\":{body},\"attributes\":{attributes},\"resource\":{resource}"
-    )?;
-    if entry.severity.number > 0 {
-        let number = format!(in alloc; ",\"severity_number\":{}", entry.severity.number)?;
-        text.push_str(number.as_str())?;
-    }
-    if !name.is_empty() {
-        let name = format!(in alloc; ",\"severity_text\":\"{name}\"")?;
-        text.push_str(name.as_str())?;
-    }
-    if let Some(time) = entry.timestamp {
-        let time = format!(in alloc; ",\"timestamp\":{time}")?;
-        text.push_str(time.as_str())?;
-    }
+    let mut text = String::new(alloc);
+    write_part(alloc, "{\"body\":", &entry.body, &mut text)?;
+    write_part(alloc, ",\"attributes\":", &entry.attributes, &mut text)?;
+    write_part(alloc, ",\"resource\":", &entry.resource, &mut text)?;
+    write_stamps(alloc, entry, &mut text)?;
     text.push('}')?;
     Ok(text)
+}
+
+fn write_part(
+    alloc: Global,
+    before: &str,
+    value: &Value,
+    out: &mut String,
+) -> Result<(), AllocError> {
+    out.push_str(before)?;
+    let text = value_text(alloc, value)?;
+    out.push_str(text.as_str())
+}
+
+// The severity and the time, where the entry has them.
+fn write_stamps(alloc: Global, entry: &Entry, out: &mut String) -> Result<(), AllocError> {
+    if entry.severity.number > 0 {
+        write!(out, ",\"severity_number\":{}", entry.severity.number)?;
+    }
+    if !entry.severity_text.is_empty() {
+        let name = one_line(alloc, entry.severity_text.as_str().as_bytes())?;
+        write!(out, ",\"severity_text\":\"{name}\"")?;
+    }
+    match entry.timestamp {
+        Some(time) => write!(out, ",\"timestamp\":{time}"),
+        None => Ok(()),
+    }
 }
 
 /// A copy of an entry, once the entry itself is gone.
@@ -96,8 +132,12 @@ pub fn copy(alloc: Global, text: &str) -> Result<String, AllocError> {
 pub fn equal(alloc: Global, text: &str) -> Result<String, AllocError> {
     let (one, other) = text.split_once('\n').unwrap_or((text, ""));
     let one = entry_of(alloc, one)?;
+    equals(alloc, &one, other)
+}
+
+fn equals(alloc: Global, one: &Entry, other: &str) -> Result<String, AllocError> {
     let other = entry_of(alloc, other)?;
-    format!(in alloc; "{}", one == other)
+    format!(in alloc; "{}", *one == other)
 }
 
 /// A text that is shared twice, once the first is gone.
@@ -116,16 +156,21 @@ pub fn levels(alloc: Global, text: &str) -> Result<String, AllocError> {
     if let Ok(value) = json_text::read(alloc, text) {
         entry.body = value;
     }
-    let mut values = String::from_str(alloc, "value")?;
-    let mut entries = String::from_str(alloc, "entry")?;
+    rooms_for(alloc, &entry)
+}
+
+fn rooms_for(alloc: Global, entry: &Entry) -> Result<String, AllocError> {
+    let mut rooms = String::from_str(alloc, "value")?;
     for room in 0..8u32 {
-        let word = format!(in alloc; " {room}")?;
         if entry.body.nests_within(room) {
-            values.push_str(word.as_str())?;
-        }
-        if entry.nests_within(room) {
-            entries.push_str(word.as_str())?;
+            write!(rooms, " {room}")?;
         }
     }
-    format!(in alloc; "{values}\n{entries}")
+    rooms.push_str("\nentry")?;
+    for room in 0..8u32 {
+        if entry.nests_within(room) {
+            write!(rooms, " {room}")?;
+        }
+    }
+    Ok(rooms)
 }

@@ -38,17 +38,34 @@ pub fn tokens(alloc: Global, words: &str, input: &[u8]) -> Result<String, AllocE
             break;
         };
         let text = &rest[token.from..token.to];
-        let entry = match entry_text(alloc, text, false, false)? {
-            Some(entry) => one_line(alloc, entry.as_bytes())?,
-            None => String::from_str(alloc, "none")?,
-        };
-        let text = one_line(alloc, text)?;
-        let line = format!(in alloc; "{} [{text}] entry {entry}", token.after)?;
-        add_line(&mut answers, line.as_str())?;
+        tell_line(alloc, token.after, text, &mut answers)?;
         rest = &rest[token.after..];
     }
     add_line(&mut answers, "and no more")?;
     Ok(answers)
+}
+
+fn tell_line(alloc: Global, after: usize, text: &[u8], out: &mut String) -> Result<(), AllocError> {
+    tell_token(alloc, after, text, out)?;
+    match entry_text(alloc, text, false, false)? {
+        Some(entry) => {
+            let entry = one_line(alloc, entry.as_bytes())?;
+            write!(out, " entry {entry}")
+        }
+        None => out.push_str(" entry none"),
+    }
+}
+
+// How many bytes a token uses, and its text.
+fn tell_token(
+    alloc: Global,
+    after: usize,
+    text: &[u8],
+    out: &mut String,
+) -> Result<(), AllocError> {
+    add_line(out, "")?;
+    let text = one_line(alloc, text)?;
+    write!(out, "{after} [{text}]")
 }
 
 /// The part that stays where the words name the ends that keep their blanks.
@@ -80,19 +97,37 @@ fn cut(alloc: Global, cutter: &Cutter, max: usize, log: &[u8]) -> Result<String,
         let Some(token) = cutter.next(alloc, max, rest)? else {
             break;
         };
-        let text = one_line(alloc, &rest[token.from..token.to])?;
-        let line = format!(in alloc; "{} [{text}]", token.after)?;
-        add_line(&mut answers, line.as_str())?;
-        for first in 0..rest.len() {
-            if next_in_two(alloc, cutter, max, rest, first)? != Some(token) {
-                let line = format!(in alloc; "another one behind {first} bytes")?;
-                add_line(&mut answers, line.as_str())?;
-            }
-        }
+        tell_token(
+            alloc,
+            token.after,
+            &rest[token.from..token.to],
+            &mut answers,
+        )?;
+        tell_others(alloc, cutter, max, rest, token, &mut answers)?;
         rest = &rest[token.after..];
     }
     add_line(&mut answers, "and no more")?;
     Ok(answers)
+}
+
+// Where another token comes once some of the bytes come first.
+fn tell_others(
+    alloc: Global,
+    cutter: &Cutter,
+    max: usize,
+    bytes: &[u8],
+    token: Token,
+    out: &mut String,
+) -> Result<(), AllocError>
+    requires { 1 ≤ max }
+{
+    for first in 0..bytes.len() {
+        if next_in_two(alloc, cutter, max, bytes, first)? != Some(token) {
+            add_line(out, "")?;
+            write!(out, "another one behind {first} bytes")?;
+        }
+    }
+    Ok(())
 }
 
 // The first token where some of the bytes come first and then the others.

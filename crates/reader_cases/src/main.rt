@@ -19,18 +19,11 @@ mod texts;
 mod trackers;
 mod values;
 
-use case_files::check_file;
+use case_files::check_files;
 use readers::Readers;
-use std::io::{BufWriter, Write};
-use std::{env, fs, io};
+use std::io;
 
 fn main(rt: HostRuntime) -> io::Result<()> {
-    let alloc = rt.alloc();
-    let mut readers = Readers::new(alloc)?;
-    let mut out = BufWriter::new(alloc, io::writer(&rt))?;
-    for name in env::args(&rt)?.skip(1) {
-        let text = fs::read_to_string(&rt, name.as_str())?;
-        check_file(alloc, name.as_str(), text.as_str(), &mut readers, &mut out)?;
-    }
-    out.flush()
+    let mut readers = Readers::new(rt.alloc())?;
+    check_files(&rt, &mut readers)
 }

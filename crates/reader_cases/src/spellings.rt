@@ -3,6 +3,7 @@ use crate::checkpoints::{change, checkpoint};
 use crate::entries::{entry_of, entry_text};
 use crate::texts::{from_hexadecimal, hexadecimal, number};
 use crate::values::json;
+use entry_model::Entry;
 use state_codec::{LEVELS, get_entry, get_u32, put_entry};
 use std::alloc::{AllocError, Global};
 
@@ -49,12 +50,16 @@ pub fn told(alloc: Global, call: &str, words: &str, bytes: &[u8]) -> Result<Stri
 pub fn fronts(alloc: Global, call: &str, bytes: &[u8]) -> Result<String, AllocError> {
     for end in 0..bytes.len() {
         let came = told(alloc, call, "", &bytes[..end])?;
-        let wanted = format!(in alloc; "at byte {end}")?;
-        if !came.as_str().ends_with(wanted.as_str()) {
+        if !is_refused_at(alloc, end, came.as_str())? {
             return format!(in alloc; "{end}: {came}");
         }
     }
     format!(in alloc; "{} are refused at their end", bytes.len())
+}
+
+fn is_refused_at(alloc: Global, place: usize, came: &str) -> Result<bool, AllocError> {
+    let wanted = format!(in alloc; "at byte {place}")?;
+    Ok(came.ends_with(wanted.as_str()))
 }
 
 // The place behind the word `at`.
@@ -67,22 +72,31 @@ fn place_of(words: &str) -> usize {
 
 fn read_entry(alloc: Global, words: &str, bytes: &[u8]) -> Result<String, AllocError> {
     match get_entry(alloc, bytes, place_of(words)) {
-        Ok((_, next)) if words == "end" => format!(in alloc; "an entry up to {next}"),
-        Ok((entry, next)) => {
-            let text = entry_text(alloc, &entry)?;
-            format!(in alloc; "{text} up to {next}")
-        }
+        Ok((entry, next)) => up_to(alloc, words, &entry, next),
         Err(fault) => format!(in alloc; "{fault}"),
     }
+}
+
+fn up_to(alloc: Global, words: &str, entry: &Entry, next: usize) -> Result<String, AllocError> {
+    if words == "end" {
+        return format!(in alloc; "an entry up to {next}");
+    }
+    let mut text = entry_text(alloc, entry)?;
+    write!(text, " up to {next}")?;
+    Ok(text)
 }
 
 /// The spelling of an entry.
 pub fn spell_entry(alloc: Global, text: &str) -> Result<String, AllocError> {
     let entry = entry_of(alloc, text)?;
+    spelling_of(alloc, &entry)
+}
+
+fn spelling_of(alloc: Global, entry: &Entry) -> Result<String, AllocError> {
     if !entry.nests_within(LEVELS as u32) {
         return String::from_str(alloc, "nested too deep");
     }
     let mut bytes = Vec::new(alloc);
-    put_entry(alloc, &entry, &mut bytes)?;
+    put_entry(alloc, entry, &mut bytes)?;
     hexadecimal(alloc, &bytes)
 }

@@ -16,14 +16,19 @@ pub fn expanded(alloc: Global, input: &[u8]) -> Result<Vec<u8>, AllocError> {
         };
         all.push_str(front)?;
         let (repeated, behind) = behind.split_once('»').unwrap_or((behind, ""));
-        let (count, part) = repeated.split_once(':').unwrap_or(("1", repeated));
-        for _ in 0..count.parse::<u32>().unwrap_or(0) {
-            all.push_str(part)?;
-        }
+        push_repeated(repeated, &mut all)?;
         rest = behind;
     }
     all.push_str(rest)?;
     Vec::from_slice(alloc, all.as_bytes())
+}
+
+fn push_repeated(repeated: &str, all: &mut String) -> Result<(), AllocError> {
+    let (count, part) = repeated.split_once(':').unwrap_or(("1", repeated));
+    for _ in 0..count.parse::<u32>().unwrap_or(0) {
+        all.push_str(part)?;
+    }
+    Ok(())
 }
 
 /// What a person reads for these bytes, in one line.
@@ -79,8 +84,7 @@ pub fn from_hexadecimal(alloc: Global, text: &[u8]) -> Result<Vec<u8>, AllocErro
 pub fn hexadecimal(alloc: Global, bytes: &[u8]) -> Result<String, AllocError> {
     let mut text = String::new(alloc);
     for byte in bytes {
-        let digits = format!(in alloc; "{byte:02x}")?;
-        text.push_str(digits.as_str())?;
+        write!(text, "{byte:02x}")?;
     }
     Ok(text)
 }

@@ -89,17 +89,21 @@ pub fn advance(
     }
     let before = tracker.row(place).copy(alloc)?;
     let same = before == *tracker.row(place);
-    let (records, lines) = (before.records, before.lines);
-    tracker.advance(
-        place,
-        offset,
-        records,
-        lines,
-        Vec::from_slice(alloc, state)?,
-    );
-    let Some(row) = row_at(tracker, place) else {
-        return String::from_str(alloc, "no row");
-    };
-    let (changed, rows) = (before != *row, tracker.len());
+    let state = Vec::from_slice(alloc, state)?;
+    tracker.advance(place, offset, before.records, before.lines, state);
+    match row_at(tracker, place) {
+        Some(row) => advanced(alloc, same, &before, row, tracker.len()),
+        None => String::from_str(alloc, "no row"),
+    }
+}
+
+fn advanced(
+    alloc: Global,
+    same: bool,
+    before: &Row,
+    row: &Row,
+    rows: usize,
+) -> Result<String, AllocError> {
+    let changed = before != row;
     format!(in alloc; "copied {same}, changed {changed}, {rows} rows, {row:?}")
 }

@@ -3,7 +3,8 @@
 use crate::values::show_value;
 use entry_model::Text;
 use settings_text::{
-    MapRules, MapWant, OnError, OpKind, OpSpec, ParserKeys, Routes, SeveritySpec, Texts, TimeSpec,
+    FormatSpec, LayoutType, MapRules, MapWant, OnError, OpKind, OpSpec, ParserKeys, Routes,
+    SeveritySpec, Texts, TimeSpec,
 };
 use std::alloc::{AllocError, Global};
 
@@ -28,10 +29,23 @@ fn show_time(time: &TimeSpec, out: &mut String) -> Result<(), AllocError> {
         layout,
         location,
     } = time;
+    let layout_type = match layout_type {
+        LayoutType::Strptime => "strptime",
+        LayoutType::Epoch => "epoch",
+    };
     write!(
         out,
-        " parse_from {parse_from:?} layout_type {layout_type:?} layout {layout:?} location {location}"
+        " parse_from {parse_from:?} layout_type {layout_type} layout {layout:?} location {location}"
     )
+}
+
+fn format_word(format: Option<FormatSpec>) -> &'static str {
+    match format {
+        None => "none",
+        Some(FormatSpec::Docker) => "docker",
+        Some(FormatSpec::Crio) => "crio",
+        Some(FormatSpec::Containerd) => "containerd",
+    }
 }
 
 fn show_rules(rules: &MapRules, out: &mut String) -> Result<(), AllocError> {
@@ -153,6 +167,14 @@ fn show_parsing(kind: &OpKind, out: &mut String) -> Result<(), AllocError> {
     }
 }
 
+fn end_key(first: bool) -> &'static str {
+    if first {
+        "is_first_entry"
+    } else {
+        "is_last_entry"
+    }
+}
+
 // The keys of the other types.
 fn show_keys(kind: &OpKind, out: &mut String) -> Result<(), AllocError> {
     match kind {
@@ -161,7 +183,8 @@ fn show_keys(kind: &OpKind, out: &mut String) -> Result<(), AllocError> {
             add_metadata_from_filepath,
         } => write!(
             out,
-            " format {format:?} add_metadata_from_filepath {add_metadata_from_filepath}"
+            " format {} add_metadata_from_filepath {add_metadata_from_filepath}",
+            format_word(*format)
         ),
         OpKind::Move { from, to } | OpKind::Copy { from, to } => {
             write!(out, " from {from:?} to {to:?}")
@@ -186,16 +209,14 @@ fn show_keys(kind: &OpKind, out: &mut String) -> Result<(), AllocError> {
             newest,
             source_identifier,
         } => {
-            let end = if *first {
-                "is_first_entry"
-            } else {
-                "is_last_entry"
-            };
+            let end = end_key(*first);
             let overwrite = if *newest { "newest" } else { "oldest" };
+            write!(out, " combine_field {combine_field:?} {end} {mark:?}")?;
             write!(
                 out,
-                " combine_field {combine_field:?} {end} {mark:?} combine_with {combine_with:?} max_batch_size {max_batch_size} overwrite_with {overwrite}"
+                " combine_with {combine_with:?} max_batch_size {max_batch_size}"
             )?;
+            write!(out, " overwrite_with {overwrite}")?;
             show_text("source_identifier", source_identifier, out)
         }
         _ => show_parsing(kind, out),

@@ -1,5 +1,5 @@
 // The kinds of a key. `at` and `key` name the place: what stands before the key, and the key.
-ghost use Rattle.std.specs.Prelude.{◌≡◌, ◌++◌, ◌≤ℤ◌, ℕ, List, Bool, [], None, IfOk};
+ghost use Rattle.std.specs.Prelude.{◌≡◌, ◌++◌, ◌≤ℤ◌, [], None, IfOk};
 ghost use Rattle.entry_model.specs.Datum.{no_members};
 ghost use Rattle.serde_json.specs.View.{view, items_view, members_view};
 ghost use Rattle.settings_text.specs.Kinds as kinds;
@@ -11,6 +11,7 @@ use crate::literal::Literal;
 use crate::place::{item_place, member_place, place};
 use crate::texts::{NamedTexts, Texts};
 use crate::values::{fields_of, has_fraction, nests_past, value_of};
+use crate::words::Words;
 use entry_model::{Fields, Text};
 use serde_json::{Map, Value};
 use std::alloc::Global;
@@ -18,17 +19,9 @@ use std::alloc::Global;
 /// How deep lists and objects may nest in a value.
 const MOST_NESTED: usize = 64;
 
-/// Which keys an object may have.
-pub trait Keys {
-    ghost test: { Self → List ℕ → Bool };
-
-    fn has(&self, name: &str) -> bool
-        ensures { result ≡ test self.now name.now };
-}
-
 /// Refuses the least key of the members that is none of these.
 #[tactic(auto, unfolding(crate::specs::Kinds::known))]
-pub fn check_known<K: Keys>(
+pub fn check_known<K: Words>(
     alloc: Global,
     members: &Map<String, Value>,
     at: &str,

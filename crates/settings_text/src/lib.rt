@@ -43,20 +43,21 @@ mod texts;
 mod times;
 mod types;
 mod values;
+mod words;
 
 pub use fault::SettingsFault;
-use kinds::{Keys, check_known, fields, flag, name, some_texts, texts, whole};
+use kinds::{check_known, fields, flag, some_texts, texts, whole};
 pub use lists::{Operators, Routes};
 pub use literal::Literal;
 pub use mapping::{MapRule, MapRules, MapWant};
 use multilines::multiline;
 use operators::operators;
 pub use parsing::{FormatSpec, LayoutType, ParserKeys, SeveritySpec, TimeSpec};
-use place::place;
 use serde_json::Value;
 pub use settings::{Multiline, OnError, OpKind, OpSpec, RouteSpec, Settings, StartAt};
 use std::alloc::Global;
 pub use texts::{NamedTexts, Texts};
+use words::{Words, is_one_of, named_or};
 
 /// The greatest length of a text, in bytes.
 pub const MAX_LENGTH: usize = 1_048_576;
@@ -65,44 +66,36 @@ fn start_at(alloc: Global, object: &Value) -> Result<StartAt, SettingsFault>
     ensures { Gives (λ start. start) result
         (kinds.may [] (codes "start_at") (kinds.name grammar.start_named) StartAt.End (view object.now)) }
 {
-    let Some(value) = object.get("start_at") else {
-        return Ok(StartAt::End);
-    };
-    let name = name(alloc, value, "", "start_at")?;
-    if name == "beginning" {
-        Ok(StartAt::Beginning)
-    } else if name == "end" {
-        Ok(StartAt::End)
-    } else {
-        Err(SettingsFault::OutOfRange {
-            key: place(alloc, "", "start_at")?,
-        })
-    }
+    let words = [("beginning", StartAt::Beginning), ("end", StartAt::End)];
+    named_or(alloc, object, "", "start_at", &words, StartAt::End)
 }
 
 /// The keys of the whole.
 struct TopKeys;
 
-impl Keys for TopKeys {
+impl Words for TopKeys {
     ghost use Rattle.settings_text.specs.Grammar.{is_top_key};
 
     ghost test = { λ _. is_top_key };
 
     fn has(&self, name: &str) -> bool {
-        name == "include"
-            || name == "exclude"
-            || name == "start_at"
-            || name == "fingerprint_size"
-            || name == "max_log_size"
-            || name == "multiline"
-            || name == "preserve_leading_whitespaces"
-            || name == "preserve_trailing_whitespaces"
-            || name == "include_file_name"
-            || name == "include_file_path"
-            || name == "include_file_record_number"
-            || name == "attributes"
-            || name == "resource"
-            || name == "operators"
+        let words = [
+            "include",
+            "exclude",
+            "start_at",
+            "fingerprint_size",
+            "max_log_size",
+            "multiline",
+            "preserve_leading_whitespaces",
+            "preserve_trailing_whitespaces",
+            "include_file_name",
+            "include_file_path",
+            "include_file_record_number",
+            "attributes",
+            "resource",
+            "operators",
+        ];
+        is_one_of(name, &words)
     }
 }
 

@@ -3,7 +3,7 @@ use entry_model::{Severity, Text};
 use std::marker::Model;
 
 /// What is wanted of a value.
-#[derive(Debug, PartialEq, Eq, Drop)]
+#[derive(Drop)]
 pub enum MapWant {
     /// This text, with the case of ASCII letters ignored.
     Text(Text),

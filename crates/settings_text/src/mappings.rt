@@ -7,9 +7,10 @@ ghost use Rattle.settings_text.specs.Outcome.{Gives, Adds};
 ghost use Rattle.settings_text.specs.Place.{item_place, member_place};
 
 use crate::fault::SettingsFault;
-use crate::kinds::{Keys, check_known, integer};
+use crate::kinds::{check_known, integer};
 use crate::mapping::{MapRule, MapRules, MapWant};
 use crate::place::{inner, item_place, member_place, place};
+use crate::words::{Words, is_one_of};
 use case_table::{find_fold, severities};
 use entry_model::{Severity, Text};
 use serde_json::{Map, Value};
@@ -18,7 +19,7 @@ use std::alloc::{AllocError, Global};
 /// The short names of severities, in any case.
 struct SeverityNames;
 
-impl Keys for SeverityNames {
+impl Words for SeverityNames {
     ghost use Rattle.settings_text.specs.Mappings.{is_severity};
 
     ghost test = { λ _. is_severity };
@@ -41,13 +42,13 @@ fn severity_named(name: &str) -> Option<u8>
 /// The keys of a range.
 struct RangeKeys;
 
-impl Keys for RangeKeys {
+impl Words for RangeKeys {
     ghost use Rattle.settings_text.specs.Mappings.{is_range_key};
 
     ghost test = { λ _. is_range_key };
 
     fn has(&self, name: &str) -> bool {
-        name == "min" || name == "max"
+        is_one_of(name, &["min", "max"])
     }
 }
 

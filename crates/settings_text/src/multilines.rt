@@ -6,22 +6,23 @@ ghost use Rattle.settings_text.specs.Multilines as multilines;
 ghost use Rattle.settings_text.specs.Outcome.{Gives};
 
 use crate::fault::SettingsFault;
-use crate::kinds::{Keys, check_known, either_text};
+use crate::kinds::{check_known, either_text};
 use crate::place::place;
 use crate::settings::Multiline;
+use crate::words::{Words, is_one_of};
 use serde_json::Value;
 use std::alloc::Global;
 
 /// The keys of `multiline`.
 struct MultilineKeys;
 
-impl Keys for MultilineKeys {
+impl Words for MultilineKeys {
     ghost use Rattle.settings_text.specs.Multilines.{is_key};
 
     ghost test = { λ _. is_key };
 
     fn has(&self, name: &str) -> bool {
-        name == "line_start_pattern" || name == "line_end_pattern"
+        is_one_of(name, &["line_start_pattern", "line_end_pattern"])
     }
 }
 

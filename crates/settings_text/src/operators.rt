@@ -7,7 +7,7 @@ ghost use Rattle.settings_text.specs.Outcome.{Gives};
 
 use crate::fault::SettingsFault;
 use crate::ids::default_id;
-use crate::kinds::{Keys, check_known, name, optional_text, optional_texts, text};
+use crate::kinds::{check_known, optional_text, optional_texts, text};
 use crate::lists::Operators;
 use crate::place::{item_place, place};
 use crate::settings::{OnError, OpKind, OpSpec};
@@ -17,6 +17,7 @@ use crate::types::{
     key_value_parsing, moving, recombining, regex_parsing, removing, retaining, routing,
     severity_parsing, syslog_parsing, time_parsing,
 };
+use crate::words::{Words, is_one_of, meaning, named_or};
 use entry_model::Text;
 use serde_json::Value;
 use std::alloc::{AllocError, Global};
@@ -24,7 +25,7 @@ use std::alloc::{AllocError, Global};
 /// The most operators that a list may have.
 const MOST_OPERATORS: usize = 64;
 
-#[derive(Clone, Copy, Debug, PartialEq, Eq)]
+#[derive(Clone, Copy)]
 enum OpType {
     Noop,
     Container,
@@ -50,45 +51,27 @@ impl OpType {
     fn named(name: &str) -> Option<OpType>
         ensures { result ≡ operators.type_named name.now }
     {
-        if name == "noop" {
-            Some(OpType::Noop)
-        } else if name == "container" {
-            Some(OpType::Container)
-        } else if name == "move" {
-            Some(OpType::Move)
-        } else if name == "copy" {
-            Some(OpType::Copy)
-        } else if name == "add" {
-            Some(OpType::Add)
-        } else if name == "remove" {
-            Some(OpType::Remove)
-        } else if name == "flatten" {
-            Some(OpType::Flatten)
-        } else if name == "retain" {
-            Some(OpType::Retain)
-        } else if name == "filter" {
-            Some(OpType::Filter)
-        } else if name == "csv_parser" {
-            Some(OpType::Csv)
-        } else if name == "json_parser" {
-            Some(OpType::Json)
-        } else if name == "key_value_parser" {
-            Some(OpType::KeyValue)
-        } else if name == "regex_parser" {
-            Some(OpType::Regex)
-        } else if name == "time_parser" {
-            Some(OpType::Time)
-        } else if name == "severity_parser" {
-            Some(OpType::Severity)
-        } else if name == "syslog_parser" {
-            Some(OpType::Syslog)
-        } else if name == "router" {
-            Some(OpType::Router)
-        } else if name == "recombine" {
-            Some(OpType::Recombine)
-        } else {
-            None
-        }
+        let words = [
+            ("noop", OpType::Noop),
+            ("container", OpType::Container),
+            ("move", OpType::Move),
+            ("copy", OpType::Copy),
+            ("add", OpType::Add),
+            ("remove", OpType::Remove),
+            ("flatten", OpType::Flatten),
+            ("retain", OpType::Retain),
+            ("filter", OpType::Filter),
+            ("csv_parser", OpType::Csv),
+            ("json_parser", OpType::Json),
+            ("key_value_parser", OpType::KeyValue),
+            ("regex_parser", OpType::Regex),
+            ("time_parser", OpType::Time),
+            ("severity_parser", OpType::Severity),
+            ("syslog_parser", OpType::Syslog),
+            ("router", OpType::Router),
+            ("recombine", OpType::Recombine),
+        ];
+        meaning(&words, name)
     }
 
     fn has_own_key(self, object: &Value, name: &str) -> bool
@@ -145,10 +128,9 @@ impl OpType {
     fn has_shared_key(self, name: &str) -> bool
         ensures { result ≡ operators.is_shared_key self name.now }
     {
-        let common = name == "type" || name == "id" || name == "on_error";
         match self {
-            OpType::Router => common,
-            _ => common || name == "output" || name == "if",
+            OpType::Router => is_one_of(name, &["type", "id", "on_error"]),
+            _ => is_one_of(name, &["type", "id", "on_error", "output", "if"]),
         }
     }
 }
@@ -160,7 +142,7 @@ struct OperatorKeys<'v> {
     object: &'v Value,
 }
 
-impl Keys for OperatorKeys<'_> {
+impl Words for OperatorKeys<'_> {
     ghost use Rattle.serde_json.specs.View.{view};
     ghost use Rattle.settings_text.specs.Operators.{is_key_of};
 
@@ -228,23 +210,13 @@ fn on_error(alloc: Global, object: &Value, at: &str) -> Result<OnError, Settings
     ensures { Gives (λ on_error. on_error) result
         (kinds.may at.now (codes "on_error") (kinds.name operators.on_error_named) OnError.Send (view object.now)) }
 {
-    let Some(value) = object.get("on_error") else {
-        return Ok(OnError::Send);
-    };
-    let name = name(alloc, value, at, "on_error")?;
-    if name == "send" {
-        Ok(OnError::Send)
-    } else if name == "drop" {
-        Ok(OnError::Drop)
-    } else if name == "send_quiet" {
-        Ok(OnError::SendQuiet)
-    } else if name == "drop_quiet" {
-        Ok(OnError::DropQuiet)
-    } else {
-        Err(SettingsFault::OutOfRange {
-            key: place(alloc, at, "on_error")?,
-        })
-    }
+    let words = [
+        ("send", OnError::Send),
+        ("drop", OnError::Drop),
+        ("send_quiet", OnError::SendQuiet),
+        ("drop_quiet", OnError::DropQuiet),
+    ];
+    named_or(alloc, object, at, "on_error", &words, OnError::Send)
 }
 
 #[tactic(auto, unfolding(crate::specs::Operators::draft))]

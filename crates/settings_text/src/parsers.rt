@@ -7,6 +7,7 @@ ghost use Rattle.settings_text.specs.Parsers as parsers;
 use crate::fault::SettingsFault;
 use crate::kinds::text_or;
 use crate::parsing::ParserKeys;
+use crate::words::is_one_of;
 use crate::{severities, times};
 use serde_json::Value;
 use std::alloc::Global;
@@ -14,14 +15,14 @@ use std::alloc::Global;
 pub fn is_key(name: &str) -> bool
     ensures { result ≡ parsers.is_key name.now }
 {
-    name == "parse_from" || name == "parse_to" || name == "timestamp" || name == "severity"
+    is_one_of(name, &["parse_from", "parse_to", "timestamp", "severity"])
 }
 
 /// The keys of a parser whose texts tell time and severity themselves.
 pub fn is_field_key(name: &str) -> bool
     ensures { result ≡ parsers.is_field_key name.now }
 {
-    name == "parse_from" || name == "parse_to"
+    is_one_of(name, &["parse_from", "parse_to"])
 }
 
 #[tactic(auto, unfolding(crate::specs::Parsers::read))]

@@ -3,7 +3,7 @@ use crate::mapping::MapRules;
 use entry_model::Text;
 
 /// How texts name times.
-#[derive(Clone, Copy, Debug, PartialEq, Eq)]
+#[derive(Clone, Copy)]
 pub enum LayoutType {
     /// By directives, as those of POSIX `strptime`.
     Strptime,
@@ -34,7 +34,7 @@ pub struct SeveritySpec {
 }
 
 /// Who wrote a container's lines.
-#[derive(Clone, Copy, Debug, PartialEq, Eq)]
+#[derive(Clone, Copy)]
 pub enum FormatSpec {
     Docker,
     Crio,
@@ -42,10 +42,20 @@ pub enum FormatSpec {
 }
 
 /// Which field is parsed, where what it says is put, and which of it are the entry's time and severity.
-#[derive(Drop)]
 pub struct ParserKeys {
     pub parse_from: Text,
     pub parse_to: Text,
     pub timestamp: Option<TimeSpec>,
     pub severity: Option<SeveritySpec>,
+}
+
+impl Drop for ParserKeys {
+    fn drop(self) {
+        let ParserKeys {
+            parse_from: _parse_from,
+            parse_to: _parse_to,
+            timestamp: _timestamp,
+            severity: _severity,
+        } = self;
+    }
 }

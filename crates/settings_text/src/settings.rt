@@ -6,7 +6,7 @@ use crate::texts::{NamedTexts, Texts};
 use entry_model::Text;
 
 /// Where reading of a file begins that is found by the first poll.
-#[derive(Clone, Copy, Debug, PartialEq, Eq)]
+#[derive(Clone, Copy, PartialEq, Eq)]
 pub enum StartAt {
     Beginning,
     End,
@@ -24,7 +24,7 @@ pub enum Multiline {
 }
 
 /// What becomes of an entry that an operator cannot work on.
-#[derive(Clone, Copy, Debug, PartialEq, Eq)]
+#[derive(Clone, Copy)]
 pub enum OnError {
     Send,
     Drop,
@@ -33,7 +33,6 @@ pub enum OnError {
 }
 
 /// The settings of an agent. A key that is not written has its default here.
-#[derive(Drop)]
 pub struct Settings {
     /// At least one.
     pub include: Texts,
@@ -53,6 +52,28 @@ pub struct Settings {
     pub resource: NamedTexts,
     /// At most 64.
     pub operators: Operators,
+}
+
+// By hand, so that what drops one goes by this call, and not by what each field may hold.
+impl Drop for Settings {
+    fn drop(self) {
+        let Settings {
+            include: _include,
+            exclude: _exclude,
+            start_at: _,
+            fingerprint_size: _,
+            max_log_size: _,
+            multiline: _multiline,
+            preserve_leading_whitespaces: _,
+            preserve_trailing_whitespaces: _,
+            include_file_name: _,
+            include_file_path: _,
+            include_file_record_number: _,
+            attributes: _attributes,
+            resource: _resource,
+            operators: _operators,
+        } = self;
+    }
 }
 
 /// An operator. Field paths and expressions in it are as they were written.
@@ -80,7 +101,6 @@ impl Drop for OpSpec {
 }
 
 /// What an operator does.
-#[derive(Drop)]
 pub enum OpKind {
     Noop,
     Container {
@@ -165,6 +185,70 @@ pub enum OpKind {
         /// All entries are of one source where there is none.
         source_identifier: Option<Text>,
     },
+}
+
+// By hand, so that what drops one goes by this call, and not by what each kind may hold.
+impl Drop for OpKind {
+    fn drop(self) {
+        match self {
+            OpKind::Noop
+            | OpKind::Container {
+                format: _,
+                add_metadata_from_filepath: _,
+            } => {}
+            OpKind::Move {
+                from: _from,
+                to: _to,
+            }
+            | OpKind::Copy {
+                from: _from,
+                to: _to,
+            } => {}
+            OpKind::Add {
+                field: _field,
+                value: _value,
+            } => {}
+            OpKind::Remove { field: _text }
+            | OpKind::Flatten { field: _text }
+            | OpKind::Filter { expr: _text } => {}
+            OpKind::Retain { fields: _fields } => {}
+            OpKind::Csv {
+                delimiter: _,
+                header: _header,
+                parser: _parser,
+            } => {}
+            OpKind::Json { parser: _parser }
+            | OpKind::Syslog {
+                year: _,
+                location: _,
+                parser: _parser,
+            } => {}
+            OpKind::KeyValue {
+                delimiter: _delimiter,
+                pair_delimiter: _pair_delimiter,
+                parser: _parser,
+            } => {}
+            OpKind::Regex {
+                regex: _regex,
+                parser: _parser,
+            } => {}
+            OpKind::Time(_time) => {}
+            OpKind::Severity(_severity) => {}
+            OpKind::Router {
+                routes: _routes,
+                default: _default,
+            } => {}
+            OpKind::Recombine {
+                combine_field: _combine_field,
+                first: _,
+                mark: _mark,
+                combine_with: _combine_with,
+                max_batch_size: _,
+                newest: _,
+                source_identifier: _source_identifier,
+            } => {}
+        }
+    }
 }
 
 /// Where a router sends the entries for which an expression is true.

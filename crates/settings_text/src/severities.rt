@@ -6,17 +6,18 @@ ghost use Rattle.settings_text.specs.Outcome.{Gives};
 ghost use Rattle.settings_text.specs.Severities as severities;
 
 use crate::fault::SettingsFault;
-use crate::kinds::{Keys, check_known, flag, name, text};
+use crate::kinds::{check_known, flag, text};
 use crate::mappings::mapping;
 use crate::parsing::SeveritySpec;
 use crate::place::{inner, place};
+use crate::words::{Words, is_one_of, named_or};
 use serde_json::Value;
 use std::alloc::Global;
 
 /// The keys of a severity.
 struct SeverityKeys;
 
-impl Keys for SeverityKeys {
+impl Words for SeverityKeys {
     ghost use Rattle.settings_text.specs.Severities.{is_key};
 
     ghost test = { λ _. is_key };
@@ -29,26 +30,15 @@ impl Keys for SeverityKeys {
 pub fn is_key(name: &str) -> bool
     ensures { result ≡ severities.is_key name.now }
 {
-    name == "parse_from" || name == "preset" || name == "overwrite_text" || name == "mapping"
+    is_one_of(name, &["parse_from", "preset", "overwrite_text", "mapping"])
 }
 
 fn preset(alloc: Global, object: &Value, at: &str) -> Result<bool, SettingsFault>
     ensures { Gives (λ preset. preset) result
         (kinds.may at.now (codes "preset") (kinds.name severities.preset_named) true (view object.now)) }
 {
-    let Some(value) = object.get("preset") else {
-        return Ok(true);
-    };
-    let name = name(alloc, value, at, "preset")?;
-    if name == "default" {
-        Ok(true)
-    } else if name == "none" {
-        Ok(false)
-    } else {
-        Err(SettingsFault::OutOfRange {
-            key: place(alloc, at, "preset")?,
-        })
-    }
+    let words = [("default", true), ("none", false)];
+    named_or(alloc, object, at, "preset", &words, true)
 }
 
 #[tactic(auto, unfolding(crate::specs::Severities::read))]

@@ -7,9 +7,10 @@ ghost use Rattle.settings_text.specs.Times as times;
 ghost use Rattle.settings_text.specs.declared.parsing.LayoutType.TheVariants.{Strptime};
 
 use crate::fault::SettingsFault;
-use crate::kinds::{Keys, check_known, name, text};
+use crate::kinds::{check_known, name, text};
 use crate::parsing::{LayoutType, TimeSpec};
 use crate::place::{inner, place};
+use crate::words::{Words, is_one_of, named_or, tested_text};
 use entry_model::Text;
 use serde_json::Value;
 use std::alloc::Global;
@@ -17,7 +18,7 @@ use std::alloc::Global;
 /// The keys of a time.
 struct TimeKeys;
 
-impl Keys for TimeKeys {
+impl Words for TimeKeys {
     ghost use Rattle.settings_text.specs.Times.{is_key};
 
     ghost test = { λ _. is_key };
@@ -30,55 +31,44 @@ impl Keys for TimeKeys {
 pub fn is_key(name: &str) -> bool
     ensures { result ≡ times.is_key name.now }
 {
-    name == "parse_from" || name == "layout_type" || name == "layout" || name == "location"
-}
-
-fn type_named(name: &str) -> Option<LayoutType>
-    ensures { result ≡ times.type_named name.now }
-{
-    if name == "strptime" {
-        Some(LayoutType::Strptime)
-    } else if name == "epoch" {
-        Some(LayoutType::Epoch)
-    } else {
-        None
-    }
+    is_one_of(name, &["parse_from", "layout_type", "layout", "location"])
 }
 
 fn layout_type(alloc: Global, object: &Value, at: &str) -> Result<LayoutType, SettingsFault>
     ensures { Gives (λ layout_type. layout_type) result
         (kinds.may at.now (codes "layout_type") (kinds.name times.type_named) Strptime (view object.now)) }
 {
-    let Some(value) = object.get("layout_type") else {
-        return Ok(LayoutType::Strptime);
-    };
-    let name = name(alloc, value, at, "layout_type")?;
-    match type_named(name) {
-        Some(layout_type) => Ok(layout_type),
-        None => Err(SettingsFault::OutOfRange {
-            key: place(alloc, at, "layout_type")?,
-        }),
-    }
+    let words = [
+        ("strptime", LayoutType::Strptime),
+        ("epoch", LayoutType::Epoch),
+    ];
+    named_or(
+        alloc,
+        object,
+        at,
+        "layout_type",
+        &words,
+        LayoutType::Strptime,
+    )
 }
 
 fn is_count(layout: &str) -> bool
     ensures { result ≡ times.is_count layout.now }
 {
-    layout == "s"
-        || layout == "ms"
-        || layout == "us"
-        || layout == "ns"
-        || layout == "s.ms"
-        || layout == "s.us"
-        || layout == "s.ns"
+    is_one_of(layout, &["s", "ms", "us", "ns", "s.ms", "s.us", "s.ns"])
 }
 
-fn fits(layout_type: LayoutType, layout: &str) -> bool
-    ensures { result ≡ times.fits layout_type layout.now }
-{
-    match layout_type {
-        LayoutType::Strptime => true,
-        LayoutType::Epoch => is_count(layout),
+/// The layouts that fit a type.
+impl Words for LayoutType {
+    ghost use Rattle.settings_text.specs.Times.{fits};
+
+    ghost test = { fits };
+
+    fn has(&self, layout: &str) -> bool {
+        match self {
+            LayoutType::Strptime => true,
+            LayoutType::Epoch => is_count(layout),
+        }
     }
 }
 
@@ -91,19 +81,7 @@ fn layout(
     ensures { Gives (λ layout. layout) result
         (kinds.must at.now (codes "layout") (times.layout layout_type) (view object.now)) }
 {
-    let Some(value) = object.get("layout") else {
-        return Err(SettingsFault::Missing {
-            key: place(alloc, at, "layout")?,
-        });
-    };
-    let content = name(alloc, value, at, "layout")?;
-    if fits(layout_type, content) {
-        Ok(Text::from_str(alloc, content)?)
-    } else {
-        Err(SettingsFault::OutOfRange {
-            key: place(alloc, at, "layout")?,
-        })
-    }
+    tested_text(alloc, object, at, "layout", &layout_type)
 }
 
 /// The number that two digits spell, where it is no more than `most`.

@@ -1,4 +1,4 @@
--- The agent's own files in its folder. They are never log files.
+-- The agent's own files in its folder. No relative pattern matches them.
 use Rattle.std.specs.Prelude.{◌≡◌, ◌≢◌, ◌⊎◌, ℕ, List, [], ◌++◌, codes, IsTrue}
 use Rattle.std.specs.List.{list_all}
 use Rattle.std.specs.Char.{is_ascii_digit}

@@ -1,25 +1,13 @@
 //! A log collecting agent: it follows log files that grow and rotate, and appends what its operators make of each entry to
 //! `output.jsonl`, as one OTLP JSON line.
 //!
-//! [`agent::run_agent`] is the whole program over any tree of log files, disk, control input and report, and its
-//! contract is the product's promise. `main` hands it the real ones, which stand in `real`.
+//! [`run_agent`](agent_commands::run_agent) is the whole program over any tree of log files, disk, control input and report, and
+//! its contract is the product's promise. `main` hands it the real ones, which stand in `real`.
 #![tactic(auto)]
 
-mod agent;
-mod committed;
-mod control;
-mod demo;
-mod fault;
-mod follow;
-mod once;
-mod opening;
 mod real;
-mod report;
-#[cfg(test)]
-mod tests;
-mod turn;
 
-use agent::run_agent;
+use agent_commands::run_agent;
 use real::{RealDisk, RealSink, RealSource, RealTree};
 use std::alloc::Global;
 use std::fs::File;

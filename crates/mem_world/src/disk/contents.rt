@@ -8,7 +8,7 @@ use outside::DiskFile;
 use std::alloc::{AllocError, Global};
 use std::mem;
 
-#[derive(Debug, Drop)]
+#[derive(Drop)]
 pub(crate) struct Contents {
     settings: Vec<u8>,
     output: Vec<u8>,

@@ -7,7 +7,7 @@ ghost use Rattle.mem_world.specs.DiskFailures.{is_due, after_call};
 use std::alloc::{AllocError, Global};
 
 /// The failures that were set for the calls of a device, and how often it has failed.
-#[derive(Debug, Drop)]
+#[derive(Drop)]
 pub(crate) struct Failures {
     /// For each failure the number of calls up to it: 1 is the next call, and 0 one that was made.
     pub(crate) ahead: Vec<u32>,

@@ -2,7 +2,7 @@
 ghost use Rattle.std.specs.Prelude.{◌≡◌};
 
 /// What becomes of a call.
-#[derive(Clone, Copy, Debug, PartialEq, Eq)]
+#[derive(Clone, Copy, PartialEq, Eq)]
 pub(crate) enum Fate {
     Passes,
     /// It fails, and a write or a cut counts as begun.
@@ -26,7 +26,7 @@ impl Fate {
 }
 
 /// A number of calls after which each call fails.
-#[derive(Clone, Copy, Debug)]
+#[derive(Clone, Copy)]
 pub(crate) struct Fuse {
     /// The calls that still pass.
     pub(crate) left: u32,

@@ -4,7 +4,7 @@ ghost use Rattle.std.specs.Prelude.{◌≡◌};
 use outside::DiskFile;
 
 /// A call that changes a file or makes it durable.
-#[derive(Debug, Drop)]
+#[derive(Drop)]
 pub(crate) enum Change {
     /// These bytes became the file, on the disk too.
     Put { bytes: Vec<u8> },
@@ -15,7 +15,7 @@ pub(crate) enum Change {
 }
 
 /// One call of the log.
-#[derive(Debug, Drop)]
+#[derive(Drop)]
 pub(crate) struct Entry {
     pub(crate) file: DiskFile,
     pub(crate) change: Change,

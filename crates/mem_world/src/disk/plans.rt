@@ -11,7 +11,7 @@ use super::fuse::{Fate, Fuse};
 use std::alloc::{AllocError, Global};
 
 /// The failures that were set, the fuse, and the count of faults.
-#[derive(Debug, Drop)]
+#[derive(Drop)]
 pub(crate) struct Plans {
     failures: Failures,
     /// The count of faults when the failures that were set were last dropped.

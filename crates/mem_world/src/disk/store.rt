@@ -14,7 +14,7 @@ use outside::DiskFile;
 use std::alloc::{AllocError, Global};
 
 /// The files, and the log by which their images are defined. The oldest entry comes first.
-#[derive(Debug, Drop)]
+#[derive(Drop)]
 pub(crate) struct Store {
     contents: Contents,
     pub(crate) log: Vec<Entry>,

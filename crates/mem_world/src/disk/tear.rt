@@ -10,7 +10,7 @@ use outside::DiskFile;
 use std::alloc::{AllocError, Global};
 
 /// What is left of each write and cut that no sync followed.
-#[derive(Clone, Copy, Debug, PartialEq, Eq)]
+#[derive(Clone, Copy, PartialEq, Eq)]
 pub(crate) enum Kind {
     Nothing,
     All,
@@ -23,7 +23,7 @@ pub(crate) enum Kind {
 }
 
 /// What a crash leaves of one file.
-#[derive(Clone, Copy, Debug)]
+#[derive(Clone, Copy)]
 pub(crate) struct Tear {
     pub(crate) kind: Kind,
     variation: u32,

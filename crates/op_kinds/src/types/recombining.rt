@@ -26,11 +26,20 @@ use recombine::Recombine;
 use std::alloc::{AllocError, Global};
 
 /// How entries are joined, and what is asked of each.
-#[derive(Drop)]
 pub(crate) struct Join {
     pub(crate) recombine: Recombine,
     pub(crate) mark: Expr,
     pub(crate) source: Option<FieldPath>,
+}
+
+impl Drop for Join {
+    fn drop(self) {
+        let Join {
+            recombine: _recombine,
+            mark: _mark,
+            source: _source,
+        } = self;
+    }
 }
 
 /// What the texts in the settings say.

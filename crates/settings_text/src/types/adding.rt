@@ -7,13 +7,14 @@ ghost use Rattle.settings_text.specs.Types.Adding as adding;
 use crate::fault::SettingsFault;
 use crate::kinds::{text, value};
 use crate::settings::OpKind;
+use crate::words::is_one_of;
 use serde_json::Value;
 use std::alloc::Global;
 
 pub fn is_key(name: &str) -> bool
     ensures { result ≡ adding.is_key name.now }
 {
-    name == "field" || name == "value"
+    is_one_of(name, &["field", "value"])
 }
 
 pub fn read(alloc: Global, object: &Value, at: &str) -> Result<OpKind, SettingsFault>

@@ -6,31 +6,17 @@ ghost use Rattle.settings_text.specs.Outcome.{Gives};
 ghost use Rattle.settings_text.specs.Types.ContainerReading as container_reading;
 
 use crate::fault::SettingsFault;
-use crate::kinds::{flag, name};
+use crate::kinds::flag;
 use crate::parsing::FormatSpec;
-use crate::place::place;
 use crate::settings::OpKind;
+use crate::words::{is_one_of, named};
 use serde_json::Value;
 use std::alloc::Global;
 
 pub fn is_key(name: &str) -> bool
     ensures { result ≡ container_reading.is_key name.now }
 {
-    name == "format" || name == "add_metadata_from_filepath"
-}
-
-fn format_named(name: &str) -> Option<FormatSpec>
-    ensures { result ≡ container_reading.format_named name.now }
-{
-    if name == "docker" {
-        Some(FormatSpec::Docker)
-    } else if name == "crio" {
-        Some(FormatSpec::Crio)
-    } else if name == "containerd" {
-        Some(FormatSpec::Containerd)
-    } else {
-        None
-    }
+    is_one_of(name, &["format", "add_metadata_from_filepath"])
 }
 
 /// The format, where one is written.
@@ -38,15 +24,14 @@ fn format(alloc: Global, object: &Value, at: &str) -> Result<Option<FormatSpec>,
     ensures { Gives (λ format. format) result
         (kinds.may at.now (codes "format") (kinds.given (kinds.name container_reading.format_named)) None (view object.now)) }
 {
-    let Some(value) = object.get("format") else {
-        return Ok(None);
-    };
-    let name = name(alloc, value, at, "format")?;
-    match format_named(name) {
-        Some(format) => Ok(Some(format)),
-        None => Err(SettingsFault::OutOfRange {
-            key: place(alloc, at, "format")?,
-        }),
+    let words = [
+        ("docker", FormatSpec::Docker),
+        ("crio", FormatSpec::Crio),
+        ("containerd", FormatSpec::Containerd),
+    ];
+    match object.get("format") {
+        Some(value) => Ok(Some(named(alloc, value, at, "format", &words)?)),
+        None => Ok(None),
     }
 }
 

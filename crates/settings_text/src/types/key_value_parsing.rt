@@ -6,11 +6,10 @@ ghost use Rattle.settings_text.specs.Outcome.{Gives};
 ghost use Rattle.settings_text.specs.Types.KeyValueParsing as key_value_parsing;
 
 use crate::fault::SettingsFault;
-use crate::kinds::name;
 use crate::names::is_delimiter;
 use crate::parsers;
-use crate::place::place;
 use crate::settings::OpKind;
+use crate::words::{Words, is_one_of, tested};
 use entry_model::Text;
 use serde_json::Value;
 use std::alloc::Global;
@@ -18,7 +17,38 @@ use std::alloc::Global;
 pub fn is_key(name: &str) -> bool
     ensures { result ≡ key_value_parsing.is_key name.now }
 {
-    name == "delimiter" || name == "pair_delimiter" || parsers::is_key(name)
+    is_one_of(name, &["delimiter", "pair_delimiter"]) || parsers::is_key(name)
+}
+
+/// What can part keys, values and pairs.
+struct Delimiters;
+
+impl Words for Delimiters {
+    ghost use Rattle.settings_text.specs.Names.{is_delimiter};
+
+    ghost test = { λ _. is_delimiter };
+
+    fn has(&self, text: &str) -> bool {
+        is_delimiter(text.as_bytes())
+    }
+}
+
+/// Delimiters other than this one.
+#[derive(Clone, Copy)]
+struct OtherDelimiters<'d> {
+    delimiter: &'d Text,
+}
+
+impl Words for OtherDelimiters<'_> {
+    ghost use Rattle.std.specs.Prelude.{not, ◌&&◌};
+    ghost use Rattle.std.specs.Str.{bytes_eq};
+    ghost use Rattle.settings_text.specs.Names.{is_delimiter};
+
+    ghost test = { λ others text. is_delimiter text && not (bytes_eq text others.delimiter.now) };
+
+    fn has(&self, text: &str) -> bool {
+        is_delimiter(text.as_bytes()) && text != self.delimiter.as_str()
+    }
 }
 
 /// What parts a key from its value.
@@ -26,16 +56,9 @@ fn within(alloc: Global, object: &Value, at: &str) -> Result<Text, SettingsFault
     ensures { Gives (λ delimiter. delimiter) result
         (kinds.may at.now (codes "delimiter") key_value_parsing.within (61 ∷ []) (view object.now)) }
 {
-    let Some(value) = object.get("delimiter") else {
-        return Ok(Text::from_str(alloc, "=")?);
-    };
-    let content = name(alloc, value, at, "delimiter")?;
-    if is_delimiter(content.as_bytes()) {
-        Ok(Text::from_str(alloc, content)?)
-    } else {
-        Err(SettingsFault::OutOfRange {
-            key: place(alloc, at, "delimiter")?,
-        })
+    match object.get("delimiter") {
+        Some(value) => tested(alloc, value, at, "delimiter", &Delimiters),
+        None => Ok(Text::from_str(alloc, "=")?),
     }
 }
 
@@ -49,16 +72,10 @@ fn between(
     ensures { Gives (λ between. between) result
         (kinds.may at.now (codes "pair_delimiter") (kinds.given (key_value_parsing.between delimiter.now)) None (view object.now)) }
 {
-    let Some(value) = object.get("pair_delimiter") else {
-        return Ok(None);
-    };
-    let content = name(alloc, value, at, "pair_delimiter")?;
-    if is_delimiter(content.as_bytes()) && content != delimiter.as_str() {
-        Ok(Some(Text::from_str(alloc, content)?))
-    } else {
-        Err(SettingsFault::OutOfRange {
-            key: place(alloc, at, "pair_delimiter")?,
-        })
+    let others = OtherDelimiters { delimiter };
+    match object.get("pair_delimiter") {
+        Some(value) => Ok(Some(tested(alloc, value, at, "pair_delimiter", &others)?)),
+        None => Ok(None),
     }
 }
 

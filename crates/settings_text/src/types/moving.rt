@@ -7,13 +7,14 @@ ghost use Rattle.settings_text.specs.Types.Moving as moving;
 use crate::fault::SettingsFault;
 use crate::kinds::text;
 use crate::settings::OpKind;
+use crate::words::is_one_of;
 use serde_json::Value;
 use std::alloc::Global;
 
 pub fn is_key(name: &str) -> bool
     ensures { result ≡ moving.is_key name.now }
 {
-    name == "from" || name == "to"
+    is_one_of(name, &["from", "to"])
 }
 
 pub fn read(alloc: Global, object: &Value, at: &str) -> Result<OpKind, SettingsFault>

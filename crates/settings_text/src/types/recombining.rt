@@ -6,9 +6,9 @@ ghost use Rattle.settings_text.specs.Outcome.{Gives};
 ghost use Rattle.settings_text.specs.Types.Recombining as recombining;
 
 use crate::fault::SettingsFault;
-use crate::kinds::{either_text, name, optional_text, text, text_or, whole};
-use crate::place::place;
+use crate::kinds::{either_text, optional_text, text, text_or, whole};
 use crate::settings::OpKind;
+use crate::words::{is_one_of, named_or};
 use entry_model::Text;
 use serde_json::Value;
 use std::alloc::Global;
@@ -21,13 +21,18 @@ const USUAL_ENTRIES: u32 = 1_000;
 pub fn is_key(name: &str) -> bool
     ensures { result ≡ recombining.is_key name.now }
 {
-    name == "combine_field"
-        || name == "is_first_entry"
-        || name == "is_last_entry"
-        || name == "combine_with"
-        || name == "max_batch_size"
-        || name == "overwrite_with"
-        || name == "source_identifier"
+    is_one_of(
+        name,
+        &[
+            "combine_field",
+            "is_first_entry",
+            "is_last_entry",
+            "combine_with",
+            "max_batch_size",
+            "overwrite_with",
+            "source_identifier",
+        ],
+    )
 }
 
 /// The object whose keys stand behind it and a point.
@@ -53,19 +58,8 @@ fn newest(alloc: Global, object: &Value, at: &str) -> Result<bool, SettingsFault
     ensures { Gives (λ newest. newest) result
         (kinds.may at.now (codes "overwrite_with") (kinds.name recombining.overwriting_named) false (view object.now)) }
 {
-    let Some(value) = object.get("overwrite_with") else {
-        return Ok(false);
-    };
-    let name = name(alloc, value, at, "overwrite_with")?;
-    if name == "oldest" {
-        Ok(false)
-    } else if name == "newest" {
-        Ok(true)
-    } else {
-        Err(SettingsFault::OutOfRange {
-            key: place(alloc, at, "overwrite_with")?,
-        })
-    }
+    let words = [("oldest", false), ("newest", true)];
+    named_or(alloc, object, at, "overwrite_with", &words, false)
 }
 
 #[tactic(auto, unfolding(crate::specs::Types::Recombining::read))]

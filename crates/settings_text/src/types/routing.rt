@@ -7,10 +7,11 @@ ghost use Rattle.settings_text.specs.Place.{item_place};
 ghost use Rattle.settings_text.specs.Types.Routing as routing;
 
 use crate::fault::SettingsFault;
-use crate::kinds::{Keys, check_known, optional_texts, text, text_or_texts};
+use crate::kinds::{check_known, optional_texts, text, text_or_texts};
 use crate::lists::Routes;
 use crate::place::{item_place, place};
 use crate::settings::{OpKind, RouteSpec};
+use crate::words::{Words, is_one_of};
 use serde_json::Value;
 use std::alloc::{AllocError, Global};
 
@@ -20,19 +21,19 @@ const MOST_ROUTES: usize = 65_534;
 pub fn is_key(name: &str) -> bool
     ensures { result ≡ routing.is_key name.now }
 {
-    name == "routes" || name == "default"
+    is_one_of(name, &["routes", "default"])
 }
 
 /// The keys of a route.
 struct RouteKeys;
 
-impl Keys for RouteKeys {
+impl Words for RouteKeys {
     ghost use Rattle.settings_text.specs.Types.Routing.{is_route_key};
 
     ghost test = { λ _. is_route_key };
 
     fn has(&self, name: &str) -> bool {
-        name == "expr" || name == "output"
+        is_one_of(name, &["expr", "output"])
     }
 }
 

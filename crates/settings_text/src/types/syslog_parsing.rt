@@ -6,32 +6,21 @@ ghost use Rattle.settings_text.specs.Outcome.{Gives};
 ghost use Rattle.settings_text.specs.Types.SyslogParsing as syslog_parsing;
 
 use crate::fault::SettingsFault;
-use crate::kinds::{integer, name};
+use crate::kinds::integer;
 use crate::parsers;
 use crate::place::place;
 use crate::settings::OpKind;
 use crate::times::location;
+use crate::words::{is_one_of, named};
 use serde_json::Value;
 use std::alloc::Global;
 
 /// By which RFC texts are read.
-#[derive(Clone, Copy, Debug, PartialEq, Eq)]
+#[derive(Clone, Copy)]
 enum Protocol {
     Rfc5424,
     /// Its times have no year.
     Rfc3164,
-}
-
-fn protocol_named(name: &str) -> Option<Protocol>
-    ensures { result ≡ syslog_parsing.protocol_named name.now }
-{
-    if name == "rfc5424" {
-        Some(Protocol::Rfc5424)
-    } else if name == "rfc3164" {
-        Some(Protocol::Rfc3164)
-    } else {
-        None
-    }
 }
 
 fn needs_year(object: &Value) -> bool
@@ -50,8 +39,7 @@ fn needs_year(object: &Value) -> bool
 pub fn is_key(object: &Value, name: &str) -> bool
     ensures { result ≡ syslog_parsing.is_key (view object.now) name.now }
 {
-    name == "protocol"
-        || name == "location"
+    is_one_of(name, &["protocol", "location"])
         || parsers::is_field_key(name)
         || (name == "year" && needs_year(object))
 }
@@ -65,13 +53,11 @@ fn read_protocol(alloc: Global, object: &Value, at: &str) -> Result<Protocol, Se
             key: place(alloc, at, "protocol")?,
         });
     };
-    let name = name(alloc, value, at, "protocol")?;
-    match protocol_named(name) {
-        Some(protocol) => Ok(protocol),
-        None => Err(SettingsFault::OutOfRange {
-            key: place(alloc, at, "protocol")?,
-        }),
-    }
+    let words = [
+        ("rfc5424", Protocol::Rfc5424),
+        ("rfc3164", Protocol::Rfc3164),
+    ];
+    named(alloc, value, at, "protocol", &words)
 }
 
 /// A year whose days have instants of 64 bits.

@@ -1,0 +1,52 @@
+use Rattle.std.proofs.Common.{refl}
+use Rattle.agent_commands.specs.DemoEnds.{DemoEnds}
+use Rattle.agent_commands.specs.Moment.{meanings}
+use Rattle.outside.proofs.Passing.{passes_none}
+use Rattle.agent_commands.proofs.DemoLemmas.{demo_status, demo_not_long}
+use Rattle.agent_commands.proofs.StandLemmas.{same_stands}
+use Rattle.agent_commands.proofs.StatusLemmas.{committed_status, follow_status, once_not_long, once_status}
+use Rattle.agent_commands.proofs.agent.run.Goals as goal
+
+-- ---- once
+
+pub returns-in-Once-clause-answers : goal.returns-in-Once-clause-answers
+returns-in-Once-clause-answers g c = (once_status (meanings g.T.Tree.meaning g.D.Disk.meaning g.K.Sink.meaning) _ _ _ c.once.ensures.ends).0
+
+pub returns-in-Once-clause-no_usage : goal.returns-in-Once-clause-no_usage
+returns-in-Once-clause-no_usage g c = (once_status (meanings g.T.Tree.meaning g.D.Disk.meaning g.K.Sink.meaning) _ _ _ c.once.ensures.ends).1
+
+pub returns-in-Once-clause-control_long : goal.returns-in-Once-clause-control_long
+returns-in-Once-clause-control_long g c = λ is. absurd (once_not_long (meanings g.T.Tree.meaning g.D.Disk.meaning g.K.Sink.meaning) _ _ _ c.once.ensures.ends is)
+
+-- ---- follow
+
+pub returns-in-Follow-clause-answers : goal.returns-in-Follow-clause-answers
+returns-in-Follow-clause-answers g c = (follow_status (meanings g.T.Tree.meaning g.D.Disk.meaning g.K.Sink.meaning) _ _ _ _ _ c.follow.ensures.ends).0
+
+pub returns-in-Follow-clause-no_usage : goal.returns-in-Follow-clause-no_usage
+returns-in-Follow-clause-no_usage g c = (follow_status (meanings g.T.Tree.meaning g.D.Disk.meaning g.K.Sink.meaning) _ _ _ _ _ c.follow.ensures.ends).1
+
+-- ---- committed
+
+pub returns-in-Committed-clause-answers : goal.returns-in-Committed-clause-answers
+returns-in-Committed-clause-answers g c = (committed_status g.D.Disk.meaning g.K.Sink.meaning _ _ _ _ c.committed.ensures.ends).0
+
+pub returns-in-Committed-clause-no_usage : goal.returns-in-Committed-clause-no_usage
+returns-in-Committed-clause-no_usage g c = (committed_status g.D.Disk.meaning g.K.Sink.meaning _ _ _ _ c.committed.ensures.ends).1
+
+pub returns-in-Committed-clause-standing : goal.returns-in-Committed-clause-standing
+returns-in-Committed-clause-standing g c = same_stands g.D.Disk.meaning.images c.args.disk.now c.committed.new.disk (g.T.Tree.meaning.world c.args.tree.now) (λ from image early left. g.met.D.Disk.counts_now c.args.disk.now from image early left) c.committed.ensures.only_read.crash
+
+-- ---- demo
+
+pub returns-in-Demo-clause-answers : goal.returns-in-Demo-clause-answers
+returns-in-Demo-clause-answers g c = (demo_status _ _ _ _ c.show_demo.ensures.ends).0
+
+pub returns-in-Demo-clause-no_usage : goal.returns-in-Demo-clause-no_usage
+returns-in-Demo-clause-no_usage g c = (demo_status _ _ _ _ c.show_demo.ensures.ends).1
+
+pub returns-in-Demo-clause-control_long : goal.returns-in-Demo-clause-control_long
+returns-in-Demo-clause-control_long g c = λ is. absurd (demo_not_long _ _ _ _ c.show_demo.ensures.ends is)
+
+pub returns-in-Demo-clause-standing : goal.returns-in-Demo-clause-standing
+returns-in-Demo-clause-standing g c = same_stands g.D.Disk.meaning.images c.args.disk.now c.args.disk.now (g.T.Tree.meaning.world c.args.tree.now) (λ from image early left. g.met.D.Disk.counts_now c.args.disk.now from image early left) (passes_none c.args.disk.now)

@@ -1,0 +1,17 @@
+pub mod Words
+pub mod DemoLine
+pub mod DemoEnds
+pub mod Refusal
+pub mod Status
+pub mod Report
+pub mod SummaryLine
+pub mod Cause
+pub mod Control
+pub mod Moment
+pub mod Opens
+pub mod Grows
+pub mod Headline
+pub mod Turn
+pub mod Once
+pub mod Follow
+pub mod Committed

@@ -1,0 +1,72 @@
+-- How a command opens its session, and why it doesn't.
+use Rattle.std.specs.Prelude.{◌≡◌, ⊤, IsTrue, Err}
+use Rattle.checkpoint_store.specs.declared.TheConstants.{OUTPUT_LIMIT}
+use Rattle.outside.specs.Images.{Images}
+use Rattle.outside.specs.declared.disk.DiskFile.{DiskFile}
+use Rattle.outside.specs.declared.disk.DiskFile.TheVariants as file
+use Rattle.poll_core.specs.IsSession.{IsSession}
+use Rattle.poll_core.specs.OpenFaults.{IsNotBuilt, IsRefused}
+use Rattle.poll_core.specs.Remembers.{GoesOnFrom}
+use Rattle.poll_core.specs.SessionParts.{limit_of}
+use Rattle.poll_core.specs.StandsOn.{StandsOn}
+use Rattle.poll_core.specs.declared.fault.OpenFault.TheVariants as opening
+use Rattle.poll_core.specs.declared.session.Session.{Session}
+use Rattle.settings_text.specs.Grammar as grammar
+use Rattle.agent_commands.specs.declared.fault.Fault.{Fault}
+use Rattle.agent_commands.specs.declared.fault.Fault.TheVariants.{Usage, Settings, Build, CheckpointBad, SettingsChanged, OutputShort, Disk, Control, Memory, OutputFull, ControlLine, Worn, ControlLong}
+
+-- The session has the settings of the settings file and goes on from what reads give of the disk, and then it stands on it.
+pub record Opens {D : Type 0} (images : Images DiskFile D) (session : Session) (disk disk_after : D) : Type 0 where
+  pub is_session : IsSession session
+  pub limit : limit_of session ≡ OUTPUT_LIMIT
+  pub settings : IsTrue (images.tells disk) → session.settings ≡ images.seen disk file.Settings
+  pub goes_on : IsTrue (images.tells disk) → GoesOnFrom session (images.seen disk)
+  pub stands : StandsOn images session disk_after
+
+-- Want of memory is free, and a fault of the disk has its own clause.
+abbrev pub IsOpeningFault : {D : Type 0} (images : Images DiskFile D) (disk : D) → Fault → Type 0
+IsOpeningFault images disk (Settings fault) = IsTrue (images.tells disk) → grammar.settings (images.seen disk file.Settings) ≡ Err fault
+IsOpeningFault images disk (Build fault) = IsTrue (images.tells disk) → IsNotBuilt (images.seen disk file.Settings) fault
+IsOpeningFault images disk (CheckpointBad at) = IsTrue (images.tells disk) → IsRefused (images.seen disk file.Settings) (images.seen disk) (opening.CheckpointBad at)
+IsOpeningFault images disk (SettingsChanged at) = IsTrue (images.tells disk) → IsRefused (images.seen disk file.Settings) (images.seen disk) (opening.SettingsChanged at)
+IsOpeningFault images disk (OutputShort kept found) = IsTrue (images.tells disk) → IsRefused (images.seen disk file.Settings) (images.seen disk) (opening.OutputShort kept found)
+IsOpeningFault images disk Disk = ⊤
+IsOpeningFault images disk Memory = ⊤
+IsOpeningFault images disk Usage = ⊥
+IsOpeningFault images disk Control = ⊥
+IsOpeningFault images disk (OutputFull size) = ⊥
+IsOpeningFault images disk (ControlLine number) = ⊥
+IsOpeningFault images disk Worn = ⊥
+IsOpeningFault images disk ControlLong = ⊥
+
+-- a refusal of the settings or of what stands on the disk
+abbrev pub IsRefusal : Fault → Type 0
+IsRefusal (Settings fault) = ⊤
+IsRefusal (Build fault) = ⊤
+IsRefusal (CheckpointBad at) = ⊤
+IsRefusal (SettingsChanged at) = ⊤
+IsRefusal (OutputShort kept found) = ⊤
+IsRefusal Disk = ⊥
+IsRefusal Memory = ⊥
+IsRefusal Usage = ⊥
+IsRefusal Control = ⊥
+IsRefusal (OutputFull size) = ⊥
+IsRefusal (ControlLine number) = ⊥
+IsRefusal Worn = ⊥
+IsRefusal ControlLong = ⊥
+
+-- Why the settings file isn't read.
+abbrev pub IsSettingsFault : {D : Type 0} (images : Images DiskFile D) (disk : D) → Fault → Type 0
+IsSettingsFault images disk (Settings fault) = IsTrue (images.tells disk) → grammar.settings (images.seen disk file.Settings) ≡ Err fault
+IsSettingsFault images disk Disk = ⊤
+IsSettingsFault images disk Memory = ⊤
+IsSettingsFault images disk (Build fault) = ⊥
+IsSettingsFault images disk (CheckpointBad at) = ⊥
+IsSettingsFault images disk (SettingsChanged at) = ⊥
+IsSettingsFault images disk (OutputShort kept found) = ⊥
+IsSettingsFault images disk Usage = ⊥
+IsSettingsFault images disk Control = ⊥
+IsSettingsFault images disk (OutputFull size) = ⊥
+IsSettingsFault images disk (ControlLine number) = ⊥
+IsSettingsFault images disk Worn = ⊥
+IsSettingsFault images disk ControlLong = ⊥

@@ -1,0 +1,67 @@
+-- One poll of a command, and its report.
+use Rattle.std.specs.Prelude.{◌≡◌, ◌⊎◌, ⊤, ℕ}
+use Rattle.checkpoint_journal.specs.Written.{IsWorn}
+use Rattle.outside.specs.TreeMeaning.{TreeMeaning}
+use Rattle.outside.specs.World.{Told}
+use Rattle.poll_core.specs.Overflows.{Overflows}
+use Rattle.poll_core.specs.Polled.{Polled}
+use Rattle.poll_core.specs.SessionParts.{journal_of_session, store_checkpoint}
+use Rattle.poll_core.specs.declared.session.Session.{Session}
+use Rattle.poll_core.specs.declared.summary.Summary.{Summary}
+use Rattle.agent_commands.specs.Headline.{HoldsAll}
+use Rattle.agent_commands.specs.Moment.{Moment, Meanings}
+use Rattle.agent_commands.specs.Report.{Appends, GrowsByPart}
+use Rattle.agent_commands.specs.Status.{fault_line, status_of}
+use Rattle.agent_commands.specs.SummaryLine.{summary_line}
+use Rattle.agent_commands.specs.declared.fault.Fault.{Fault}
+use Rattle.agent_commands.specs.declared.fault.Fault.TheVariants.{Usage, Settings, Build, CheckpointBad, SettingsChanged, OutputShort, Disk, Control, Memory, OutputFull, ControlLine, Worn, ControlLong}
+
+-- Want of memory is free, and a fault of the disk has its own clause.
+abbrev pub IsPollFault : {T : Type 0} (trees : TreeMeaning T) (session : Session) (tree tree_after : T) → Fault → Type 0
+IsPollFault trees session tree tree_after (OutputFull size) = Told (Overflows session size) (trees.world tree) (trees.world tree_after)
+IsPollFault trees session tree tree_after Worn = IsWorn (journal_of_session session)
+IsPollFault trees session tree tree_after Disk = ⊤
+IsPollFault trees session tree tree_after Memory = ⊤
+IsPollFault trees session tree tree_after Usage = ⊥
+IsPollFault trees session tree tree_after (Settings fault) = ⊥
+IsPollFault trees session tree tree_after (Build fault) = ⊥
+IsPollFault trees session tree tree_after (CheckpointBad at) = ⊥
+IsPollFault trees session tree tree_after (SettingsChanged at) = ⊥
+IsPollFault trees session tree tree_after (OutputShort kept found) = ⊥
+IsPollFault trees session tree tree_after Control = ⊥
+IsPollFault trees session tree tree_after (ControlLine number) = ⊥
+IsPollFault trees session tree tree_after ControlLong = ⊥
+
+-- the statuses that end a command at a poll
+abbrev pub IsTurnStatus : ℕ → Type 0
+IsTurnStatus status = (status ≡ 7) ⊎ (status ≡ 9) ⊎ (status ≡ 10) ⊎ (status ≡ 11) ⊎ (status ≡ 13)
+
+module _ {T D K : Type 0} (meanings : Meanings T D K) (session : Session) where
+  -- A poll came to its end, with this session and these numbers.
+  abbrev pub PollsTo : Session → Summary → Moment T D K → Moment T D K → Type 0
+  PollsTo next summary old new = Polled meanings.trees meanings.disks session next summary old.tree new.tree old.disk new.disk
+
+  -- So it did, it holds all where it was complete, and the report grew by its summary line.
+  pub record Turns (next : Session) (old new : Moment T D K) : Type 0 where
+    pub summary : Summary
+    pub polled : PollsTo next summary old new
+    pub whole : Told (HoldsAll session (store_checkpoint next) summary) (meanings.trees.world old.tree) (meanings.trees.world new.tree)
+    pub told : Told (Appends (summary_line summary)) (meanings.reports.written old.report) (meanings.reports.written new.report)
+
+  -- It came to its end, but the report failed (9), or memory ran out before all of it was told (10).
+  pub record StopsUntold (status : ℕ) (old new : Moment T D K) : Type 0 where
+    pub next : Session
+    pub summary : Summary
+    pub polled : PollsTo next summary old new
+    pub is : (status ≡ 9) ⊎ (status ≡ 10)
+    pub told : Told (GrowsByPart (summary_line summary)) (meanings.reports.written old.report) (meanings.reports.written new.report)
+
+  -- It didn't come to its end, for the reason that the status and the report have.
+  pub record StopsRefused (status : ℕ) (old new : Moment T D K) : Type 0 where
+    pub fault : Fault
+    pub is : status ≡ status_of fault
+    pub cause : IsPollFault meanings.trees session old.tree new.tree fault
+    pub told : Told (GrowsByPart (fault_line fault)) (meanings.reports.written old.report) (meanings.reports.written new.report)
+
+  abbrev pub Stops : ℕ → Moment T D K → Moment T D K → Type 0
+  Stops status old new = StopsUntold status old new ⊎ StopsRefused status old new

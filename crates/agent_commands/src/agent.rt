@@ -1,0 +1,148 @@
+// The whole program, over any outside.
+ghost use Rattle.std.specs.Prelude.{◌≡◌, ◌≢◌, ◌≤◌, ◌⊎◌, ℕ, IfOk, IfErr};
+ghost use Rattle.command_words.specs.Answers.{IsNoCommand};
+ghost use Rattle.command_words.specs.IsCommand.{IsCommand};
+ghost use Rattle.command_words.specs.Words.{texts};
+ghost use Rattle.outside.specs.Count.{Rose};
+ghost use Rattle.outside.specs.Crash.{Passes};
+ghost use Rattle.outside.specs.Image.{Same};
+ghost use Rattle.outside.specs.World.{Told};
+ghost use Rattle.slot_store.specs.OnlyRead.{OnlyRead};
+ghost use Rattle.agent_commands.specs.Committed.{CommittedEnds};
+ghost use Rattle.agent_commands.specs.Control.{max_control, TakesAtMost, TakesExactly};
+ghost use Rattle.agent_commands.specs.DemoEnds.{DemoEnds};
+ghost use Rattle.agent_commands.specs.Follow.{FollowEnds};
+ghost use Rattle.agent_commands.specs.Grows.{GrowsBy};
+ghost use Rattle.agent_commands.specs.Headline.{KeepsStanding};
+ghost use Rattle.agent_commands.specs.Moment.{meanings, moment};
+ghost use Rattle.agent_commands.specs.Once.{OnceEnds};
+ghost use Rattle.agent_commands.specs.Report.{GrowsByPart};
+ghost use Rattle.agent_commands.specs.Status.{fault_line, IsStatus};
+ghost use Rattle.agent_commands.specs.Words.{IsWordsFault};
+
+use crate::committed::committed;
+use crate::demo::show_demo;
+use crate::fault::Fault;
+use crate::follow::follow;
+use crate::once::once;
+use crate::report::refuse;
+use command_words::laws::words_spell_one_command;
+use command_words::{Command, command_of};
+use outside::{Disk, Sink, Source, Tree};
+use std::alloc::{AllocError, Global};
+
+/// Runs the command that the words are, and answers the exit status.
+///
+/// `control` is the input that `follow` serves, and `report` the output for summaries and faults.
+pub fn run_agent<T: Tree, D: Disk, S: Source, K: Sink>(
+    alloc: Global,
+    words: &[String],
+    tree: &mut T,
+    disk: &mut D,
+    control: &mut S,
+    report: &mut K,
+) -> u8
+    ensures answers { IsStatus result }
+
+    // One poll: its course, status by status. Wherever it is stopped, nothing that was kept is lost.
+    ensures once { IsCommand (texts words.now) Command.Once
+        → OnceEnds (meanings T.meaning D.meaning K.meaning) (moment tree.old disk.old report.old) (moment tree.new disk.new report.new) result }
+    ensures once_crash { IsCommand (texts words.now) Command.Once → Passes D.meaning.images (GrowsBy 1) disk.old disk.new }
+
+    // Polls as control lines ask for them.
+    ensures follow { IsCommand (texts words.now) Command.Follow
+        → FollowEnds (meanings T.meaning D.meaning K.meaning) (S.meaning.rest control.old) (S.meaning.rest control.new) (moment tree.old disk.old report.old) (moment tree.new disk.new report.new) result }
+
+    // How much of the output is kept, and nothing is written.
+    ensures committed { IsCommand (texts words.now) Command.Committed → CommittedEnds D.meaning K.meaning disk.old report.old report.new result }
+    ensures only_read { IsCommand (texts words.now) Command.Committed → OnlyRead D.meaning disk.old disk.new }
+
+    // A demonstration in memory, in which the disk has no part.
+    ensures demo { (rounds : ℕ) → IsCommand (texts words.now) (Command.Demo rounds)
+        → DemoEnds rounds (K.meaning.written report.old) (K.meaning.written report.new) result }
+    ensures demo_untouched { (rounds : ℕ) → IsCommand (texts words.now) (Command.Demo rounds) → disk.new ≡ disk.old }
+
+    // What stands for the files, stands: whatever others do to them meanwhile, and wherever the command is stopped.
+    ensures standing { Told (KeepsStanding D.meaning.images disk.old disk.new) (T.meaning.world tree.old) (T.meaning.world tree.new) }
+
+    // 2: the words are no command. Memory to read them may be wanting.
+    ensures usage { result ≡ 2 → IsNoCommand (texts words.now) }
+    ensures no_command { IsNoCommand (texts words.now) → (result ≡ 2) ⊎ (result ≡ 10) }
+    ensures usage_told { result ≡ 2 → Told (GrowsByPart (fault_line Fault.Usage)) (K.meaning.written report.old) (K.meaning.written report.new) }
+    ensures usage_untouched { result ≡ 2 → disk.new ≡ disk.old }
+
+    // 7, 8 and 9: the disk, the control input or the report failed.
+    ensures disk_failed { result ≡ 7 → Rose (D.meaning.faults disk.old) (D.meaning.faults disk.new) }
+    ensures disk_stood { result ≢ 7 → D.meaning.faults disk.new ≡ D.meaning.faults disk.old }
+    ensures control_failed { result ≡ 8 → Rose (S.meaning.faults control.old) (S.meaning.faults control.new) }
+    ensures control_stood { result ≢ 8 → S.meaning.faults control.new ≡ S.meaning.faults control.old }
+    ensures report_failed { result ≡ 9 → Rose (K.meaning.faults report.old) (K.meaning.faults report.new) }
+    ensures report_stood { result ≡ 0 → K.meaning.faults report.new ≡ K.meaning.faults report.old }
+
+    // 15: so many control bytes were taken as may be, which are never passed.
+    ensures control_long { result ≡ 15 → Told (TakesExactly max_control) (S.meaning.rest control.old) (S.meaning.rest control.new) }
+    ensures control_taken { Told (TakesAtMost max_control) (S.meaning.rest control.old) (S.meaning.rest control.new) }
+
+    // Only what a command is for is touched.
+    ensures control_untouched { (IsCommand (texts words.now) Command.Follow → ⊥) → control.new ≡ control.old }
+    ensures tree_untouched { (IsCommand (texts words.now) Command.Once → ⊥) → (IsCommand (texts words.now) Command.Follow → ⊥) → tree.new ≡ tree.old }
+{
+    words_spell_one_command();
+    match command_for(alloc, words) {
+        Ok(command) => run(alloc, command, tree, disk, control, report),
+        Err(fault) => refuse(alloc, fault, report),
+    }
+}
+
+// The command that the words spell.
+fn command_for(alloc: Global, words: &[String]) -> Result<Command, Fault>
+    ensures command { IfOk result (IsCommand (texts words.now)) }
+    ensures fault { IfErr result (IsWordsFault (texts words.now)) }
+{
+    match command_of(alloc, words) {
+        Ok(Some(command)) => Ok(command),
+        Ok(None) => Err(Fault::Usage),
+        Err(AllocError) => Err(Fault::Memory),
+    }
+}
+
+// Runs a command, and answers the exit status.
+fn run<T: Tree, D: Disk, S: Source, K: Sink>(
+    alloc: Global,
+    command: Command,
+    tree: &mut T,
+    disk: &mut D,
+    control: &mut S,
+    report: &mut K,
+) -> u8
+    requires { (rounds : ℕ) → command ≡ Command.Demo rounds → rounds ≤ 1000 }
+    ensures answers { IsStatus result }
+    ensures no_usage { result ≡ 2 → ⊥ }
+    ensures once { command ≡ Command.Once
+        → OnceEnds (meanings T.meaning D.meaning K.meaning) (moment tree.old disk.old report.old) (moment tree.new disk.new report.new) result }
+    ensures once_crash { command ≡ Command.Once → Passes D.meaning.images (GrowsBy 1) disk.old disk.new }
+    ensures follow { command ≡ Command.Follow
+        → FollowEnds (meanings T.meaning D.meaning K.meaning) (S.meaning.rest control.old) (S.meaning.rest control.new) (moment tree.old disk.old report.old) (moment tree.new disk.new report.new) result }
+    ensures committed { command ≡ Command.Committed → CommittedEnds D.meaning K.meaning disk.old report.old report.new result }
+    ensures only_read { command ≡ Command.Committed → OnlyRead D.meaning disk.old disk.new }
+    ensures demo { (rounds : ℕ) → command ≡ Command.Demo rounds → DemoEnds rounds (K.meaning.written report.old) (K.meaning.written report.new) result }
+    ensures demo_untouched { (rounds : ℕ) → command ≡ Command.Demo rounds → disk.new ≡ disk.old }
+    ensures standing { Told (KeepsStanding D.meaning.images disk.old disk.new) (T.meaning.world tree.old) (T.meaning.world tree.new) }
+    ensures disk_failed { result ≡ 7 → Rose (D.meaning.faults disk.old) (D.meaning.faults disk.new) }
+    ensures disk_stood { result ≢ 7 → D.meaning.faults disk.new ≡ D.meaning.faults disk.old }
+    ensures control_failed { result ≡ 8 → Rose (S.meaning.faults control.old) (S.meaning.faults control.new) }
+    ensures control_stood { result ≢ 8 → S.meaning.faults control.new ≡ S.meaning.faults control.old }
+    ensures report_failed { result ≡ 9 → Rose (K.meaning.faults report.old) (K.meaning.faults report.new) }
+    ensures report_stood { result ≡ 0 → K.meaning.faults report.new ≡ K.meaning.faults report.old }
+    ensures control_long { result ≡ 15 → Told (TakesExactly max_control) (S.meaning.rest control.old) (S.meaning.rest control.new) }
+    ensures control_taken { Told (TakesAtMost max_control) (S.meaning.rest control.old) (S.meaning.rest control.new) }
+    ensures control_untouched { command ≢ Command.Follow → control.new ≡ control.old }
+    ensures tree_untouched { command ≢ Command.Once → command ≢ Command.Follow → tree.new ≡ tree.old }
+{
+    match command {
+        Command::Once => once(alloc, tree, disk, report),
+        Command::Follow => follow(alloc, tree, disk, control, report),
+        Command::Committed => committed(alloc, disk, report),
+        Command::Demo(rounds) => show_demo(alloc, rounds, report),
+    }
+}

@@ -1,0 +1,131 @@
+// Why a command ends with a status other than 0.
+ghost use Rattle.std.specs.Prelude.{◌≡◌};
+ghost use Rattle.agent_commands.specs.declared.fault.Fault.TheVariants.{Disk, Memory};
+
+use checkpoint_journal::JournalFault;
+use outside::{CallFault, Failed};
+use pipeline::BuildFault;
+use poll_core::{OpenFault, PollFault};
+use settings_text::SettingsFault;
+use std::alloc::AllocError;
+
+/// Why a command ends with a status other than 0.
+#[derive(Debug, Drop)]
+pub enum Fault {
+    /// The words are no command.
+    Usage,
+    /// The settings can't be read.
+    Settings(SettingsFault),
+    /// What the settings ask for can't be built.
+    Build(BuildFault),
+    /// The checkpoint has no reading from byte `at` on; or the row with the id `at` keeps a state that isn't one of the
+    /// operators that the settings ask for.
+    CheckpointBad { at: u64 },
+    /// The checkpoint is of other settings, which differ first at byte `at`.
+    SettingsChanged { at: u64 },
+    /// The output has `found` bytes, fewer than the `kept` that the checkpoint keeps.
+    OutputShort { kept: u64, found: u64 },
+    /// A call on the disk failed.
+    Disk,
+    /// The control input failed.
+    Control,
+    /// Memory ran out.
+    Memory,
+    /// With the next line the output would have this many bytes, more than it may have.
+    OutputFull { length: u64 },
+    /// The control line with this number, from 1, is no request, or too long.
+    ControlLine { number: u64 },
+    /// The checkpoint can't be written, since no sequence number follows its last one.
+    Worn,
+    /// As many bytes of control lines were taken as may be, and the command hasn't ended.
+    ControlLong,
+}
+
+impl Fault {
+    ghost use Rattle.agent_commands.specs.Status.{status_of};
+
+    /// The exit status.
+    pub fn status(&self) -> u8
+        ensures { result ≡ status_of self.now }
+    {
+        match self {
+            Fault::Usage => 2,
+            Fault::Settings(_) | Fault::Build(_) => 3,
+            Fault::CheckpointBad { .. } => 4,
+            Fault::SettingsChanged { .. } => 5,
+            Fault::OutputShort { .. } => 6,
+            Fault::Disk => 7,
+            Fault::Control => 8,
+            Fault::Memory => 10,
+            Fault::OutputFull { .. } => 11,
+            Fault::ControlLine { .. } => 12,
+            Fault::Worn => 13,
+            Fault::ControlLong => 15,
+        }
+    }
+}
+
+impl From<AllocError> for Fault {
+    ghost from_gives = { λ _ fault. fault ≡ Memory };
+
+    fn from(_: AllocError) -> Self {
+        Fault::Memory
+    }
+}
+
+/// For a call on the disk.
+impl From<Failed> for Fault {
+    ghost from_gives = { λ _ fault. fault ≡ Disk };
+
+    fn from(_: Failed) -> Self {
+        Fault::Disk
+    }
+}
+
+impl From<OpenFault> for Fault {
+    ghost use Rattle.agent_commands.specs.Cause.{opening_fault};
+
+    ghost from_gives = { λ fault made. made ≡ opening_fault fault };
+
+    fn from(fault: OpenFault) -> Self {
+        match fault {
+            OpenFault::Settings(refused) => Fault::Settings(refused),
+            OpenFault::Build(refused) => Fault::Build(refused),
+            OpenFault::Disk => Fault::Disk,
+            OpenFault::CheckpointBad { at } => Fault::CheckpointBad { at },
+            OpenFault::SettingsChanged { at } => Fault::SettingsChanged { at },
+            OpenFault::OutputShort { kept, found } => Fault::OutputShort { kept, found },
+            OpenFault::Memory => Fault::Memory,
+        }
+    }
+}
+
+impl From<PollFault> for Fault {
+    ghost use Rattle.agent_commands.specs.Cause.{polling_fault};
+
+    ghost from_gives = { λ fault made. made ≡ polling_fault fault };
+
+    fn from(fault: PollFault) -> Self {
+        match fault {
+            PollFault::Disk => Fault::Disk,
+            PollFault::OutputFull { length } => Fault::OutputFull { length },
+            PollFault::Worn { .. } => Fault::Worn,
+            PollFault::Memory => Fault::Memory,
+        }
+    }
+}
+
+/// For a look at the checkpoint alone.
+impl From<JournalFault> for Fault {
+    ghost use Rattle.agent_commands.specs.Cause.{reading_fault};
+
+    ghost from_gives = { λ fault made. made ≡ reading_fault fault };
+
+    fn from(fault: JournalFault) -> Self {
+        match fault {
+            JournalFault::Disk => Fault::Disk,
+            JournalFault::Bad { at } => Fault::CheckpointBad { at },
+            JournalFault::Memory => Fault::Memory,
+        }
+    }
+}

@@ -1,0 +1,70 @@
+// The session of a command.
+ghost use Rattle.std.specs.Prelude.{◌≡◌, ◌⊎◌, ℕ, ◌≤◌, ◌<◌, List, length, take, Err, IsTrue, IfOk, IfErr};
+ghost use Rattle.outside.specs.Count.{HasOneCause};
+ghost use Rattle.outside.specs.Crash.{Passes};
+ghost use Rattle.outside.specs.Image.{Same};
+ghost use Rattle.poll_core.specs.Reopens.{Reopens};
+ghost use Rattle.settings_text.specs.Grammar as grammar;
+ghost use Rattle.agent_commands.specs.Cause.{HasDiskCause};
+ghost use Rattle.agent_commands.specs.Grows.{GrowsBy};
+ghost use Rattle.agent_commands.specs.Opens.{IsOpeningFault, IsRefusal, IsSettingsFault, Opens};
+
+use crate::fault::Fault;
+use checkpoint_store::OUTPUT_LIMIT;
+use outside::{Disk, DiskFile, Failed};
+use poll_core::Session;
+use poll_core::laws::opening_keeps_what_stands;
+use settings_text::{MAX_LENGTH, SettingsFault};
+use std::alloc::Global;
+
+/// The session of the settings file that goes on from what the disk has.
+pub fn open_session<D: Disk>(alloc: Global, disk: &mut D) -> Result<Session, Fault>
+    ensures ok { IfOk result (λ session. Opens D.meaning.images session disk.old disk.new) }
+    ensures fault { IfErr result (IsOpeningFault D.meaning.images disk.old) }
+    ensures untouched { IfErr result (λ fault. IsRefusal fault → Passes D.meaning.images Same disk.old disk.new) }
+    ensures crash { Passes D.meaning.images Reopens disk.old disk.new }
+    ensures cause { HasDiskCause result (D.meaning.faults disk.old) (D.meaning.faults disk.new) }
+{
+    let settings = read_settings(alloc, disk)?;
+    Ok(Session::open(alloc, disk, &settings, OUTPUT_LIMIT)?)
+}
+
+// The bytes of the settings file. Where it is longer than settings may be, it isn't read.
+fn read_settings<D: Disk>(alloc: Global, disk: &mut D) -> Result<Vec<u8>, Fault>
+    ensures ok { IfOk result (λ settings. IsTrue (D.meaning.images.tells disk.old) → settings.items ≡ D.meaning.images.seen disk.old DiskFile.Settings) }
+    ensures fault { IfErr result (IsSettingsFault D.meaning.images disk.old) }
+    ensures cause { HasDiskCause result (D.meaning.faults disk.old) (D.meaning.faults disk.new) }
+    ensures seen { D.meaning.images.seen disk.new ≡ D.meaning.images.seen disk.old }
+    ensures tells { D.meaning.images.tells disk.new ≡ D.meaning.images.tells disk.old }
+    ensures crash { Passes D.meaning.images Same disk.old disk.new }
+{
+    let size = disk.length(DiskFile::Settings)?;
+    if size > MAX_LENGTH as u64 {
+        return Err(Fault::Settings(SettingsFault::TooLong { length: size }));
+    }
+    let mut settings = vec![in alloc; 0; size as usize]?;
+    let count = fill(disk, DiskFile::Settings, &mut settings)?;
+    settings.truncate(count);
+    Ok(settings)
+}
+
+// Fills `buf` from the front of the file, as far as the file goes.
+fn fill<D: Disk>(disk: &mut D, file: DiskFile, buf: &mut [u8]) -> Result<usize, Failed>
+    ensures within { IfOk result (λ count. count ≤ length buf.new) }
+    ensures bytes { IfOk result (λ count. IsTrue (D.meaning.images.tells disk.old)
+        → take count buf.new ≡ take (length buf.new) (D.meaning.images.seen disk.old file)) }
+    ensures cause { HasOneCause result (D.meaning.faults disk.old) (D.meaning.faults disk.new) }
+    ensures seen { D.meaning.images.seen disk.new ≡ D.meaning.images.seen disk.old }
+    ensures tells { D.meaning.images.tells disk.new ≡ D.meaning.images.tells disk.old }
+    ensures crash { Passes D.meaning.images Same disk.old disk.new }
+{
+    let mut filled = 0;
+    while filled < buf.len() {
+        let count = disk.read(file, filled as u64, &mut buf[filled..])?;
+        if count == 0 {
+            break;
+        }
+        filled += count;
+    }
+    Ok(filled)
+}

@@ -1,0 +1,225 @@
+// What a command reports.
+ghost use Rattle.std.specs.Prelude.{◌≡◌, ◌++◌, codes, decimal, OnOk, IfOk, string_bytes};
+ghost use Rattle.outside.specs.Count.{HasCause};
+ghost use Rattle.outside.specs.World.{Told};
+ghost use Rattle.agent_commands.specs.Committed.{length_line};
+ghost use Rattle.agent_commands.specs.DemoLine.{demo_line};
+ghost use Rattle.agent_commands.specs.Refusal.{settings_words, build_words, cause_words, graph_words};
+ghost use Rattle.agent_commands.specs.Report.{Appends, GrowsByPart};
+ghost use Rattle.agent_commands.specs.Status.{fault_line, status_of};
+ghost use Rattle.agent_commands.specs.SummaryLine.{summary_line};
+
+use crate::fault::Fault;
+use demo_run::Demo;
+use graph_core::GraphFault;
+use op_kinds::OpCause;
+use outside::{CallFault, Sink};
+use pipeline::BuildFault;
+use poll_core::Summary;
+use settings_text::SettingsFault;
+use std::alloc::{AllocError, Global};
+
+/// Reports a line, which has its LF.
+pub fn report_line<K: Sink>(alloc: Global, line: &str, report: &mut K) -> Result<(), CallFault>
+    ensures ok { OnOk result (Told (Appends line.now) (K.meaning.written report.old) (K.meaning.written report.new)) }
+    ensures part { Told (GrowsByPart line.now) (K.meaning.written report.old) (K.meaning.written report.new) }
+    ensures cause { HasCause result (K.meaning.faults report.old) (K.meaning.faults report.new) }
+{
+    report.write(alloc, line.as_bytes())
+}
+
+/// Reports a fault by its line.
+pub fn report_fault<K: Sink>(alloc: Global, fault: &Fault, report: &mut K) -> Result<(), CallFault>
+    ensures ok { OnOk result (Told (Appends (fault_line fault.now)) (K.meaning.written report.old) (K.meaning.written report.new)) }
+    ensures part { Told (GrowsByPart (fault_line fault.now)) (K.meaning.written report.old) (K.meaning.written report.new) }
+    ensures cause { HasCause result (K.meaning.faults report.old) (K.meaning.faults report.new) }
+{
+    // Where memory ran out, there may be none for a line.
+    if let Fault::Memory = fault {
+        return report_line(alloc, "fault 10 memory\n", report);
+    }
+    let line = line_of(alloc, fault)?;
+    report_line(alloc, line.as_str(), report)
+}
+
+fn line_of(alloc: Global, fault: &Fault) -> Result<String, AllocError>
+    ensures { IfOk result (λ line. string_bytes line ≡ fault_line fault.now) }
+{
+    match fault {
+        Fault::Usage => String::from_str(alloc, "fault 2 usage\n"),
+        Fault::Settings(refused) => settings_line(alloc, refused),
+        Fault::Build(refused) => build_line(alloc, refused),
+        Fault::CheckpointBad { at } => format!(in alloc; "fault 4 checkpoint {at}\n"),
+        Fault::SettingsChanged { at } => format!(in alloc; "fault 5 changed {at}\n"),
+        Fault::OutputShort { kept, found } => format!(in alloc; "fault 6 short {kept} {found}\n"),
+        Fault::Disk => String::from_str(alloc, "fault 7 disk\n"),
+        Fault::Control => String::from_str(alloc, "fault 8 control\n"),
+        Fault::Memory => String::from_str(alloc, "fault 10 memory\n"),
+        Fault::OutputFull { length } => format!(in alloc; "fault 11 full {length}\n"),
+        Fault::ControlLine { number } => format!(in alloc; "fault 12 control-line {number}\n"),
+        Fault::Worn => String::from_str(alloc, "fault 13 worn\n"),
+        Fault::ControlLong => String::from_str(alloc, "fault 15 control-long\n"),
+    }
+}
+
+fn settings_line(alloc: Global, refused: &SettingsFault) -> Result<String, AllocError>
+    ensures { IfOk result (λ line. string_bytes line ≡ codes "fault 3 " ++ settings_words refused.now ++ codes "\n") }
+{
+    match refused {
+        SettingsFault::NotJson => String::from_str(alloc, "fault 3 settings not-json\n"),
+        SettingsFault::Missing { key } => format!(in alloc; "fault 3 settings missing {key}\n"),
+        SettingsFault::Unknown { key } => format!(in alloc; "fault 3 settings unknown {key}\n"),
+        SettingsFault::WrongKind { key } => {
+            format!(in alloc; "fault 3 settings wrong-kind {key}\n")
+        }
+        SettingsFault::OutOfRange { key } => {
+            format!(in alloc; "fault 3 settings out-of-range {key}\n")
+        }
+        SettingsFault::Fraction { key } => format!(in alloc; "fault 3 settings fraction {key}\n"),
+        SettingsFault::TooLong { length } => {
+            format!(in alloc; "fault 3 settings too-long {length}\n")
+        }
+        SettingsFault::Memory => String::from_str(alloc, "fault 3 settings memory\n"),
+    }
+}
+
+fn build_line(alloc: Global, refused: &BuildFault) -> Result<String, AllocError>
+    ensures { IfOk result (λ line. string_bytes line ≡ codes "fault 3 " ++ build_words refused.now ++ codes "\n") }
+{
+    match refused {
+        BuildFault::Glob {
+            exclude: false,
+            place,
+        } => include_line(alloc, *place),
+        BuildFault::Glob {
+            exclude: true,
+            place,
+        } => exclude_line(alloc, *place),
+        BuildFault::Multiline => String::from_str(alloc, "fault 3 multiline pattern\n"),
+        BuildFault::SameId { place } => format!(in alloc; "fault 3 same-id {place}\n"),
+        BuildFault::Operator { place, cause } => operator_line(alloc, *place, *cause),
+        BuildFault::Graph(fault) => graph_line(alloc, *fault),
+        BuildFault::Memory => String::from_str(alloc, "fault 3 memory\n"),
+    }
+}
+
+fn include_line(alloc: Global, place: u64) -> Result<String, AllocError>
+    ensures { IfOk result (λ line. string_bytes line ≡ codes "fault 3 include " ++ decimal place ++ codes " glob\n") }
+{
+    format!(in alloc; "fault 3 include {place} glob\n")
+}
+
+fn exclude_line(alloc: Global, place: u64) -> Result<String, AllocError>
+    ensures { IfOk result (λ line. string_bytes line ≡ codes "fault 3 exclude " ++ decimal place ++ codes " glob\n") }
+{
+    format!(in alloc; "fault 3 exclude {place} glob\n")
+}
+
+fn operator_line(alloc: Global, place: u64, cause: OpCause) -> Result<String, AllocError>
+    ensures { IfOk result (λ line. string_bytes line ≡ codes "fault 3 operator " ++ decimal place ++ codes " " ++ cause_words cause ++ codes "\n") }
+{
+    match cause {
+        OpCause::Path => format!(in alloc; "fault 3 operator {place} path\n"),
+        OpCause::Expr => format!(in alloc; "fault 3 operator {place} expr\n"),
+        OpCause::Pattern => format!(in alloc; "fault 3 operator {place} pattern\n"),
+        OpCause::Layout => format!(in alloc; "fault 3 operator {place} layout\n"),
+        OpCause::NoNames => format!(in alloc; "fault 3 operator {place} no-names\n"),
+        OpCause::Memory => format!(in alloc; "fault 3 operator {place} memory\n"),
+    }
+}
+
+fn graph_line(alloc: Global, fault: GraphFault) -> Result<String, AllocError>
+    ensures { IfOk result (λ line. string_bytes line ≡ codes "fault 3 " ++ graph_words fault ++ codes "\n") }
+{
+    match fault {
+        GraphFault::NoSuchNode { node } => format!(in alloc; "fault 3 graph no-such-node {node}\n"),
+        GraphFault::Cycle { node } => format!(in alloc; "fault 3 graph cycle {node}\n"),
+        GraphFault::TooManyPaths => String::from_str(alloc, "fault 3 graph too-many-paths\n"),
+        GraphFault::Memory => String::from_str(alloc, "fault 3 graph memory\n"),
+    }
+}
+
+/// Reports the numbers of a poll by its line.
+pub fn report_summary<K: Sink>(
+    alloc: Global,
+    summary: &Summary,
+    report: &mut K,
+) -> Result<(), CallFault>
+    ensures ok { OnOk result (Told (Appends (summary_line summary.now)) (K.meaning.written report.old) (K.meaning.written report.new)) }
+    ensures part { Told (GrowsByPart (summary_line summary.now)) (K.meaning.written report.old) (K.meaning.written report.new) }
+    ensures cause { HasCause result (K.meaning.faults report.old) (K.meaning.faults report.new) }
+{
+    let line = line_of_summary(alloc, summary)?;
+    report_line(alloc, line.as_str(), report)
+}
+
+// The line has its LF.
+#[tactic(auto, unfolding(crate::specs::SummaryLine::summary_line))]
+fn line_of_summary(alloc: Global, summary: &Summary) -> Result<String, AllocError>
+    ensures { IfOk result (λ line. string_bytes line ≡ summary_line summary.now) }
+{
+    let mut line = String::new(alloc);
+    push_field(&mut line, "files=", u64::from(summary.files))?;
+    push_field(&mut line, " lines=", summary.lines)?;
+    push_field(&mut line, " left=", u64::from(summary.left))?;
+    push_field(&mut line, " gone=", u64::from(summary.gone))?;
+    push_field(&mut line, " failed=", u64::from(summary.failed))?;
+    push_field(&mut line, " compressed=", u64::from(summary.compressed))?;
+    push_field(&mut line, " shrunk=", u64::from(summary.shrunk))?;
+    push_field(&mut line, " full=", u64::from(summary.full))?;
+    push_field(&mut line, " deep=", u64::from(summary.deep))?;
+    push_field(&mut line, " output=", summary.output)?;
+    line.push_str("\n")?;
+    Ok(line)
+}
+
+/// Reports what a demonstration shows by its line.
+pub fn report_demo<K: Sink>(alloc: Global, demo: &Demo, report: &mut K) -> Result<(), CallFault>
+    ensures ok { OnOk result (Told (Appends (demo_line demo.now)) (K.meaning.written report.old) (K.meaning.written report.new)) }
+    ensures part { Told (GrowsByPart (demo_line demo.now)) (K.meaning.written report.old) (K.meaning.written report.new) }
+    ensures cause { HasCause result (K.meaning.faults report.old) (K.meaning.faults report.new) }
+{
+    let line = line_of_demo(alloc, demo)?;
+    report_line(alloc, line.as_str(), report)
+}
+
+// The line has its LF.
+#[tactic(auto, unfolding(crate::specs::DemoLine::demo_line))]
+fn line_of_demo(alloc: Global, demo: &Demo) -> Result<String, AllocError>
+    ensures { IfOk result (λ line. string_bytes line ≡ demo_line demo.now) }
+{
+    let mut line = String::new(alloc);
+    push_field(&mut line, "rounds=", u64::from(demo.rounds))?;
+    push_field(&mut line, " polls=", demo.polls)?;
+    push_field(&mut line, " stops=", demo.stops)?;
+    push_field(&mut line, " files=", demo.files)?;
+    push_field(&mut line, " lines=", demo.lines)?;
+    push_field(&mut line, " output=", demo.output)?;
+    line.push_str("\n")?;
+    Ok(line)
+}
+
+fn push_field(line: &mut String, name: &str, value: u64) -> Result<(), AllocError>
+    ensures { OnOk result (string_bytes line.new ≡ string_bytes line.old ++ name.now ++ decimal value) }
+{
+    write!(line, "{name}{value}")
+}
+
+/// Reports how much of the output is kept.
+pub fn report_length<K: Sink>(alloc: Global, size: u64, report: &mut K) -> Result<(), CallFault>
+    ensures ok { OnOk result (Told (Appends (length_line size)) (K.meaning.written report.old) (K.meaning.written report.new)) }
+    ensures part { Told (GrowsByPart (length_line size)) (K.meaning.written report.old) (K.meaning.written report.new) }
+    ensures cause { HasCause result (K.meaning.faults report.old) (K.meaning.faults report.new) }
+{
+    let line = format!(in alloc; "{size}\n")?;
+    report_line(alloc, line.as_str(), report)
+}
+
+/// Reports a fault, and answers its status.
+pub fn refuse<K: Sink>(alloc: Global, fault: Fault, report: &mut K) -> u8
+    ensures status { result ≡ status_of fault }
+    ensures told { Told (GrowsByPart (fault_line fault)) (K.meaning.written report.old) (K.meaning.written report.new) }
+{
+    let _ = report_fault(alloc, &fault, report);
+    fault.status()
+}

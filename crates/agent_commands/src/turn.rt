@@ -1,0 +1,79 @@
+// One poll of a command, and its report.
+ghost use Rattle.std.specs.Prelude.{◌≡◌, ◌≢◌, Err, IfOk, IfErr};
+ghost use Rattle.file_pass.specs.TreeTerms.{GoesLater};
+ghost use Rattle.outside.specs.Count.{Rose};
+ghost use Rattle.outside.specs.Crash.{Passes};
+ghost use Rattle.outside.specs.World.{Told};
+ghost use Rattle.poll_core.specs.IsSession.{IsSession};
+ghost use Rattle.poll_core.specs.Polled.{Polled};
+ghost use Rattle.poll_core.specs.SessionParts.{rules_of_session, store_checkpoint};
+ghost use Rattle.poll_core.specs.Since.{KeepsStandingSince};
+ghost use Rattle.poll_core.specs.StandsOn.{StandsOn};
+ghost use Rattle.agent_commands.specs.Cause.{HasDiskCause};
+ghost use Rattle.agent_commands.specs.Grows.{GrowsBy};
+ghost use Rattle.agent_commands.specs.Headline.{HoldsAll};
+ghost use Rattle.agent_commands.specs.Moment.{meanings, moment};
+ghost use Rattle.agent_commands.specs.Turn.{IsPollFault, IsTurnStatus, Stops, Turns};
+
+use crate::fault::Fault;
+use crate::report::{refuse, report_summary};
+use outside::{CallFault, Disk, Sink, Tree};
+use poll_core::laws::{a_complete_poll_reaches_all, a_session_polls_by_rules};
+use poll_core::{Session, Summary};
+use std::alloc::Global;
+
+/// Makes a poll and reports it. On Ok the session goes on; on Err the command ends with this status.
+pub fn turn<T: Tree, D: Disk, K: Sink>(
+    alloc: Global,
+    session: Session,
+    tree: &mut T,
+    disk: &mut D,
+    report: &mut K,
+) -> Result<Session, u8>
+    requires session { IsSession session }
+    requires stands { StandsOn D.meaning.images session disk.old }
+    ensures session { IfOk result IsSession }
+    ensures turns { IfOk result (λ next. Turns (meanings T.meaning D.meaning K.meaning) session next (moment tree.old disk.old report.old) (moment tree.new disk.new report.new)) }
+    ensures stops { IfErr result (λ status. Stops (meanings T.meaning D.meaning K.meaning) session status (moment tree.old disk.old report.old) (moment tree.new disk.new report.new)) }
+    ensures crash { Passes D.meaning.images (GrowsBy 1) disk.old disk.new }
+    ensures standing { Told (KeepsStandingSince D.meaning.images (rules_of_session session) disk.old disk.new) (T.meaning.world tree.old) (T.meaning.world tree.new) }
+    ensures later { Told GoesLater (T.meaning.world tree.old) (T.meaning.world tree.new) }
+    ensures disk_failed { result ≡ Err 7 → Rose (D.meaning.faults disk.old) (D.meaning.faults disk.new) }
+    ensures disk_stood { result ≢ Err 7 → D.meaning.faults disk.new ≡ D.meaning.faults disk.old }
+    ensures report_failed { result ≡ Err 9 → Rose (K.meaning.faults report.old) (K.meaning.faults report.new) }
+    ensures report_stood { IfOk result (λ next. K.meaning.faults report.new ≡ K.meaning.faults report.old) }
+    ensures answers { IfErr result IsTurnStatus }
+{
+    let (next, summary) = match poll(alloc, session, tree, disk) {
+        Ok(done) => done,
+        Err(fault) => return Err(refuse(alloc, fault, report)),
+    };
+    match report_summary(alloc, &summary, report) {
+        Ok(()) => Ok(next),
+        Err(CallFault::Failed) => Err(9),
+        Err(CallFault::Memory) => Err(10),
+    }
+}
+
+// Makes a poll.
+fn poll<T: Tree, D: Disk>(
+    alloc: Global,
+    session: Session,
+    tree: &mut T,
+    disk: &mut D,
+) -> Result<(Session, Summary), Fault>
+    requires session { IsSession session }
+    requires stands { StandsOn D.meaning.images session disk.old }
+    ensures session { IfOk result (λ done. IsSession done.0) }
+    ensures polled { IfOk result (λ done. Polled T.meaning D.meaning session done.0 done.1 tree.old tree.new disk.old disk.new) }
+    ensures whole { IfOk result (λ done. Told (HoldsAll session (store_checkpoint done.0) done.1) (T.meaning.world tree.old) (T.meaning.world tree.new)) }
+    ensures fault { IfErr result (IsPollFault T.meaning session tree.old tree.new) }
+    ensures crash { Passes D.meaning.images (GrowsBy 1) disk.old disk.new }
+    ensures standing { Told (KeepsStandingSince D.meaning.images (rules_of_session session) disk.old disk.new) (T.meaning.world tree.old) (T.meaning.world tree.new) }
+    ensures later { Told GoesLater (T.meaning.world tree.old) (T.meaning.world tree.new) }
+    ensures cause { HasDiskCause result (D.meaning.faults disk.old) (D.meaning.faults disk.new) }
+{
+    a_session_polls_by_rules(&session);
+    a_complete_poll_reaches_all();
+    Ok(session.poll(alloc, tree, disk)?)
+}

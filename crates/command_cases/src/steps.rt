@@ -1,0 +1,101 @@
+// Steps in one world, a line each.
+ghost use Rattle.std.specs.Prelude.{◌<◌};
+
+use crate::control::number;
+use crate::world::World;
+use case_files::{shown, unescaped};
+use mem_world::{MemSink, MemSource, StepFault};
+use outside::DiskFile;
+use std::alloc::{AllocError, Global};
+use std::fmt::Write;
+
+/// What the steps print, or that they can't be made, with reads of the control input of 1 byte and of 100.
+pub fn answer(alloc: Global, text: &str) -> Result<String, AllocError> {
+    let mut told = in_pieces(alloc, text, 1)?;
+    let large = in_pieces(alloc, text, 100)?;
+    if told != large {
+        write!(told, "\nbut with larger reads\n{large}")?;
+    }
+    Ok(told)
+}
+
+fn in_pieces(alloc: Global, text: &str, piece: usize) -> Result<String, AllocError>
+    requires { 0 < piece }
+{
+    match played(alloc, text, piece) {
+        Ok(told) => Ok(told),
+        Err(StepFault::Memory) => Err(AllocError),
+        Err(_) => String::from_str(alloc, "a step that can't be made"),
+    }
+}
+
+fn played(alloc: Global, text: &str, piece: usize) -> Result<String, StepFault>
+    requires { 0 < piece }
+{
+    let mut world = World::new(alloc)?;
+    let mut told = String::new(alloc);
+    for line in text.split('\n') {
+        step(alloc, &mut world, &mut told, line, piece)?;
+    }
+    let trimmed = told.as_str().trim_end_matches('\n');
+    Ok(String::from_str(alloc, trimmed)?)
+}
+
+fn step(
+    alloc: Global,
+    world: &mut World,
+    told: &mut String,
+    line: &str,
+    piece: usize,
+) -> Result<(), StepFault>
+    requires { 0 < piece }
+{
+    let (step, rest) = line.split_once(' ').unwrap_or((line, ""));
+    match step {
+        "control" => world.control = MemSource::new(unescaped(alloc, rest)?, piece),
+        "run" => tell_run(alloc, told, world, rest)?,
+        "output" => tell_output(alloc, told, world)?,
+        _ => change(alloc, world, step, rest)?,
+    }
+    Ok(())
+}
+
+// A step that prints nothing.
+fn change(alloc: Global, world: &mut World, step: &str, rest: &str) -> Result<(), StepFault> {
+    match step {
+        "append" => world.append(alloc, unescaped(alloc, rest)?),
+        "rename" => world.rename(alloc, rest),
+        "settings" => put(alloc, world, DiskFile::Settings, rest),
+        "kept" => put(alloc, world, DiskFile::Output, rest),
+        "checkpoint" => put(alloc, world, DiskFile::SlotA, rest),
+        "crash" => world.crash(alloc),
+        part => {
+            let call = u32::try_from(number(Some(rest))).unwrap_or(0);
+            Ok(world.fail(alloc, part.strip_prefix("fail_").unwrap_or(part), call)?)
+        }
+    }
+}
+
+fn put(alloc: Global, world: &mut World, file: DiskFile, text: &str) -> Result<(), StepFault> {
+    let bytes = unescaped(alloc, text)?;
+    Ok(world.disk.put(alloc, file, &bytes)?)
+}
+
+// The status, and what is reported. The next command reports anew.
+fn tell_run(
+    alloc: Global,
+    told: &mut String,
+    world: &mut World,
+    words: &str,
+) -> Result<(), StepFault> {
+    let status = world.run(alloc, words)?;
+    let report = shown(alloc, world.report.bytes())?;
+    world.report = MemSink::new(alloc)?;
+    Ok(write!(told, "{status}\n{report}")?)
+}
+
+// The output as a whole.
+fn tell_output(alloc: Global, told: &mut String, world: &World) -> Result<(), AllocError> {
+    let output = shown(alloc, world.disk.bytes(DiskFile::Output))?;
+    told.push_str(output.as_str())
+}

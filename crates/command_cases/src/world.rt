@@ -1,0 +1,96 @@
+// An outside in memory, in which commands are run.
+use agent_commands::run_agent;
+use entry_model::Text;
+use mem_world::{FileName, MemDisk, MemSink, MemSource, MemTree, StepFault, WorldStep};
+use outside::DiskFile;
+use std::alloc::{AllocError, Global};
+use std::mem;
+
+/// The settings that a world begins with.
+const SETTINGS: &[u8] = b"{\"include\":[\"app.log*\"],\"start_at\":\"beginning\"}";
+
+/// A tree with one file, `app.log`, a disk, a control input and a report.
+#[derive(Drop)]
+pub struct World {
+    pub tree: MemTree,
+    pub disk: MemDisk,
+    pub control: MemSource,
+    pub report: MemSink,
+}
+
+impl World {
+    pub fn new(alloc: Global) -> Result<World, StepFault> {
+        let mut disk = MemDisk::new(alloc)?;
+        disk.put(alloc, DiskFile::Settings, SETTINGS)?;
+        let mut tree = MemTree::new(alloc)?;
+        let path = Text::from_str(alloc, "app.log")?;
+        tree.play(
+            alloc,
+            WorldStep::Create {
+                file: FileName(1),
+                path,
+            },
+        )?;
+        Ok(World {
+            tree,
+            disk,
+            control: MemSource::new(Vec::new(alloc), 1),
+            report: MemSink::new(alloc)?,
+        })
+    }
+
+    pub fn append(&mut self, alloc: Global, bytes: Vec<u8>) -> Result<(), StepFault> {
+        self.tree.play(
+            alloc,
+            WorldStep::Append {
+                file: FileName(1),
+                bytes,
+            },
+        )
+    }
+
+    pub fn rename(&mut self, alloc: Global, path: &str) -> Result<(), StepFault> {
+        let path = Text::from_str(alloc, path)?;
+        self.tree.play(
+            alloc,
+            WorldStep::Rename {
+                file: FileName(1),
+                path,
+            },
+        )
+    }
+
+    /// The disk is what a crash leaves that keeps no write which no sync followed.
+    pub fn crash(&mut self, alloc: Global) -> Result<(), StepFault> {
+        let empty = MemDisk::new(alloc)?;
+        let stopped = mem::replace(&mut self.disk, empty);
+        self.disk = stopped.crash(alloc, 0)?;
+        Ok(())
+    }
+
+    /// The call with this number fails, from 1, of the part that the word names.
+    pub fn fail(&mut self, alloc: Global, part: &str, call: u32) -> Result<(), AllocError> {
+        match part {
+            "tree" => self.tree.fail(alloc, call),
+            "disk" => self.disk.fail(alloc, call),
+            "control" => self.control.fail(alloc, call),
+            _ => self.report.fail(alloc, call),
+        }
+    }
+
+    /// The status with which the command ends that these words are, with a space between two.
+    pub fn run(&mut self, alloc: Global, words: &str) -> Result<u8, AllocError> {
+        let mut given = Vec::new(alloc);
+        for word in words.split(' ') {
+            given.push(String::from_str(alloc, word)?)?;
+        }
+        Ok(run_agent(
+            alloc,
+            &given,
+            &mut self.tree,
+            &mut self.disk,
+            &mut self.control,
+            &mut self.report,
+        ))
+    }
+}
