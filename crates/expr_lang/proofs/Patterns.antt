@@ -68,8 +68,9 @@ patterns_of (Not' at p operand) = patterns_of operand
 patterns_of (And' at p left q right) = (patterns_of left, patterns_of right)
 patterns_of (Or' at p left q right) = (patterns_of left, patterns_of right)
 patterns_of (Compares' at compared p left q right) = (patterns_of left, patterns_of right)
-patterns_of (Matches' at p left pattern) = (
-  patterns_of left,
-  ∥∥₁_elim pattern.read (Bool-set _ _)
-      (λ read. is_pattern_read (regex_source pattern.regex) pattern.regex.pattern.program.hir (names_of pattern.regex.pattern.names.items) (rw read.0 at read.1)),
-)
+patterns_of (Matches' at p left boxed) =
+    let pattern = boxed.value in (
+      patterns_of left,
+      ∥∥₁_elim pattern.read (Bool-set _ _)
+          (λ read. is_pattern_read (regex_source pattern.regex) pattern.regex.pattern.program.hir (names_of pattern.regex.pattern.names.items) (rw read.0 at read.1)),
+    )

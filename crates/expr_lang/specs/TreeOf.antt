@@ -15,7 +15,7 @@ tree (Not' at p operand) = negation at (tree operand)
 tree (And' at p left q right) = conjunction at (tree left) (tree right)
 tree (Or' at p left q right) = disjunction at (tree left) (tree right)
 tree (Compares' at compared p left q right) = comparison compared at (tree left) (tree right)
-tree (Matches' at p left pattern) = matching at (tree left) (regex_source pattern.regex)
+tree (Matches' at p left pattern) = matching at (tree left) (regex_source pattern.value.regex)
 
 abbrev pub tree_of : Expr → Tree
 tree_of expr = tree expr.root.now

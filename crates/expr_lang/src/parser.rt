@@ -382,6 +382,7 @@ fn matches(alloc: Global, at: usize, left: Node, pattern: Pattern) -> Result<Nod
     ensures { IfOk result (λ node. tree node ≡ matching at (tree left) (regex_source pattern.regex)) }
 {
     let left = Box::new(alloc, left)?;
+    let pattern = Box::new(alloc, pattern)?;
     Ok(Node::Matches { at, left, pattern })
 }
 

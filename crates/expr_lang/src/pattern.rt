@@ -11,10 +11,16 @@ use std::cell::RefCell;
 use std::collections::BTreeMap;
 
 /// A pattern that is compiled, with the options of `regex` as they are by default.
-#[derive(Drop)]
 pub struct Pattern {
     pub regex: Regex,
     pub ghost read: { IsReadByDefault regex },
+}
+
+// By hand, so that the drop of a tree, which may be hundreds of nodes deep, goes by this call and wants little stack.
+impl Drop for Pattern {
+    fn drop(self) {
+        let Pattern { regex: _regex } = self;
+    }
 }
 
 /// What searches texts for a pattern.
