@@ -18,6 +18,14 @@ grown() { wait_for bash -c 'until [ -e "$1" ] && [ "$(wc -l <"$1")" -ge "$2" ]; 
 # skip REASON: this check can't be made on this machine. It ends there.
 skip() { echo "$*" >"$work/skipped"; }
 
+# can_trace: strace may tell the calls of what it runs. Else this check isn't made.
+can_trace() {
+    strace -o /dev/null true 2>/dev/null || {
+        skip "strace isn't there, or may not trace"
+        return 1
+    }
+}
+
 # run STATUS REPORT WORD..: these words end with the status, and report exactly these lines.
 run() {
     local want=$1 report=$2 status

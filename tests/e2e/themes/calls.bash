@@ -1,12 +1,5 @@
 # Calls that fail, or at which the agent is killed, one at a time: strace puts them in.
 
-can_trace() {
-    strace -o /dev/null true 2>/dev/null || {
-        skip "strace isn't there, or may not trace"
-        return 1
-    }
-}
-
 # The options of strace for calls on these files alone, by any name.
 own_files=(settings.json output.jsonl checkpoint.a checkpoint.b .)
 logs=(logs logs/a.log logs/b.log)
