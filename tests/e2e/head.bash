@@ -12,11 +12,22 @@ wait_for() { timeout $((slow * ${LIMIT:-60})) "$@"; }
 # wait_long COMMAND..: five times as long, for what runs the program many times.
 wait_long() { timeout $((5 * slow * ${LIMIT:-60})) "$@"; }
 
+# much COUNT: so many, or a part of them where the program is slow.
+much() { echo $(($1 / (slow < 20 ? slow : 20))); }
+
 # grown FILE LINES: waits until the file has so many lines, as long as a run may take.
 grown() { wait_for bash -c 'until [ -e "$1" ] && [ "$(wc -l <"$1")" -ge "$2" ]; do sleep 0.05; done' - "$@"; }
 
 # skip REASON: this check can't be made on this machine. It ends there.
 skip() { echo "$*" >"$work/skipped"; }
+
+# is_quick: the program isn't as slow as one that checks its memory, which would take minutes here. Else this check isn't made.
+is_quick() {
+    [ "$slow" -le 20 ] || {
+        skip "the program is $slow times slower here"
+        return 1
+    }
+}
 
 # can_trace: strace may tell the calls of what it runs. Else this check isn't made.
 can_trace() {

@@ -8,10 +8,9 @@ check_few_rounds() {
         demo 'rounds=10 polls=11 stops=1 files=3 lines=10 output=3251' 10
 }
 
-# In five seconds at most, with no more than 64 MiB, and more of both where the program is slow. One that checks its memory would
-# play them for minutes.
+# In five seconds at most, with no more than 64 MiB, and more of both where the program is slow.
 check_most_rounds() {
-    [ "$slow" -le 20 ] || { skip "the program is $slow times slower here"; return 0; }
+    is_quick || return 0
     local most='rounds=1000 polls=1142 stops=142 files=102 lines=1000 output=328331'
     demo "$most" 1000 && LIMIT=5 wait_for python3 - "$agent" $((slow * 65536)) <<'PY'
 import resource, subprocess, sys

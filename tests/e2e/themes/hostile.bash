@@ -24,36 +24,39 @@ a_line() {
 }
 
 check_quotes() {
-    local half whole
+    local count half whole
+    count=$(much 2097152)
     long ''
-    a_line 2097152 '"'
+    a_line "$count" '"'
     half=$(spent) || return 1
-    a_line 4194304 '"'
+    a_line $((2 * count)) '"'
     whole=$(spent) || return 1
     twice_as_long "$half" "$whole" &&
-        python3 -c 'import json
+        python3 -c 'import json, sys
 record, = [json.loads(line) for line in open("output.jsonl")]
 body = record["resourceLogs"][0]["scopeLogs"][0]["logRecords"][0]["body"]["stringValue"]
-assert body == 4194304 * chr(34), len(body)'
+assert body == int(sys.argv[1]) * chr(34), len(body)' $((2 * count))
 }
 
 # an_object COUNT: a log whose one line is an object with so many members, the greatest name first.
 an_object() { python3 -c 'import json, sys; print(json.dumps({f"k{n:06}": n for n in reversed(range(int(sys.argv[1])))}))' "$1" >app.log; }
 
 check_members() {
-    local half whole
+    local count half whole
+    count=$(much 50000)
     long '{"type":"json_parser"},{"type":"move","from":"attributes.k000000","to":"attributes.first"},{"type":"move","from":"body","to":"attributes.text"}'
-    an_object 50000
+    an_object "$count"
     half=$(spent) || return 1
-    an_object 100000
+    an_object $((2 * count))
     whole=$(spent) || return 1
     twice_as_long "$half" "$whole" &&
-        python3 -c 'import json
+        python3 -c 'import json, sys
+count = int(sys.argv[1])
 record, = [json.loads(line) for line in open("output.jsonl")]
 attributes = record["resourceLogs"][0]["scopeLogs"][0]["logRecords"][0]["attributes"]
 keys = [a["key"] for a in attributes]
-assert keys == sorted(keys) and len(keys) == 100001, len(keys)
-assert attributes[0] == {"key": "first", "value": {"intValue": "0"}} and keys[-2:] == ["k099999", "text"], keys[-2:]'
+assert keys == sorted(keys) and len(keys) == count + 1, len(keys)
+assert attributes[0] == {"key": "first", "value": {"intValue": "0"}} and keys[-2:] == [f"k{count - 1:06}", "text"], keys[-2:]' $((2 * count))
 }
 
 # patterns COUNT: a router of so many patterns, of which the last one alone is found.
@@ -66,10 +69,11 @@ print(json.dumps({"type": "router", "routes": routes})[:-1] + "},{\"type\":\"noo
 }
 
 check_patterns() {
-    local half whole
-    patterns 500
+    local count half whole
+    count=$(much 500)
+    patterns "$count"
     half=$(spent) || return 1
-    patterns 1000
+    patterns $((2 * count))
     whole=$(spent) || return 1
     twice_as_long "$half" "$whole" && [ "$(wc -l <output.jsonl)" = 100 ]
 }
