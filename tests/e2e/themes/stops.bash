@@ -9,9 +9,17 @@ check_two_agents() {
     a_folder '*.log'
     echo b1 >b.log
     wait_for python3 - "$agent" <<'PY' || return 1
-import subprocess, sys
+import subprocess, sys, time
+def waits(agent):
+    time.sleep(0.02)
+    with open(f"/proc/{agent.pid}/stat") as stat:
+        return stat.read().rpartition(") ")[2].startswith("S")
+# It has opened its session once it waits for a line.
 def start():
-    return subprocess.Popen([sys.argv[1], "follow"], stdin=subprocess.PIPE, stdout=subprocess.PIPE, text=True, bufsize=1)
+    agent = subprocess.Popen([sys.argv[1], "follow"], stdin=subprocess.PIPE, stdout=subprocess.PIPE, text=True, bufsize=1)
+    while not all(waits(agent) for _ in range(5)):
+        pass
+    return agent
 def poll(agent):
     agent.stdin.write("poll\n")
     return agent.stdout.readline().split()[:2]
