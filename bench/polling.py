@@ -1,0 +1,133 @@
+"""What bench/run measures poll by poll: folders of files, and entries of many short lines."""
+import json
+import os
+import subprocess
+import time
+
+from measures import Failed, can_count_calls, least
+
+FOLDERS = (10, 100, 1_000, 10_000)
+IDLE_FILES = 200
+POLLS = 20
+# The sizes of a log of lines of one byte: nearly what a poll reads of a file, and nearly the longest entry.
+ONE_BYTE = 16_000_000
+WAITING = 4_000_000
+NAMES = 64_000
+STARTS = {"multiline": {"line_start_pattern": "^[0-9]{4}-[0-9]{2}-[0-9]{2}T"}}
+
+
+class Follower:
+    """`stanza_agent follow`, poll by poll."""
+
+    def __init__(self, work):
+        self.child = subprocess.Popen(
+            [work.agent, "follow"], cwd=work.folder, stdin=subprocess.PIPE, stdout=subprocess.PIPE, text=True, bufsize=1
+        )
+
+    def __enter__(self):
+        return self
+
+    def __exit__(self, *_fault):
+        self.child.stdin.close()
+        self.child.wait()
+
+    def poll(self, wanted=""):
+        """Makes a poll, whose summary has to have this, and answers its time by the clock."""
+        began = time.perf_counter()
+        self.child.stdin.write("poll\n")
+        summary = self.child.stdout.readline()
+        took = time.perf_counter() - began
+        if not summary or wanted not in summary:
+            raise Failed(f"a poll told {summary.strip() or 'nothing'}, and not{wanted}")
+        return took
+
+
+def write_settings(work, **settings):
+    work.forget()
+    work.write("settings.json", json.dumps({"start_at": "beginning", **settings}))
+
+
+def append(work, name, line):
+    with open(work.path(name), "a", encoding="utf-8") as log:
+        log.write(line + "\n")
+
+
+# ---- folders
+
+
+def write_folder(work, name, files):
+    """A folder with so many files of 100 lines."""
+    for file in range(files):
+        lines = (f"2026-11-27T08:00:{line % 60:02}Z INFO file {file} handled request id={line}\n" for line in range(100))
+        work.write(f"{name}/{file:04}.log", "".join(lines))
+    write_settings(work, include=[f"{name}/*.log"])
+
+
+def each_idle(work, files, count, polls):
+    """What a poll more that finds nothing new counts, for a file. `count` takes a command and its standard input."""
+    command = [work.agent, "follow"]
+    few, many = (count(command, "poll\n" * number) for number in (2, 2 + polls))
+    return (many - few) / polls / files
+
+
+def idle(work):
+    """Instructions and system calls of a file in which nothing is new, in a poll."""
+    write_folder(work, "idle", IDLE_FILES)
+    work.run([work.agent, "once"])
+    instructions = each_idle(work, IDLE_FILES, lambda *how: work.counts(*how).instructions, 10)
+    calls = each_idle(work, IDLE_FILES, work.calls, 10) if can_count_calls() else None
+    return instructions, calls
+
+
+def folder(work, files):
+    """Times of a folder's polls by the clock: with all lines new, the least with nothing new and with one file that grew, and
+    the least of a run of `once` with nothing new; and the system calls for a file."""
+    name = f"folder-{files}"
+    write_folder(work, name, files)
+    with Follower(work) as agent:
+        all_new = agent.poll()
+        quiet = min(agent.poll(" lines=0 ") for _ in range(POLLS))
+        grown = min(grow(work, agent, f"{name}/0007.log") for _ in range(POLLS))
+    run = least(lambda: work.run([work.agent, "once"])).clock
+    calls = each_idle(work, files, work.calls, 2) if can_count_calls() else None
+    return all_new, quiet, grown, run, calls
+
+
+def grow(work, agent, name):
+    append(work, name, "2026-11-27T09:00:00Z INFO one line more")
+    return agent.poll(" lines=1 ")
+
+
+# ---- lines of one byte
+
+
+def one_byte(work):
+    """Processor time for a log of lines of one byte, of which none begins an entry."""
+    work.write("short.log", "a\n" * (ONE_BYTE // 2))
+    write_settings(work, include=["short.log"], **STARTS)
+    return least(work.once).processor
+
+
+def waiting(work):
+    """Times by the clock of polls over one entry that waits: the least with nothing new and with a line more."""
+    front = "2026-11-27T08:00:00Z it begins\n"
+    work.write("waiting.log", front + "a\n" * ((WAITING - len(front)) // 2))
+    write_settings(work, include=["waiting.log"], max_log_size=4_194_304, **STARTS)
+    with Follower(work) as agent:
+        agent.poll(" lines=0 ")
+        quiet = min(agent.poll(" lines=0 ") for _ in range(5))
+        grown = min(wait_on(work, agent) for _ in range(5))
+    os.remove(work.path("waiting.log"))
+    return quiet, grown
+
+
+def wait_on(work, agent):
+    append(work, "waiting.log", "a")
+    return agent.poll(" lines=0 ")
+
+
+def header(work):
+    """Processor time of a run over no file whose settings name so many columns."""
+    names = ",".join(f"n{name}" for name in range(NAMES))
+    write_settings(work, include=["none.log"], operators=[{"type": "csv_parser", "header": names}])
+    return least(lambda: work.run([work.agent, "once"])).processor
