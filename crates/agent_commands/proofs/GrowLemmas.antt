@@ -4,7 +4,7 @@ use Rattle.std.specs.Prelude.{◌⊎◌}
 use Rattle.std.proofs.lemmas.List.{append-nil}
 use Rattle.checkpoint_journal.specs.JournalOf.{HasJournal, log_of}
 use Rattle.checkpoint_journal.specs.declared.journal.Journal.{Journal}
-use Rattle.checkpoint_store.specs.declared.Checkpoint.{Checkpoint as Saved}
+use Rattle.checkpoint_store.specs.declared.Checkpoint.{Checkpoint}
 use Rattle.file_pass.specs.Full.{lines_text}
 use Rattle.outside.proofs.Passing.{passes_by, passes_then}
 use Rattle.outside.specs.Crash.{Passes}
@@ -16,7 +16,6 @@ use Rattle.outside.specs.declared.disk.DiskFile.{DiskFile}
 use Rattle.outside.specs.declared.disk.DiskFile.TheVariants.{Output}
 use Rattle.poll_core.proofs.ImageLemmas.{found_kept, kept_stays, one_sequence, sequence_kept, sound_still}
 use Rattle.poll_core.proofs.SafeLemmas.{gains_kept, stays_kept, steps_sound, stays_sound}
-use Rattle.poll_core.specs.Checkpoints.{standing_checkpoint}
 use Rattle.poll_core.specs.Found.{IsFound}
 use Rattle.poll_core.specs.IsSession.{IsSession}
 use Rattle.poll_core.specs.Next.{sequence_after}
@@ -24,7 +23,7 @@ use Rattle.poll_core.specs.Polled.{ComesAfter, Gains, IsSoundIn, MayGain, Stays,
 use Rattle.poll_core.specs.Remembers.{EndsWithMemory, HasMemory, IsLeftBy}
 use Rattle.poll_core.specs.Reopens.{Reopens}
 use Rattle.poll_core.specs.Sequence.{HasSequence, no_slot, of_log}
-use Rattle.poll_core.specs.SessionParts.{journal_of_session, rules_of_session, store_checkpoint}
+use Rattle.poll_core.specs.SessionParts.{journal_of_session, rules_of_session, checkpoint_of_session}
 use Rattle.poll_core.specs.StandsOn.{StandsOn}
 use Rattle.poll_core.specs.declared.session.Session.{Session}
 use Rattle.standing.specs.Marks.{Mark}
@@ -106,14 +105,14 @@ abbrev number_of : Option Journal → ℕ
 number_of None = 0
 number_of (Some journal) = journal.sequence
 
-journal_number : (journal : Journal) (saved : Saved) (image : Image DiskFile) → HasJournal journal saved image → HasSequence image journal.sequence
+journal_number : (journal : Journal) (saved : Checkpoint) (image : Image DiskFile) → HasJournal journal saved image → HasSequence image journal.sequence
 journal_number journal saved image has = of_log (log_of journal) has.base has.records has.log_is
 
-memory_number : (journal : Option Journal) (saved : Saved) (image : Image DiskFile) → HasMemory journal saved image → HasSequence image (number_of journal)
+memory_number : (journal : Option Journal) (saved : Checkpoint) (image : Image DiskFile) → HasMemory journal saved image → HasSequence image (number_of journal)
 memory_number None saved image memory = no_slot memory.0
 memory_number (Some journal) saved image memory = journal_number journal saved image memory
 
-ending_number : (journal : Option Journal) (saved : Saved) (image : Image DiskFile) → EndsWithMemory journal saved image → HasSequence image (number_of journal)
+ending_number : (journal : Option Journal) (saved : Checkpoint) (image : Image DiskFile) → EndsWithMemory journal saved image → HasSequence image (number_of journal)
 ending_number None saved image ends = no_slot ends.0
 ending_number (Some journal) saved image ends = journal_number journal saved image ends.journal_is
 
@@ -121,20 +120,20 @@ next_number : (journal : Option Journal) → sequence_after journal ≡ number_o
 next_number None = refl
 next_number (Some journal) = refl
 
-memory_found : (journal : Option Journal) (saved : Saved) (image : Image DiskFile) → HasMemory journal saved image → (there : Found) × IsFound image there
+memory_found : (journal : Option Journal) (saved : Checkpoint) (image : Image DiskFile) → HasMemory journal saved image → (there : Found) × IsFound image there
 memory_found None saved image memory = (nothing, memory.0)
-memory_found (Some journal) saved image memory = (found (standing_checkpoint saved), (saved, (journal, memory), refl))
+memory_found (Some journal) saved image memory = (found saved, (journal, memory))
 
 module _ (session : Session) (old new : Image DiskFile) (is : IsSession session) (left : IsLeftBy session old) where
   some_sound : IsSoundIn (rules_of_session session) new → IsSomeSound new
   some_sound sound = record { text = session.settings; rules = rules_of_session session; rules_are = (session.pipeline, is.made, refl); sound = sound }
 
   had : (number : ℕ) → HasSequence old number → number ≡ number_of (journal_of_session session)
-  had number has = one_sequence old number (number_of (journal_of_session session)) has (ending_number (journal_of_session session) (store_checkpoint session) old left.memory)
+  had number has = one_sequence old number (number_of (journal_of_session session)) has (ending_number (journal_of_session session) (checkpoint_of_session session) old left.memory)
 
   pub stays_grows : Stays session old new → GrowsBy 0 old new
   stays_grows stays =
-      let after = memory_found (journal_of_session session) (store_checkpoint session) new stays.memory in
+      let after = memory_found (journal_of_session session) (checkpoint_of_session session) new stays.memory in
       record {
         settings = stays.settings;
         kept_then = λ there has. record {
@@ -146,16 +145,16 @@ module _ (session : Session) (old new : Image DiskFile) (is : IsSession session)
         sound = λ _. some_sound (stays_sound session old new is left stays);
         sequence = λ number has. record {
           after = number_of (journal_of_session session);
-          has = memory_number (journal_of_session session) (store_checkpoint session) new stays.memory;
+          has = memory_number (journal_of_session session) (checkpoint_of_session session) new stays.memory;
           no_lower = omega (arith, had number has);
           within = omega (arith, had number has);
         };
       }
 
-  pub gains_grows : (next : Saved) (added : List Mark) → ComesAfter session next added → Gains session next added old new → GrowsBy 1 old new
+  pub gains_grows : (next : Checkpoint) (added : List Mark) → ComesAfter session next added → Gains session next added old new → GrowsBy 1 old new
   gains_grows next added comes gains =
-      let after : Found = found (standing_checkpoint next) in
-      let is_found : IsFound new after = (next, (gains.memory.0, gains.memory.1), refl) in
+      let after : Found = found next in
+      let is_found : IsFound new after = (gains.memory.0, gains.memory.1) in
       record {
         settings = gains.settings;
         kept_then = λ there has. record {
@@ -173,7 +172,7 @@ module _ (session : Session) (old new : Image DiskFile) (is : IsSession session)
         };
       }
 
-  pub steps_grows : (next : Saved) (added : List Mark) → ComesAfter session next added → Steps session next added old new → GrowsBy 1 old new
+  pub steps_grows : (next : Checkpoint) (added : List Mark) → ComesAfter session next added → Steps session next added old new → GrowsBy 1 old new
   steps_grows next added comes steps = elim steps [
     | inl stays ↦ grows_more 0 1 old new (omega arith) (stays_grows stays)
     | inr gains ↦ gains_grows next added comes gains

@@ -1,7 +1,7 @@
 -- What stands is kept from call to call.
 use Rattle.std.proofs.Common.{◌≡◌, ℕ, ◌<◌, ◌≤◌, List, Option, None, Some, IsTrue, refl, sym, subst, arith, inl, inr}
 use Rattle.std.specs.Prelude.{Contains}
-use Rattle.checkpoint_store.specs.declared.Checkpoint.{Checkpoint as Saved}
+use Rattle.checkpoint_store.specs.declared.Checkpoint.{Checkpoint}
 use Rattle.file_pass.specs.TreeTerms.{GoesLater}
 use Rattle.outside.specs.Crash.{Passes}
 use Rattle.outside.specs.Image.{Image, Same}
@@ -11,16 +11,17 @@ use Rattle.outside.specs.World.{History, Told, World}
 use Rattle.outside.specs.declared.disk.DiskFile.{DiskFile}
 use Rattle.outside.specs.declared.disk.DiskFile.TheVariants.{Settings}
 use Rattle.poll_core.proofs.ImageLemmas.{found_kept, standing_still}
+use Rattle.poll_core.proofs.StoodLemmas.{StandsBefore, stands_before}
 use Rattle.poll_core.specs.MadeOf.{HasRules}
 use Rattle.poll_core.specs.Polled.{IsStanding, IsSummed, TreeCounts}
 use Rattle.poll_core.specs.Reopens.{Reopens}
 use Rattle.poll_core.specs.SessionParts.{checkpoint_of_session, rules_of_session}
 use Rattle.poll_core.specs.Since.{KeepsStandingSince}
+use Rattle.poll_core.specs.StandsOn.{StandsOn}
 use Rattle.poll_core.specs.Summed.{TellsAll}
-use Rattle.poll_core.specs.Checkpoints.{standing_checkpoint}
 use Rattle.poll_core.specs.declared.summary.Summary.{Summary}
 use Rattle.poll_core.specs.declared.session.Session.{Session}
-use Rattle.standing.proofs.MomentLemmas.{apart_before}
+use Rattle.standing.proofs.MomentLemmas.{apart_before, later_none, later_then}
 use Rattle.standing.specs.Apart.{Apart}
 use Rattle.standing.specs.AreRules.{AreRules}
 use Rattle.standing.specs.Look.{Look, size}
@@ -29,7 +30,8 @@ use Rattle.standing.specs.Moments.{IsLater, IsNamed, KeepsNames}
 use Rattle.standing.specs.Rules.{Includes, Rules}
 use Rattle.standing.specs.Stands.{Stands}
 use Rattle.standing.specs.Sums.{IsReached}
-use Rattle.agent_commands.specs.Headline.{HoldsAll, KeepsStanding}
+use Rattle.agent_commands.specs.Headline.{HoldsAll, KeepsFrom, KeepsStanding, StoodSince}
+use Rattle.agent_commands.specs.Moment.{Moment, Meanings, meanings, moment}
 use Rattle.agent_commands.specs.Opens.{Opens}
 
 -- all sessions of one text poll by the same rules
@@ -76,6 +78,10 @@ module _ {D : Type 0} (images : Images DiskFile D) where
   told_stands_none rules disk None = tt
   told_stands_none rules disk (Some world) = λ apart from early stood. stood
 
+  pub told_reopened : (rules : Rules) (old new : D) (now : Option World) → CountsNow old → Passes images Reopens old new → Told (KeepsStandingSince images rules old new) now now
+  told_reopened rules old new None counts passes = tt
+  told_reopened rules old new (Some x) counts passes = λ apart from early stood. all_reopened rules x.history old new counts passes from early stood
+
   -- ---- a command
 
   opened_rules : (session : Session) (rules : Rules) (old mid : D) → AreOneRules → Opens images session old mid → IsTrue (images.tells old) → HasRules (images.seen old Settings) rules → rules ≡ rules_of_session session
@@ -112,7 +118,7 @@ module _ {D : Type 0} (images : Images DiskFile D) where
 
 -- the law of complete polls
 abbrev pub ReachesAll : Type 0
-ReachesAll = (session : Session) (next : Saved) (added : List Mark) (summary : Summary) (counts counts_after : TreeCounts)
+ReachesAll = (session : Session) (next : Checkpoint) (added : List Mark) (summary : Summary) (counts counts_after : TreeCounts)
     (old new : World) (summed : IsSummed session next added summary counts counts_after old new)
     → TellsAll summary → (output path : List ℕ) (file : ℕ) → AreRules (rules_of_session session)
     → IsLater old.history new.history → Apart (rules_of_session session).front_size new.history
@@ -120,15 +126,90 @@ ReachesAll = (session : Session) (next : Saved) (added : List Mark) (summary : S
     → Stands (rules_of_session session) old.history (checkpoint_of_session session).rows (checkpoint_of_session session).next_id output
     → Includes (rules_of_session session) path → IsNamed new.history path file
     → (here : Look) × Contains summed.looks here × (here.file ≡ file)
-    × (0 < size here → IsReached (rules_of_session session) new.history (standing_checkpoint next).rows here)
+    × (0 < size here → IsReached (rules_of_session session) new.history next.rows here)
 
-holds_all : ReachesAll → (session : Session) (after : Saved) (summary : Summary) (old new : World) → AreRules (rules_of_session session) → HoldsAll session after summary old new
-holds_all law session after summary old new rules added counts counts_after summed complete path file included named =
-    let found = law session after added summary counts counts_after old new summed complete.tells_all complete.output path file rules complete.later complete.apart complete.lawful complete.names_kept complete.stood included named in
-    record { here = found.0; looked = found.1; file_is = found.2; reached = found.3 }
+same_world : (one other : World) → Some one ≡ Some other → one ≡ other
+same_world one other same = cc
 
-pub told_holds_all : ReachesAll → (session : Session) (after : Saved) (summary : Summary) (old new : Option World) → AreRules (rules_of_session session) → Told GoesLater old new → Told (HoldsAll session after summary) old new
-told_holds_all law session after summary None None rules later = tt
-told_holds_all law session after summary None (Some y) rules later = later
-told_holds_all law session after summary (Some x) None rules later = later
-told_holds_all law session after summary (Some x) (Some y) rules later = holds_all law session after summary x y rules
+pub told_later_then : (before between after : Option World) → Told GoesLater before between → Told GoesLater between after → Told GoesLater before after
+told_later_then None None None a b = tt
+told_later_then None None (Some z) a b = b
+told_later_then None (Some y) after a b = absurd a
+told_later_then (Some x) None after a b = absurd a
+told_later_then (Some x) (Some y) None a b = b
+told_later_then (Some x) (Some y) (Some z) a b = later_then x.history y.history z.history a b
+
+pub told_later_same : (now : Option World) → Told GoesLater now now
+told_later_same None = tt
+told_later_same (Some x) = later_none x.history
+
+-- what the session began with, where each image that a crash may leave stands
+stood_rows : {D : Type 0} (images : Images DiskFile D) → ((disk : D) → IsTrue (images.tells disk) → images.may_leave disk (images.seen disk)) → (session : Session) (disk : D) (history : History)
+    → StandsOn images session disk → StoodSince images (rules_of_session session) history disk disk → StandsBefore session history
+stood_rows images shown session disk history stands stood =
+    let image : Image DiskFile = images.seen disk in
+    let there = shown disk stood.tells in
+    stands_before session history image (stands.each.each image there) (stood.each.each image there)
+
+module _ {D : Type 0} (images : Images DiskFile D) (shown : (disk : D) → IsTrue (images.tells disk) → images.may_leave disk (images.seen disk)) (law : ReachesAll) where
+  holds_all : (session : Session) (after : Checkpoint) (summary : Summary) (disk : D) (old new : World) → AreRules (rules_of_session session) → StandsOn images session disk
+      → HoldsAll session after summary (StoodSince images (rules_of_session session) old.history disk disk) old new
+  holds_all session after summary disk old new rules stands added counts counts_after summed complete stood path file included named =
+      let before = stood_rows images shown session disk old.history stands stood in
+      let found = law session after added summary counts counts_after old new summed complete.tells_all before.output path file rules complete.later complete.apart complete.lawful complete.names_kept before.stands included named in
+      record { here = found.0; looked = found.1; file_is = found.2; reached = found.3 }
+
+  pub told_holds_all : (session : Session) (after : Checkpoint) (summary : Summary) (disk : D) (old new : Option World) → AreRules (rules_of_session session) → StandsOn images session disk → Told GoesLater old new
+      → (first : World) → old ≡ Some first → Told (HoldsAll session after summary (StoodSince images (rules_of_session session) first.history disk disk)) old new
+  told_holds_all session after summary disk None None rules stands later first is = tt
+  told_holds_all session after summary disk None (Some y) rules stands later first is = later
+  told_holds_all session after summary disk (Some x) None rules stands later first is = later
+  told_holds_all session after summary disk (Some x) (Some y) rules stands later first is =
+      subst (λ (world : World). HoldsAll session after summary (StoodSince images (rules_of_session session) world.history disk disk) x y) (same_world x first is) (holds_all session after summary disk x y rules stands)
+
+module _ {D : Type 0} (images : Images DiskFile D) (only_now : (disk : D) (image : Image DiskFile) → images.left_since disk (images.moment disk) image → images.may_leave disk image) (counts : (disk : D) → CountsNow images disk) where
+  -- what stood at the begin stands now
+  stood_now : (rules : Rules) (begun now : D) (first old new : World) → images.moment begun ≤ images.moment now → KeepsStandingSince images rules begun now first old → IsLater old.history new.history → Apart rules.front_size new.history
+      → StoodSince images rules first.history begun now → StoodSince images rules old.history now now
+  stood_now rules begun now first old new later keeps goes apart stood = record {
+    each = record {
+      each = λ image left.
+          keeps (apart_before rules.front_size old.history new.history goes apart) (images.moment begun) (omega arith) (λ one since. stood.each.each one (only_now begun one since))
+          image (counts now (images.moment begun) image later left);
+    };
+    tells = stood.tells;
+  }
+
+  -- what a poll holds where the images stood at its begin, it holds where they stood when the command began
+  pub holds_since : (session : Session) (after : Checkpoint) (summary : Summary) (begun now : D) (first : World) (earlier old new : Option World) → images.moment begun ≤ images.moment now
+      → Told (KeepsStandingSince images (rules_of_session session) begun now) earlier old → earlier ≡ Some first → Told GoesLater old new
+      → ((own : World) → old ≡ Some own → Told (HoldsAll session after summary (StoodSince images (rules_of_session session) own.history now now)) old new)
+      → Told (HoldsAll session after summary (StoodSince images (rules_of_session session) first.history begun now)) old new
+  holds_since session after summary begun now first earlier None None later keeps is goes own = tt
+  holds_since session after summary begun now first earlier None (Some y) later keeps is goes own = goes
+  holds_since session after summary begun now first earlier (Some x) None later keeps is goes own = goes
+  holds_since session after summary begun now first earlier (Some x) (Some y) later keeps is goes own = λ added count count_after summed complete stood.
+      let kept : KeepsStandingSince images (rules_of_session session) begun now first x = subst (λ (world : Option World). Told (KeepsStandingSince images (rules_of_session session) begun now) world (Some x)) is keeps in
+      own x refl added count count_after summed complete (stood_now (rules_of_session session) begun now first x y later kept complete.later complete.apart stood)
+
+-- ---- from the command's begin on
+
+module _ {T D K : Type 0} (meanings : Meanings T D K) where
+  pub keeps_none : (rules : Rules) (now : Moment T D K) → KeepsFrom meanings rules now now
+  keeps_none rules now = record { later = omega arith; goes = told_later_same (meanings.trees.world now.tree); standing = told_stands_none meanings.disks.images rules now.disk (meanings.trees.world now.tree) }
+
+  pub keeps_then : (rules : Rules) (begun mid now : Moment T D K) → KeepsFrom meanings rules begun mid → KeepsFrom meanings rules mid now → KeepsFrom meanings rules begun now
+  keeps_then rules begun mid now a b = record {
+    later = omega (arith, a.later, b.later);
+    goes = told_later_then (meanings.trees.world begun.tree) (meanings.trees.world mid.tree) (meanings.trees.world now.tree) a.goes b.goes;
+    standing = told_stands_then meanings.disks.images rules begun.disk mid.disk now.disk (meanings.trees.world begun.tree) (meanings.trees.world mid.tree) (meanings.trees.world now.tree) b.goes a.later a.standing b.standing;
+  }
+
+  -- a session was opened, and no file was looked at
+  pub keeps_opened : (rules : Rules) (tree : T) (old mid : D) (report : K) → CountsNow meanings.disks.images old → Passes meanings.disks.images Reopens old mid
+      → KeepsFrom meanings rules (moment tree old report) (moment tree mid report)
+  keeps_opened rules tree old mid report counts passes = record {
+    later = passes.later;
+    goes = told_later_same (meanings.trees.world tree);
+    standing = told_reopened meanings.disks.images rules old mid (meanings.trees.world tree) counts passes;
+  }

@@ -14,7 +14,7 @@ use Rattle.agent_commands.specs.Committed as committed
 use Rattle.agent_commands.specs.Committed.{CommittedEnds, IsReadingFault}
 use Rattle.agent_commands.specs.Control.{max_control}
 use Rattle.agent_commands.specs.Follow as follow
-use Rattle.agent_commands.specs.Follow.{FollowEnds, Follows, StopsAt}
+use Rattle.agent_commands.specs.Follow.{FollowEnds, Follows, Progress, StopsAt}
 use Rattle.agent_commands.specs.Moment.{Moment, Meanings, moment}
 use Rattle.agent_commands.specs.Once as once
 use Rattle.agent_commands.specs.Once.{IsNotOpened, OnceEnds}
@@ -209,14 +209,14 @@ module _ {T D K : Type 0} (meanings : Meanings T D K) where
   at_status (Ok Exhausted) number status old new at = of_fault status ControlLong at.0 (λ two. omega (arith, two))
   at_status (Err _) number status old new at = of_fault status Control at.0 (λ two. omega (arith, two))
 
-  follows_status : (last status : ℕ) (rest_after : Option (List ℕ)) (new : Moment T D K) (number left : ℕ) (session : Session) (rest : Option (List ℕ)) (old : Moment T D K)
-      → Follows meanings last status rest_after new number left session rest old → IsCommandStatus status
-  follows_status last status rest_after new number left session rest old (follow.polls _ _ left_after _ next _ between _ mid asks turns more) = follows_status last status rest_after new (number + 1) left_after next between mid more
-  follows_status last status rest_after new number left session rest old (follow.stops _ _ left_after _ _ _ asks stops is) = stops_status session status old new stops
-  follows_status last status rest_after new number left session rest old (follow.ends _ _ left_after _ _ _ request asks at _ _ _) = at_status request number status (meanings.reports.written old.report) (meanings.reports.written new.report) at
+  follows_status : (begun : Moment T D K) (end : Progress) (status : ℕ) (rest_after : Option (List ℕ)) (new : Moment T D K) (number left : ℕ) (session : Session) (rest : Option (List ℕ)) (old : Moment T D K)
+      → Follows meanings begun end status rest_after new number left session rest old → IsCommandStatus status
+  follows_status begun end status rest_after new number left session rest old (follow.polls _ _ left_after _ next _ between _ mid asks turns more) = follows_status begun end status rest_after new (number + 1) left_after next between mid more
+  follows_status begun end status rest_after new number left session rest old (follow.stops _ _ left_after _ _ _ asks stops _ _) = stops_status session status old new stops
+  follows_status begun end status rest_after new number left session rest old (follow.ends _ _ left_after _ _ _ request asks at _ _ _ _) = at_status request number status (meanings.reports.written old.report) (meanings.reports.written new.report) at
 
   pub follow_status : (rest rest_after : Option (List ℕ)) (old new : Moment T D K) (status : ℕ) → FollowEnds meanings rest rest_after old new status → IsCommandStatus status
-  follow_status rest rest_after old new status (follow.serves done) = follows_status done.served.last status rest_after new 1 max_control done.session rest (moment old.tree done.between old.report) done.served.follows
+  follow_status rest rest_after old new status (follow.serves done) = follows_status old done.served.end status rest_after new 1 max_control done.session rest (moment old.tree done.between old.report) done.served.follows
   follow_status rest rest_after old new status (follow.not_opened not _) = not_opened_status status old new not
 
 pub committed_status : {D K : Type 0} (disks : DiskMeaning D) (reports : SinkMeaning K) (disk : D) (report report_after : K) (status : ℕ) → CommittedEnds disks reports disk report report_after status → IsCommandStatus status

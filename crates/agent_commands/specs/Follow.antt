@@ -30,31 +30,36 @@ pub record AsksFor (left : ℕ) (request : Result Request Failed) (left_after : 
   pub asks : Told (Asks left request) rest rest_after
   pub spends : Told (Spends left left_after) rest rest_after
 
--- What the command does with its session from one moment on, until it ends with this status at the line with the number
--- `last`. The line with the number `number` comes next, and of the control input so many bytes may still be taken.
-pub data Follows {T D K : Type 0} (meanings : Meanings T D K) (last status : ℕ) (rest_after : Option (List ℕ)) (new : Moment T D K)
+-- how far control lines were served: the number of the last one, from 1, and how many polls were made
+pub record Progress : Type 0 where
+  pub last : ℕ
+  pub made : ℕ
+
+-- What the command does with its session from one moment on, until it ends with this status, having come so far. The line with the
+-- number `number` comes next, and of the control input so many bytes may still be taken. The command began at the first moment.
+pub data Follows {T D K : Type 0} (meanings : Meanings T D K) (begun : Moment T D K) (end : Progress) (status : ℕ) (rest_after : Option (List ℕ)) (new : Moment T D K)
     : ℕ → ℕ → Session → Option (List ℕ) → Moment T D K → Type 0 where
   -- The line asks for a poll, which is made and told, and the command goes on.
   polls : (number left left_after : ℕ) (session next : Session) (rest between : Option (List ℕ)) (old mid : Moment T D K)
-      → AsksFor left (Ok Poll) left_after rest between → Turns meanings session next old mid
-      → Follows meanings last status rest_after new (number + 1) left_after next between mid
-      → Follows meanings last status rest_after new number left session rest old
+      → AsksFor left (Ok Poll) left_after rest between → Turns meanings session begun next old mid
+      → Follows meanings begun end status rest_after new (number + 1) left_after next between mid
+      → Follows meanings begun end status rest_after new number left session rest old
   -- The line asks for a poll, which ends the command.
   stops : (number left left_after : ℕ) (session : Session) (rest : Option (List ℕ)) (old : Moment T D K)
-      → AsksFor left (Ok Poll) left_after rest rest_after → Stops meanings session status old new → last ≡ number
-      → Follows meanings last status rest_after new number left session rest old
+      → AsksFor left (Ok Poll) left_after rest rest_after → Stops meanings session status old new → end.last ≡ number → end.made ≡ number
+      → Follows meanings begun end status rest_after new number left session rest old
   -- The line asks for something else, or can't be taken, and that ends the command.
   ends : (number left left_after : ℕ) (session : Session) (rest : Option (List ℕ)) (old : Moment T D K) (request : Result Request Failed)
       → AsksFor left request left_after rest rest_after
       → StopsAt request number status (meanings.reports.written old.report) (meanings.reports.written new.report)
-      → new.tree ≡ old.tree → new.disk ≡ old.disk → last ≡ number
-      → Follows meanings last status rest_after new number left session rest old
+      → new.tree ≡ old.tree → new.disk ≡ old.disk → end.last ≡ number → end.made + 1 ≡ number
+      → Follows meanings begun end status rest_after new number left session rest old
 
--- So the command served the control lines, up to the one with the number `last`. Each poll adds 1 to the sequence number at most.
-pub record IsServed {T D K : Type 0} (meanings : Meanings T D K) (session : Session) (rest rest_after : Option (List ℕ)) (old new : Moment T D K) (status : ℕ) : Type 0 where
-  pub last : ℕ
-  pub follows : Follows meanings last status rest_after new 1 max_control session rest old
-  pub crash : Passes meanings.disks.images (GrowsBy last) old.disk new.disk
+-- So the command served the control lines. Each poll that it made adds 1 to the sequence number at most.
+pub record IsServed {T D K : Type 0} (meanings : Meanings T D K) (begun : Moment T D K) (session : Session) (rest rest_after : Option (List ℕ)) (old new : Moment T D K) (status : ℕ) : Type 0 where
+  pub end : Progress
+  pub follows : Follows meanings begun end status rest_after new 1 max_control session rest old
+  pub crash : Passes meanings.disks.images (GrowsBy end.made) old.disk new.disk
 
 module _ {T D K : Type 0} (meanings : Meanings T D K) (rest rest_after : Option (List ℕ)) (old new : Moment T D K) (status : ℕ) where
   -- A session was opened, and served the control lines.
@@ -62,8 +67,8 @@ module _ {T D K : Type 0} (meanings : Meanings T D K) (rest rest_after : Option 
     pub session : Session
     pub between : D
     pub opens : Opens meanings.disks.images session old.disk between
-    pub served : IsServed meanings session rest rest_after (moment old.tree between old.report) new status
-    pub crash : Passes meanings.disks.images (GrowsBy served.last) old.disk new.disk
+    pub served : IsServed meanings old session rest rest_after (moment old.tree between old.report) new status
+    pub crash : Passes meanings.disks.images (GrowsBy served.end.made) old.disk new.disk
 
   pub data FollowEnds : Type 0 where
     serves : ServesLines → FollowEnds

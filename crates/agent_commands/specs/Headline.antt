@@ -1,52 +1,62 @@
 -- What stands for the files of a history is kept by each command, however it ends, and wherever it is stopped. After a poll
 -- that tells that it is complete, all is taken that the files had.
-use Rattle.std.specs.Prelude.{◌≡◌, ℕ, ◌<◌, Contains, IsTrue, List}
-use Rattle.checkpoint_store.specs.declared.Checkpoint.{Checkpoint as Saved}
+use Rattle.std.specs.Prelude.{◌≡◌, ℕ, ◌<◌, ◌≤◌, Contains, IsTrue, List}
+use Rattle.checkpoint_store.specs.declared.Checkpoint.{Checkpoint}
+use Rattle.file_pass.specs.TreeTerms.{GoesLater}
 use Rattle.outside.specs.Images.{Images}
 use Rattle.outside.specs.Lawful.{IsLawful}
-use Rattle.outside.specs.World.{World}
+use Rattle.outside.specs.World.{History, Told, World}
 use Rattle.outside.specs.declared.disk.DiskFile.{DiskFile}
 use Rattle.outside.specs.declared.disk.DiskFile.TheVariants.{Settings}
-use Rattle.poll_core.specs.Checkpoints.{standing_checkpoint}
 use Rattle.poll_core.specs.MadeOf.{HasRules}
-use Rattle.poll_core.specs.Polled.{IsSummed, TreeCounts}
-use Rattle.poll_core.specs.SessionParts.{checkpoint_of_session, rules_of_session}
+use Rattle.poll_core.specs.Polled.{IsStanding, IsSummed, TreeCounts}
+use Rattle.poll_core.specs.SessionParts.{rules_of_session}
 use Rattle.poll_core.specs.Since.{KeepsStandingSince}
 use Rattle.poll_core.specs.Summed.{TellsAll}
 use Rattle.poll_core.specs.declared.session.Session.{Session}
 use Rattle.poll_core.specs.declared.summary.Summary.{Summary}
+use Rattle.slot_store.specs.Synced.{EachLeft}
 use Rattle.standing.specs.Apart.{Apart}
 use Rattle.standing.specs.Look.{Look, size}
 use Rattle.standing.specs.Marks.{Mark}
 use Rattle.standing.specs.Moments.{IsLater, IsNamed, KeepsNames}
 use Rattle.standing.specs.Rules.{Includes, Rules}
-use Rattle.standing.specs.Stands.{Stands}
 use Rattle.standing.specs.Sums.{IsReached}
+use Rattle.agent_commands.specs.Moment.{Moment, Meanings}
 
 -- The rules are those of the settings file.
 abbrev pub KeepsStanding : {D : Type 0} → Images DiskFile D → D → D → World → World → Type 0
 KeepsStanding images disk disk_after old new =
     (rules : Rules) → IsTrue (images.tells disk) → HasRules (images.seen disk Settings) rules → KeepsStandingSince images rules disk disk_after old new
 
--- No file was left unread or passed over, no name was given or taken, and what the session began with stood.
+-- What stood at the first moment stands at the second, by these rules.
+pub record KeepsFrom {T D K : Type 0} (meanings : Meanings T D K) (rules : Rules) (begun now : Moment T D K) : Type 0 where
+  pub later : meanings.disks.images.moment begun.disk ≤ meanings.disks.images.moment now.disk
+  pub goes : Told GoesLater (meanings.trees.world begun.tree) (meanings.trees.world now.tree)
+  pub standing : Told (KeepsStandingSince meanings.disks.images rules begun.disk now.disk) (meanings.trees.world begun.tree) (meanings.trees.world now.tree)
+
+-- No file was left unread or passed over, and no name was given or taken.
 pub record IsComplete (session : Session) (summary : Summary) (old new : World) : Type 0 where
   pub tells_all : TellsAll summary
   pub lawful : IsLawful new.history
   pub later : IsLater old.history new.history
   pub apart : Apart (rules_of_session session).front_size new.history
   pub names_kept : KeepsNames old.history new.history
-  pub output : List ℕ
-  pub stood : Stands (rules_of_session session) old.history (checkpoint_of_session session).rows (checkpoint_of_session session).next_id output
+
+-- Each image that a crash may leave of the first disk stands for the history, by these rules, and the second disk tells its images.
+pub record StoodSince {D : Type 0} (images : Images DiskFile D) (rules : Rules) (history : History) (first now : D) : Type 0 where
+  pub each : EachLeft images first (IsStanding rules history)
+  pub tells : IsTrue (images.tells now)
 
 -- The file was looked at in the poll, and unless it was empty then, all that it had then is taken.
-pub record IsTaken (session : Session) (after : Saved) (looks : List Look) (new : World) (file : ℕ) : Type 0 where
+pub record IsTaken (session : Session) (after : Checkpoint) (looks : List Look) (new : World) (file : ℕ) : Type 0 where
   pub here : Look
   pub looked : Contains looks here
   pub file_is : here.file ≡ file
-  pub reached : 0 < size here → IsReached (rules_of_session session) new.history (standing_checkpoint after).rows here
+  pub reached : 0 < size here → IsReached (rules_of_session session) new.history after.rows here
 
--- After a complete poll each file that has a path to be read is taken.
-abbrev pub HoldsAll : Session → Saved → Summary → World → World → Type 0
-HoldsAll session after summary old new = (added : List Mark) (counts counts_after : TreeCounts) (summed : IsSummed session after added summary counts counts_after old new)
-    → IsComplete session summary old new → (path : List ℕ) (file : ℕ) → Includes (rules_of_session session) path → IsNamed new.history path file
+-- After a complete poll each file that has a path to be read is taken, where this stood before.
+abbrev pub HoldsAll : Session → Checkpoint → Summary → Type 0 → World → World → Type 0
+HoldsAll session after summary Stood old new = (added : List Mark) (counts counts_after : TreeCounts) (summed : IsSummed session after added summary counts counts_after old new)
+    → IsComplete session summary old new → Stood → (path : List ℕ) (file : ℕ) → Includes (rules_of_session session) path → IsNamed new.history path file
     → IsTaken session after summed.looks new file

@@ -30,7 +30,7 @@ module _ {T D K : Type 0} (meanings : Meanings T D K) (old new : Moment T D K) w
     pub between : D
     pub opens : Opens meanings.disks.images session old.disk between
     pub next : Session
-    pub turns : Turns meanings session next (moment old.tree between old.report) new
+    pub turns : Turns meanings session old next (moment old.tree between old.report) new
 
   -- A session was opened, and a poll of it ended the command.
   pub record StopsOnce (status : ℕ) : Type 0 where

@@ -1,6 +1,6 @@
 -- How a command opens its session, and why it doesn't.
 use Rattle.std.specs.Prelude.{◌≡◌, ⊤, IsTrue, Err}
-use Rattle.checkpoint_store.specs.declared.TheConstants.{OUTPUT_LIMIT}
+use Rattle.checkpoint_store.specs.Limits.{output_limit}
 use Rattle.outside.specs.Images.{Images}
 use Rattle.outside.specs.declared.disk.DiskFile.{DiskFile}
 use Rattle.outside.specs.declared.disk.DiskFile.TheVariants as file
@@ -18,7 +18,7 @@ use Rattle.agent_commands.specs.declared.fault.Fault.TheVariants.{Usage, Setting
 -- The session has the settings of the settings file and goes on from what reads give of the disk, and then it stands on it.
 pub record Opens {D : Type 0} (images : Images DiskFile D) (session : Session) (disk disk_after : D) : Type 0 where
   pub is_session : IsSession session
-  pub limit : limit_of session ≡ OUTPUT_LIMIT
+  pub limit : limit_of session ≡ output_limit
   pub settings : IsTrue (images.tells disk) → session.settings ≡ images.seen disk file.Settings
   pub goes_on : IsTrue (images.tells disk) → GoesOnFrom session (images.seen disk)
   pub stands : StandsOn images session disk_after

@@ -1,14 +1,14 @@
 -- One poll of a command, and its report.
-use Rattle.std.specs.Prelude.{◌≡◌, ◌⊎◌, ⊤, ℕ}
+use Rattle.std.specs.Prelude.{◌≡◌, ◌⊎◌, ⊤, ℕ, Some}
 use Rattle.checkpoint_journal.specs.Written.{IsWorn}
 use Rattle.outside.specs.TreeMeaning.{TreeMeaning}
-use Rattle.outside.specs.World.{Told}
+use Rattle.outside.specs.World.{Told, World}
 use Rattle.poll_core.specs.Overflows.{Overflows}
 use Rattle.poll_core.specs.Polled.{Polled}
-use Rattle.poll_core.specs.SessionParts.{journal_of_session, store_checkpoint}
+use Rattle.poll_core.specs.SessionParts.{journal_of_session, checkpoint_of_session, rules_of_session}
 use Rattle.poll_core.specs.declared.session.Session.{Session}
 use Rattle.poll_core.specs.declared.summary.Summary.{Summary}
-use Rattle.agent_commands.specs.Headline.{HoldsAll}
+use Rattle.agent_commands.specs.Headline.{HoldsAll, StoodSince}
 use Rattle.agent_commands.specs.Moment.{Moment, Meanings}
 use Rattle.agent_commands.specs.Report.{Appends, GrowsByPart}
 use Rattle.agent_commands.specs.Status.{fault_line, status_of}
@@ -41,11 +41,17 @@ module _ {T D K : Type 0} (meanings : Meanings T D K) (session : Session) where
   abbrev pub PollsTo : Session → Summary → Moment T D K → Moment T D K → Type 0
   PollsTo next summary old new = Polled meanings.trees meanings.disks session next summary old.tree new.tree old.disk new.disk
 
-  -- So it did, it holds all where it was complete, and the report grew by its summary line.
-  pub record Turns (next : Session) (old new : Moment T D K) : Type 0 where
+  -- After a complete poll all is taken, if what a crash could leave when the command began stood for the history then.
+  abbrev pub HoldsAllSince : Moment T D K → Session → Summary → Moment T D K → Moment T D K → Type 0
+  HoldsAllSince begun next summary old new = (first : World) → meanings.trees.world begun.tree ≡ Some first
+      → Told (HoldsAll session (checkpoint_of_session next) summary (StoodSince meanings.disks.images (rules_of_session session) first.history begun.disk old.disk))
+      (meanings.trees.world old.tree) (meanings.trees.world new.tree)
+
+  -- So it did, it holds all where it was complete, and the report grew by its summary line. The command began at the first moment.
+  pub record Turns (begun : Moment T D K) (next : Session) (old new : Moment T D K) : Type 0 where
     pub summary : Summary
     pub polled : PollsTo next summary old new
-    pub whole : Told (HoldsAll session (store_checkpoint next) summary) (meanings.trees.world old.tree) (meanings.trees.world new.tree)
+    pub whole : HoldsAllSince begun next summary old new
     pub told : Told (Appends (summary_line summary)) (meanings.reports.written old.report) (meanings.reports.written new.report)
 
   -- It came to its end, but the report failed (9), or memory ran out before all of it was told (10).

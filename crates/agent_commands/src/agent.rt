@@ -1,5 +1,5 @@
 // The whole program, over any outside.
-ghost use Rattle.std.specs.Prelude.{◌≡◌, ◌≢◌, ◌≤◌, ◌⊎◌, ℕ, IfOk, IfErr};
+ghost use Rattle.std.specs.Prelude.{◌≡◌, ◌≢◌, ◌≤◌, ℕ, IfOk, IfErr};
 ghost use Rattle.command_words.specs.Answers.{IsNoCommand};
 ghost use Rattle.command_words.specs.IsCommand.{IsCommand};
 ghost use Rattle.command_words.specs.Words.{texts};
@@ -16,9 +16,8 @@ ghost use Rattle.agent_commands.specs.Grows.{GrowsBy};
 ghost use Rattle.agent_commands.specs.Headline.{KeepsStanding};
 ghost use Rattle.agent_commands.specs.Moment.{meanings, moment};
 ghost use Rattle.agent_commands.specs.Once.{OnceEnds};
-ghost use Rattle.agent_commands.specs.Report.{GrowsByPart};
-ghost use Rattle.agent_commands.specs.Status.{fault_line, IsStatus};
-ghost use Rattle.agent_commands.specs.Words.{IsWordsFault};
+ghost use Rattle.agent_commands.specs.Status.{IsStatus};
+ghost use Rattle.agent_commands.specs.Words.{IsNotRun, IsWordsFault};
 
 use crate::committed::committed;
 use crate::demo::show_demo;
@@ -65,11 +64,10 @@ pub fn run_agent<T: Tree, D: Disk, S: Source, K: Sink>(
     // What stands for the files, stands: whatever others do to them meanwhile, and wherever the command is stopped.
     ensures standing { Told (KeepsStanding D.meaning.images disk.old disk.new) (T.meaning.world tree.old) (T.meaning.world tree.new) }
 
-    // 2: the words are no command. Memory to read them may be wanting.
+    // 2: the words are no command. Memory to read them may be wanting (10).
     ensures usage { result ≡ 2 → IsNoCommand (texts words.now) }
-    ensures no_command { IsNoCommand (texts words.now) → (result ≡ 2) ⊎ (result ≡ 10) }
-    ensures usage_told { result ≡ 2 → Told (GrowsByPart (fault_line Fault.Usage)) (K.meaning.written report.old) (K.meaning.written report.new) }
-    ensures usage_untouched { result ≡ 2 → disk.new ≡ disk.old }
+    ensures no_command { IsNoCommand (texts words.now) → IsNotRun (texts words.now) result (K.meaning.written report.old) (K.meaning.written report.new) }
+    ensures no_command_untouched { IsNoCommand (texts words.now) → disk.new ≡ disk.old }
 
     // 7, 8 and 9: the disk, the control input or the report failed.
     ensures disk_failed { result ≡ 7 → Rose (D.meaning.faults disk.old) (D.meaning.faults disk.new) }

@@ -10,8 +10,8 @@ ghost use Rattle.poll_core.specs.Since.{KeepsStandingSince};
 ghost use Rattle.poll_core.specs.StandsOn.{StandsOn};
 ghost use Rattle.agent_commands.specs.Control.{max_control, TakesAtMost, TakesExactly};
 ghost use Rattle.agent_commands.specs.Follow.{FollowEnds, IsServed, StopsAt};
-ghost use Rattle.agent_commands.specs.Headline.{KeepsStanding};
-ghost use Rattle.agent_commands.specs.Moment.{meanings, moment};
+ghost use Rattle.agent_commands.specs.Headline.{KeepsFrom, KeepsStanding};
+ghost use Rattle.agent_commands.specs.Moment.{Moment, meanings, moment};
 
 use crate::control::{Request, next_request};
 use crate::fault::Fault;
@@ -64,7 +64,8 @@ fn serve<T: Tree, D: Disk, S: Source, K: Sink>(
 ) -> u8
     requires session { IsSession session }
     requires stands { StandsOn D.meaning.images session disk.old }
-    ensures served { IsServed (meanings T.meaning D.meaning K.meaning) session (S.meaning.rest control.old) (S.meaning.rest control.new) (moment tree.old disk.old report.old) (moment tree.new disk.new report.new) result }
+    ensures served { (begun : Moment T D K) → KeepsFrom (meanings T.meaning D.meaning K.meaning) (rules_of_session session) begun (moment tree.old disk.old report.old)
+        → IsServed (meanings T.meaning D.meaning K.meaning) begun session (S.meaning.rest control.old) (S.meaning.rest control.new) (moment tree.old disk.old report.old) (moment tree.new disk.new report.new) result }
     ensures standing { Told (KeepsStandingSince D.meaning.images (rules_of_session session) disk.old disk.new) (T.meaning.world tree.old) (T.meaning.world tree.new) }
     ensures control_failed { result ≡ 8 → Rose (S.meaning.faults control.old) (S.meaning.faults control.new) }
     ensures control_stood { result ≢ 8 → S.meaning.faults control.new ≡ S.meaning.faults control.old }

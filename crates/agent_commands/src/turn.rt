@@ -1,18 +1,18 @@
 // One poll of a command, and its report.
-ghost use Rattle.std.specs.Prelude.{◌≡◌, ◌≢◌, Err, IfOk, IfErr};
+ghost use Rattle.std.specs.Prelude.{◌≡◌, ◌≢◌, Err, Some, IfOk, IfErr};
 ghost use Rattle.file_pass.specs.TreeTerms.{GoesLater};
 ghost use Rattle.outside.specs.Count.{Rose};
 ghost use Rattle.outside.specs.Crash.{Passes};
-ghost use Rattle.outside.specs.World.{Told};
+ghost use Rattle.outside.specs.World.{Told, World};
 ghost use Rattle.poll_core.specs.IsSession.{IsSession};
 ghost use Rattle.poll_core.specs.Polled.{Polled};
-ghost use Rattle.poll_core.specs.SessionParts.{rules_of_session, store_checkpoint};
+ghost use Rattle.poll_core.specs.SessionParts.{rules_of_session, checkpoint_of_session};
 ghost use Rattle.poll_core.specs.Since.{KeepsStandingSince};
 ghost use Rattle.poll_core.specs.StandsOn.{StandsOn};
 ghost use Rattle.agent_commands.specs.Cause.{HasDiskCause};
 ghost use Rattle.agent_commands.specs.Grows.{GrowsBy};
-ghost use Rattle.agent_commands.specs.Headline.{HoldsAll};
-ghost use Rattle.agent_commands.specs.Moment.{meanings, moment};
+ghost use Rattle.agent_commands.specs.Headline.{HoldsAll, KeepsFrom, StoodSince};
+ghost use Rattle.agent_commands.specs.Moment.{Moment, meanings, moment};
 ghost use Rattle.agent_commands.specs.Turn.{IsPollFault, IsTurnStatus, Stops, Turns};
 
 use crate::fault::Fault;
@@ -33,7 +33,8 @@ pub fn turn<T: Tree, D: Disk, K: Sink>(
     requires session { IsSession session }
     requires stands { StandsOn D.meaning.images session disk.old }
     ensures session { IfOk result IsSession }
-    ensures turns { IfOk result (λ next. Turns (meanings T.meaning D.meaning K.meaning) session next (moment tree.old disk.old report.old) (moment tree.new disk.new report.new)) }
+    ensures turns { IfOk result (λ next. (begun : Moment T D K) → KeepsFrom (meanings T.meaning D.meaning K.meaning) (rules_of_session session) begun (moment tree.old disk.old report.old)
+        → Turns (meanings T.meaning D.meaning K.meaning) session begun next (moment tree.old disk.old report.old) (moment tree.new disk.new report.new)) }
     ensures stops { IfErr result (λ status. Stops (meanings T.meaning D.meaning K.meaning) session status (moment tree.old disk.old report.old) (moment tree.new disk.new report.new)) }
     ensures crash { Passes D.meaning.images (GrowsBy 1) disk.old disk.new }
     ensures standing { Told (KeepsStandingSince D.meaning.images (rules_of_session session) disk.old disk.new) (T.meaning.world tree.old) (T.meaning.world tree.new) }
@@ -66,7 +67,9 @@ fn poll<T: Tree, D: Disk>(
     requires stands { StandsOn D.meaning.images session disk.old }
     ensures session { IfOk result (λ done. IsSession done.0) }
     ensures polled { IfOk result (λ done. Polled T.meaning D.meaning session done.0 done.1 tree.old tree.new disk.old disk.new) }
-    ensures whole { IfOk result (λ done. Told (HoldsAll session (store_checkpoint done.0) done.1) (T.meaning.world tree.old) (T.meaning.world tree.new)) }
+    ensures whole { IfOk result (λ done. (first : World) → T.meaning.world tree.old ≡ Some first
+        → Told (HoldsAll session (checkpoint_of_session done.0) done.1 (StoodSince D.meaning.images (rules_of_session session) first.history disk.old disk.old))
+        (T.meaning.world tree.old) (T.meaning.world tree.new)) }
     ensures fault { IfErr result (IsPollFault T.meaning session tree.old tree.new) }
     ensures crash { Passes D.meaning.images (GrowsBy 1) disk.old disk.new }
     ensures standing { Told (KeepsStandingSince D.meaning.images (rules_of_session session) disk.old disk.new) (T.meaning.world tree.old) (T.meaning.world tree.new) }

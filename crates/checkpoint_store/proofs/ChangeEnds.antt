@@ -4,11 +4,11 @@ use Rattle.std.specs.Int.{w32, w64, to_be_bytes}
 use Rattle.std.proofs.lemmas.Bool.{eq-eqb, both_ways, cases_eq, cases_lt}
 use Rattle.std.proofs.lemmas.List.{append-nil, take-append-drop, length-take}
 use Rattle.file_tracker.specs.declared.row.Row.{Row}
-use Rattle.file_tracker.specs.declared.tracker.TheConstants.{ROW_LIMIT}
+use Rattle.file_tracker.specs.Limits.{row_limit}
 use Rattle.state_codec.specs.Reading.{Reading, ◌>>=◌}
 use Rattle.state_codec.proofs.Numbers.{IsBytes, bind_ok, err_or_ok, ok_is, wide32, wide64}
 use Rattle.state_codec.proofs.Fair.{Local, Blame, Fair, fair_bind, fair_ok}
-use Rattle.checkpoint_store.specs.declared.TheConstants.{OUTPUT_LIMIT}
+use Rattle.checkpoint_store.specs.Limits.{output_limit}
 use Rattle.checkpoint_store.specs.declared.Checkpoint.{Checkpoint}
 use Rattle.checkpoint_store.specs.declared.Change.{Change}
 use Rattle.checkpoint_store.specs.Spelling.{rows_spelling, change_spelling}
@@ -26,13 +26,13 @@ use Rattle.checkpoint_store.proofs.ChangeLaws.{change_of, unchecked, check, chec
 fair_ascending : (output low high n : ℕ) → Fair IsPart (λ (bytes : List ℕ). ascending_at output low high n bytes)
 fair_ascending output low high zero = fair_ok []
 fair_ascending output low high (suc n) =
-    fair_bind (λ bytes. row_at output low high bytes) (λ row. ascending_at output (row.0.id + 1) high n row.1 >>= λ rows. Ok (row.0 ∷ rows.0, rows.1)) (fair_row output low high)
+    fair_bind (λ bytes. row_at output low (high - n) bytes) (λ row. ascending_at output (row.0.id + 1) high n row.1 >>= λ rows. Ok (row.0 ∷ rows.0, rows.1)) (fair_row output low (high - n))
     (λ row. fair_bind (λ bytes. ascending_at output (row.id + 1) high n bytes) (λ rows. Ok (row ∷ rows.0, rows.1)) (fair_ascending output (row.id + 1) high n) (λ rows. fair_ok (row ∷ rows)))
 
 fair_unchecked : (output old : ℕ) → Fair IsPart (λ (bytes : List ℕ). unchecked output old bytes)
 fair_unchecked output old =
-    fair_bind (λ bytes. number_within w64 output OUTPUT_LIMIT bytes) _ (fair_64 output OUTPUT_LIMIT)
-    (λ longer. fair_bind (λ bytes. number_within w32 old (ROW_LIMIT + 1) bytes) _ (fair_32 old (ROW_LIMIT + 1))
+    fair_bind (λ bytes. number_within w64 output output_limit bytes) _ (fair_64 output output_limit)
+    (λ longer. fair_bind (λ bytes. number_within w32 old (row_limit + 1) bytes) _ (fair_32 old (row_limit + 1))
     (λ next. fair_bind (λ bytes. number_within w32 (next - old) (next - 1) bytes) _ (fair_32 (next - old) (next - 1))
     (λ count. fair_bind (λ bytes. ascending_at longer 1 (next - 1) count bytes) (λ rows. Ok (change_of longer next rows.0, rows.1)) (fair_ascending longer 1 (next - 1) count)
     (λ rows. fair_ok (change_of longer next rows)))))

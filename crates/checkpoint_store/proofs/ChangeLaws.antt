@@ -6,10 +6,10 @@ use Rattle.std.specs.Int.{Width, w32, w64, byte_len, from_be_bytes, to_be_bytes}
 use Rattle.std.proofs.lemmas.Bool.{cases_lt, ltb-false, eqb-true, eq-eqb}
 use Rattle.std.proofs.lemmas.List.{append-nil, nil_from_length, length-drop}
 use Rattle.file_tracker.specs.declared.row.Row.{Row}
-use Rattle.file_tracker.specs.declared.tracker.TheConstants.{ROW_LIMIT}
+use Rattle.file_tracker.specs.Limits.{row_limit}
 use Rattle.state_codec.specs.Reading.{Reading, ◌>>=◌, number_at}
 use Rattle.state_codec.proofs.Numbers.{IsBytes, Takes, takes_both, bind_ok, ok_is, test_ok, guard_ok, wide32, wide64}
-use Rattle.checkpoint_store.specs.declared.TheConstants.{OUTPUT_LIMIT}
+use Rattle.checkpoint_store.specs.Limits.{output_limit}
 use Rattle.checkpoint_store.specs.declared.Checkpoint.{Checkpoint}
 use Rattle.checkpoint_store.specs.declared.Change.{Change}
 use Rattle.checkpoint_store.specs.Spelling.{row_spelling, rows_spelling, change_spelling}
@@ -26,28 +26,28 @@ ascending_take output low high zero bytes x fits e =
     subst (λ (p : List Row × List ℕ). Takes bytes (flat_map row_spelling p.0) p.1 × (length p.0 ≡ 0) × Ascend output low high p.0) (ok_is ([], bytes) x e)
     (record { parts = refl; left = fits }, refl, tt)
 ascending_take output low high (suc n) bytes x fits e =
-    let row = bind_ok (row_at output low high bytes) (λ r. ascending_at output (r.0.id + 1) high n r.1 >>= λ rs. Ok (r.0 ∷ rs.0, rs.1)) x e in
+    let row = bind_ok (row_at output low (high - n) bytes) (λ r. ascending_at output (r.0.id + 1) high n r.1 >>= λ rs. Ok (r.0 ∷ rs.0, rs.1)) x e in
     let others = bind_ok (ascending_at output (row.0.0.id + 1) high n row.0.1) (λ rs. Ok (row.0.0 ∷ rs.0, rs.1)) x row.2 in
-    let one = row_takes output low high bytes row.0 fits row.1 in
+    let one = row_takes output low (high - n) bytes row.0 fits row.1 in
     let more = ascending_take output (row.0.0.id + 1) high n row.0.1 others.0 one.0.left others.1 in
     subst (λ (p : List Row × List ℕ). Takes bytes (flat_map row_spelling p.0) p.1 × (length p.0 ≡ suc n) × Ascend output low high p.0)
     (ok_is (row.0.0 ∷ others.0.0, others.0.1) x others.2) (
       takes_both bytes (row_spelling row.0.0) row.0.1 (flat_map row_spelling others.0.0) others.0.1 one.0 more.0,
       omega (arith, more.1),
-      ((one.2, one.3), (one.1, more.2)),
+      ((one.2, omega (arith, one.3)), (one.1, more.2)),
     )
 
-ascending_step_again : (output low high n : ℕ) (bytes after rest : List ℕ) (row : Row) (rows : List Row) → row_at output low high bytes ≡ Ok (row, after)
+ascending_step_again : (output low high n : ℕ) (bytes after rest : List ℕ) (row : Row) (rows : List Row) → row_at output low (high - n) bytes ≡ Ok (row, after)
     → ascending_at output (row.id + 1) high n after ≡ Ok (rows, rest) → ascending_at output low high (suc n) bytes ≡ Ok (row ∷ rows, rest)
 ascending_step_again output low high n bytes after rest row rows one more = rw (one, more) refl
 
-ascending_again : (output low high : ℕ) (rows : List Row) (rest : List ℕ) → output ≤ OUTPUT_LIMIT → Ascend output low high rows
+ascending_again : (output low high : ℕ) (rows : List Row) (rest : List ℕ) → output ≤ output_limit → Ascend output low high rows
     → ascending_at output low high (length rows) (flat_map row_spelling rows ++ rest) ≡ Ok (rows, rest)
 ascending_again output low high [] rest small a = refl
 ascending_again output low high (row ∷ rows) rest small a =
     ap (ascending_at output low high (suc (length rows))) (append_assoc (row_spelling row) (flat_map row_spelling rows) rest)
     ∙ ascending_step_again output low high (length rows) (row_spelling row ++ (flat_map row_spelling rows ++ rest)) (flat_map row_spelling rows ++ rest) rest row rows
-    (row_again output low high row (flat_map row_spelling rows ++ rest) small a.1.0 a.0.0 a.0.1) (ascending_again output (row.id + 1) high rows rest small a.1.1)
+    (row_again output low (high - length rows) row (flat_map row_spelling rows ++ rest) small a.1.0 a.0.0 (omega (arith, a.0.1, most output (row.id + 1) high rows a.1.1))) (ascending_again output (row.id + 1) high rows rest small a.1.1)
 
 -- ---- a change
 
@@ -61,7 +61,7 @@ last_two old output next bytes =
 
 abbrev pub unchecked : ℕ → ℕ → List ℕ → Reading Change
 unchecked output old bytes =
-    number_within w64 output OUTPUT_LIMIT bytes >>= λ longer. number_within w32 old (ROW_LIMIT + 1) longer.1 >>= λ next. last_two old longer.0 next.0 next.1
+    number_within w64 output output_limit bytes >>= λ longer. number_within w32 old (row_limit + 1) longer.1 >>= λ next. last_two old longer.0 next.0 next.1
 
 -- all new ids are there, or the count can't be there
 abbrev pub check : ℕ → ℕ → Change × List ℕ → Reading Change
@@ -85,12 +85,12 @@ check_next : (old output end : ℕ) (s : Reading ℕ) → ((n : ℕ × List ℕ)
 check_next old output end (Ok n) h = check_count old output n.0 (length n.1) end (number_within w32 (n.0 - old) (n.0 - 1) n.1) (h n refl)
 check_next old output end (Err l) h = refl
 
-check_all : (old end : ℕ) (s : Reading ℕ) → ((o n : ℕ × List ℕ) → s ≡ Ok o → number_within w32 old (ROW_LIMIT + 1) o.1 ≡ Ok n → length n.1 ≡ end)
-    → (s >>= λ o. number_within w32 old (ROW_LIMIT + 1) o.1
+check_all : (old end : ℕ) (s : Reading ℕ) → ((o n : ℕ × List ℕ) → s ≡ Ok o → number_within w32 old (row_limit + 1) o.1 ≡ Ok n → length n.1 ≡ end)
+    → (s >>= λ o. number_within w32 old (row_limit + 1) o.1
     >>= λ n. number_within w32 (n.0 - old) (n.0 - 1) n.1
     >>= λ k. ascending_at o.0 1 (n.0 - 1) k.0 k.1 >>= λ rows. cond (has_new old n.0 rows.0) (Ok (change_of o.0 n.0 rows.0, rows.1)) (Err (length n.1)))
-    ≡ ((s >>= λ o. number_within w32 old (ROW_LIMIT + 1) o.1 >>= λ n. last_two old o.0 n.0 n.1) >>= check old end)
-check_all old end (Ok o) h = check_next old o.0 end (number_within w32 old (ROW_LIMIT + 1) o.1) (λ n is. h o n refl is)
+    ≡ ((s >>= λ o. number_within w32 old (row_limit + 1) o.1 >>= λ n. last_two old o.0 n.0 n.1) >>= check old end)
+check_all old end (Ok o) h = check_next old o.0 end (number_within w32 old (row_limit + 1) o.1) (λ n is. h o n refl is)
 check_all old end (Err l) h = refl
 
 number_left : (w : Width) (bytes : List ℕ) (n : ℕ × List ℕ) → number_at w bytes ≡ Ok n → length n.1 ≡ length bytes - byte_len w
@@ -109,27 +109,27 @@ within_left w low high bytes n e =
 pub checked_is : (output old : ℕ) (bytes : List ℕ) → change_at output old bytes ≡ (unchecked output old bytes >>= check old (length bytes - 12))
 unfolding change_at
 checked_is output old bytes =
-    check_all old (length bytes - 12) (number_within w64 output OUTPUT_LIMIT bytes) (λ o n first second.
-    omega (arith, within_left w64 output OUTPUT_LIMIT bytes o first, within_left w32 old (ROW_LIMIT + 1) o.1 n second))
+    check_all old (length bytes - 12) (number_within w64 output output_limit bytes) (λ o n first second.
+    omega (arith, within_left w64 output output_limit bytes o first, within_left w32 old (row_limit + 1) o.1 n second))
 
 -- what is read without the check
 pub record TakesUnchecked (before : Checkpoint) (bytes : List ℕ) (c : Change) (rest : List ℕ) : Type 0 where
   pub takes : Takes bytes (change_spelling c) rest
-  pub output_length : (before.output_length ≤ c.output_length) × (c.output_length ≤ OUTPUT_LIMIT)
-  pub next_id : (before.next_id ≤ c.next_id) × (c.next_id ≤ ROW_LIMIT + 1)
+  pub output_length : (before.output_length ≤ c.output_length) × (c.output_length ≤ output_limit)
+  pub next_id : (before.next_id ≤ c.next_id) × (c.next_id ≤ row_limit + 1)
   pub count : (c.next_id - before.next_id ≤ length c.rows) × (length c.rows ≤ c.next_id - 1)
   pub rows : Ascend c.output_length 1 (c.next_id - 1) c.rows
 
 pub unchecked_takes : (before : Checkpoint) (bytes : List ℕ) (x : Change × List ℕ) → IsBytes bytes → unchecked before.output_length before.next_id bytes ≡ Ok x → TakesUnchecked before bytes x.0 x.1
 unchecked_takes before bytes x fits e =
     let old : ℕ = before.next_id in
-    let output = bind_ok (number_within w64 before.output_length OUTPUT_LIMIT bytes) (λ o. number_within w32 old (ROW_LIMIT + 1) o.1 >>= λ n. last_two old o.0 n.0 n.1) x e in
-    let next = bind_ok (number_within w32 old (ROW_LIMIT + 1) output.0.1) (λ n. last_two old output.0.0 n.0 n.1) x output.2 in
+    let output = bind_ok (number_within w64 before.output_length output_limit bytes) (λ o. number_within w32 old (row_limit + 1) o.1 >>= λ n. last_two old o.0 n.0 n.1) x e in
+    let next = bind_ok (number_within w32 old (row_limit + 1) output.0.1) (λ n. last_two old output.0.0 n.0 n.1) x output.2 in
     let count = bind_ok (number_within w32 (next.0.0 - old) (next.0.0 - 1) next.0.1)
     (λ k. ascending_at output.0.0 1 (next.0.0 - 1) k.0 k.1 >>= λ r. Ok (change_of output.0.0 next.0.0 r.0, r.1)) x next.2 in
     let rows = bind_ok (ascending_at output.0.0 1 (next.0.0 - 1) count.0.0 count.0.1) (λ r. Ok (change_of output.0.0 next.0.0 r.0, r.1)) x count.2 in
-    let t1 = within_takes w64 (2 ^ 64) wide64 before.output_length OUTPUT_LIMIT bytes output.0 fits output.1 in
-    let t2 = within_takes w32 (2 ^ 32) wide32 old (ROW_LIMIT + 1) output.0.1 next.0 t1.0.left next.1 in
+    let t1 = within_takes w64 (2 ^ 64) wide64 before.output_length output_limit bytes output.0 fits output.1 in
+    let t2 = within_takes w32 (2 ^ 32) wide32 old (row_limit + 1) output.0.1 next.0 t1.0.left next.1 in
     let t3 = within_takes w32 (2 ^ 32) wide32 (next.0.0 - old) (next.0.0 - 1) next.0.1 count.0 t2.0.left count.1 in
     let t4 = ascending_take output.0.0 1 (next.0.0 - 1) count.0.0 count.0.1 rows.0 t3.0.left rows.1 in
     let counted : Takes next.0.1 (rows_spelling rows.0.0) rows.0.1 =
@@ -170,7 +170,7 @@ change_takes before bytes x fits e =
     let t = unchecked_takes before bytes read.0 fits read.1 in
     subst (λ (p : Change × List ℕ). Takes bytes (change_spelling p.0) p.1 × Fits before p.0) all.1 (t.takes, fits_checked before bytes read.0.0 read.0.1 t all.0)
 
-change_step : (output old : ℕ) (c : Change) (bytes b1 b2 b3 rest : List ℕ) → number_within w64 output OUTPUT_LIMIT bytes ≡ Ok (c.output_length, b1) → number_within w32 old (ROW_LIMIT + 1) b1 ≡ Ok (c.next_id, b2)
+change_step : (output old : ℕ) (c : Change) (bytes b1 b2 b3 rest : List ℕ) → number_within w64 output output_limit bytes ≡ Ok (c.output_length, b1) → number_within w32 old (row_limit + 1) b1 ≡ Ok (c.next_id, b2)
     → number_within w32 (c.next_id - old) (c.next_id - 1) b2 ≡ Ok (length c.rows, b3) → ascending_at c.output_length 1 (c.next_id - 1) (length c.rows) b3 ≡ Ok (c.rows, rest)
     → has_new old c.next_id c.rows ≡ true → change_at output old bytes ≡ Ok (c, rest)
 unfolding change_at
@@ -210,8 +210,8 @@ change_again before c rest fits =
     let few : length c.rows ≤ c.next_id - 1 = omega (arith, most c.output_length 1 (c.next_id - 1) c.rows fits.rows) in
     ap (change_at before.output_length old) grouped
     ∙ change_step before.output_length old c (s1 ++ b1) b1 b2 b3 rest
-    (within_again w64 (2 ^ 64) wide64 before.output_length OUTPUT_LIMIT c.output_length b1 fits.output_length.0 fits.output_length.1 (omega (arith, fits.output_length.1)))
-    (within_again w32 (2 ^ 32) wide32 old (ROW_LIMIT + 1) c.next_id b2 fits.next_id.0 fits.next_id.1 (omega (arith, fits.next_id.1)))
+    (within_again w64 (2 ^ 64) wide64 before.output_length output_limit c.output_length b1 fits.output_length.0 fits.output_length.1 (omega (arith, fits.output_length.1)))
+    (within_again w32 (2 ^ 32) wide32 old (row_limit + 1) c.next_id b2 fits.next_id.0 fits.next_id.1 (omega (arith, fits.next_id.1)))
     (within_again w32 (2 ^ 32) wide32 (c.next_id - old) (c.next_id - 1) (length c.rows) b3 (omega (arith, new, since_most old c.rows)) few (omega (arith, few, fits.next_id.1)))
     (ascending_again c.output_length 1 (c.next_id - 1) c.rows rest fits.output_length.1 fits.rows)
     (eq-eqb (length (since old c.rows)) (c.next_id - old) new)

@@ -5,11 +5,11 @@ use Rattle.std.specs.List.{flat_map}
 use Rattle.std.specs.Int.{w32, w64, to_be_bytes}
 use Rattle.std.proofs.lemmas.Bool.{leb-true, ltb-false}
 use Rattle.std.proofs.lemmas.List.{append-nil, nil_from_length}
-use Rattle.file_tracker.specs.declared.tracker.TheConstants.{ROW_LIMIT}
+use Rattle.file_tracker.specs.Limits.{row_limit}
 use Rattle.state_codec.specs.Spelling.{bytes_spelling}
 use Rattle.state_codec.specs.Reading.{Reading, ◌>>=◌, bytes_at}
 use Rattle.state_codec.proofs.Numbers.{IsBytes, bytes_behind, Takes, takes_both, bind_ok, ok_is, test_ok, guard_ok, wide32, wide64, bytes_takes, bytes_again}
-use Rattle.checkpoint_store.specs.declared.TheConstants.{OUTPUT_LIMIT}
+use Rattle.checkpoint_store.specs.Limits.{output_limit}
 use Rattle.checkpoint_store.specs.declared.Checkpoint.{Checkpoint}
 use Rattle.checkpoint_store.specs.Rules.{IsCheckpoint}
 use Rattle.checkpoint_store.specs.Spelling.{row_spelling, rows_spelling, checkpoint_spelling}
@@ -36,17 +36,17 @@ pub checkpoint_takes : (bytes : List ℕ) (x : Checkpoint × List ℕ) → IsByt
 unfolding checkpoint_at
 checkpoint_takes bytes x fits e =
     let version = bind_ok (version_at bytes)
-    (λ v. bytes_at v.1 >>= λ s. number_within w64 0 OUTPUT_LIMIT s.1 >>= λ o. number_within w32 1 (ROW_LIMIT + 1) o.1 >>= λ n. last_two s.0 o.0 n.0 n.1) x e in
-    let settings = bind_ok (bytes_at version.0.1) (λ s. number_within w64 0 OUTPUT_LIMIT s.1 >>= λ o. number_within w32 1 (ROW_LIMIT + 1) o.1 >>= λ n. last_two s.0 o.0 n.0 n.1) x version.2 in
-    let output = bind_ok (number_within w64 0 OUTPUT_LIMIT settings.0.1) (λ o. number_within w32 1 (ROW_LIMIT + 1) o.1 >>= λ n. last_two settings.0.0 o.0 n.0 n.1) x settings.2 in
-    let next = bind_ok (number_within w32 1 (ROW_LIMIT + 1) output.0.1) (λ n. last_two settings.0.0 output.0.0 n.0 n.1) x output.2 in
+    (λ v. bytes_at v.1 >>= λ s. number_within w64 0 output_limit s.1 >>= λ o. number_within w32 1 (row_limit + 1) o.1 >>= λ n. last_two s.0 o.0 n.0 n.1) x e in
+    let settings = bind_ok (bytes_at version.0.1) (λ s. number_within w64 0 output_limit s.1 >>= λ o. number_within w32 1 (row_limit + 1) o.1 >>= λ n. last_two s.0 o.0 n.0 n.1) x version.2 in
+    let output = bind_ok (number_within w64 0 output_limit settings.0.1) (λ o. number_within w32 1 (row_limit + 1) o.1 >>= λ n. last_two settings.0.0 o.0 n.0 n.1) x settings.2 in
+    let next = bind_ok (number_within w32 1 (row_limit + 1) output.0.1) (λ n. last_two settings.0.0 output.0.0 n.0 n.1) x output.2 in
     let count = bind_ok (number_within w32 (next.0.0 - 1) (next.0.0 - 1) next.0.1)
     (λ k. rows_at output.0.0 1 k.0 k.1 >>= λ r. Ok (record { settings = settings.0.0; output_length = output.0.0; next_id = next.0.0; rows = r.0 }, r.1)) x next.2 in
     let rows = bind_ok (rows_at output.0.0 1 count.0.0 count.0.1) (λ r. Ok (record { settings = settings.0.0; output_length = output.0.0; next_id = next.0.0; rows = r.0 }, r.1)) x count.2 in
     let t1 = version_takes bytes version.0 fits version.1 in
     let t2 = bytes_takes version.0.1 settings.0 t1.left settings.1 in
-    let t3 = within_takes w64 (2 ^ 64) wide64 0 OUTPUT_LIMIT settings.0.1 output.0 t2.0.left output.1 in
-    let t4 = within_takes w32 (2 ^ 32) wide32 1 (ROW_LIMIT + 1) output.0.1 next.0 t3.0.left next.1 in
+    let t3 = within_takes w64 (2 ^ 64) wide64 0 output_limit settings.0.1 output.0 t2.0.left output.1 in
+    let t4 = within_takes w32 (2 ^ 32) wide32 1 (row_limit + 1) output.0.1 next.0 t3.0.left next.1 in
     let t5 = within_takes w32 (2 ^ 32) wide32 (next.0.0 - 1) (next.0.0 - 1) next.0.1 count.0 t4.0.left count.1 in
     let t6 = rows_take output.0.0 1 count.0.0 count.0.1 rows.0 t5.0.left rows.1 in
     let s6 : List ℕ = flat_map row_spelling rows.0.0 in
@@ -73,8 +73,8 @@ version_again : (rest : List ℕ) → version_at (1 ∷ rest) ≡ Ok (1, rest)
 unfolding version_at
 version_again rest = refl
 
-checkpoint_step : (c : Checkpoint) (bytes b1 b2 b3 b4 b5 rest : List ℕ) → version_at bytes ≡ Ok (1, b1) → bytes_at b1 ≡ Ok (c.settings, b2) → number_within w64 0 OUTPUT_LIMIT b2 ≡ Ok (c.output_length, b3)
-    → number_within w32 1 (ROW_LIMIT + 1) b3 ≡ Ok (c.next_id, b4) → number_within w32 (c.next_id - 1) (c.next_id - 1) b4 ≡ Ok (length c.rows, b5) → rows_at c.output_length 1 (length c.rows) b5 ≡ Ok (c.rows, rest)
+checkpoint_step : (c : Checkpoint) (bytes b1 b2 b3 b4 b5 rest : List ℕ) → version_at bytes ≡ Ok (1, b1) → bytes_at b1 ≡ Ok (c.settings, b2) → number_within w64 0 output_limit b2 ≡ Ok (c.output_length, b3)
+    → number_within w32 1 (row_limit + 1) b3 ≡ Ok (c.next_id, b4) → number_within w32 (c.next_id - 1) (c.next_id - 1) b4 ≡ Ok (length c.rows, b5) → rows_at c.output_length 1 (length c.rows) b5 ≡ Ok (c.rows, rest)
     → checkpoint_at bytes ≡ Ok (c, rest)
 unfolding checkpoint_at
 checkpoint_step c bytes b1 b2 b3 b4 b5 rest e1 e2 e3 e4 e5 e6 = rw (e1, e2, e3, e4, e5, e6) refl
@@ -100,8 +100,8 @@ checkpoint_again c rest lawful =
     ap checkpoint_at grouped
     ∙ checkpoint_step c (1 ∷ b1) b1 b2 b3 b4 b5 rest (version_again b1)
     (bytes_again c.settings b2 lawful.settings)
-    (within_again w64 (2 ^ 64) wide64 0 OUTPUT_LIMIT c.output_length b3 (omega arith) lawful.output_length (omega (arith, lawful.output_length)))
-    (within_again w32 (2 ^ 32) wide32 1 (ROW_LIMIT + 1) c.next_id b4 lawful.next_id.0 lawful.next_id.1 (omega (arith, lawful.next_id.1)))
+    (within_again w64 (2 ^ 64) wide64 0 output_limit c.output_length b3 (omega arith) lawful.output_length (omega (arith, lawful.output_length)))
+    (within_again w32 (2 ^ 32) wide32 1 (row_limit + 1) c.next_id b4 lawful.next_id.0 lawful.next_id.1 (omega (arith, lawful.next_id.1)))
     (within_again w32 (2 ^ 32) wide32 (c.next_id - 1) (c.next_id - 1) (length c.rows) b5 (omega (arith, lawful.count)) (omega (arith, lawful.count)) (omega (arith, lawful.count, lawful.next_id.1)))
     (rows_again c.output_length 1 c.rows rest lawful.output_length lawful.rows)
 

@@ -3,14 +3,14 @@ use Rattle.std.proofs.Common.{◌≡◌, ℕ, zero, suc, ◌+◌, ◌-◌, ◌^�
 use Rattle.std.specs.Prelude.{◌&&◌}
 use Rattle.std.specs.Int.{Width, w32, w64, to_be_bytes}
 use Rattle.file_tracker.specs.declared.row.Row.{Row}
-use Rattle.file_tracker.specs.declared.tracker.TheConstants.{ROW_LIMIT}
+use Rattle.file_tracker.specs.Limits.{row_limit}
 use Rattle.state_codec.specs.Reading.{Reading, ◌>>=◌, number_at, bytes_at, text_at}
 use Rattle.state_codec.specs.Spelling.{bytes_spelling}
 use Rattle.state_codec.proofs.Numbers.{IsBytes, bind_ok, err_or_ok, IsWide, wide32, wide64, number_takes, number_again}
 use Rattle.state_codec.proofs.Fair.{Local, Blame, Fair, err_is, fair_wider, fair_bind, fair_ok, chosen_branch, fair_tagged}
 use Rattle.state_codec.proofs.TextEnds.{number_ends, IsByte}
 use Rattle.state_codec.proofs.FairReaders.{bytes_end, fair_bytes, fair_text_byte}
-use Rattle.checkpoint_store.specs.declared.TheConstants.{FRONT_LIMIT, OFFSET_LIMIT, OUTPUT_LIMIT}
+use Rattle.checkpoint_store.specs.Limits.{front_limit, offset_limit, output_limit}
 use Rattle.checkpoint_store.specs.declared.Checkpoint.{Checkpoint}
 use Rattle.checkpoint_store.specs.Reading.{number_within, front_at, row_at, rows_at, version_at, checkpoint_at}
 use Rattle.checkpoint_store.specs.DeadEnds.{IsPart}
@@ -70,31 +70,31 @@ fair_path = fair_wider IsByte IsPart (λ part is. inl is) text_at fair_text_byte
 
 -- ---- fronts
 
-front_is : (bytes : List ℕ) (x : ℕ × List ℕ) → number_within w32 1 FRONT_LIMIT bytes ≡ Ok x → front_at bytes ≡ bytes_at bytes
+front_is : (bytes : List ℕ) (x : ℕ × List ℕ) → number_within w32 1 front_limit bytes ≡ Ok x → front_at bytes ≡ bytes_at bytes
 unfolding front_at
 front_is bytes x size = rw size refl
 
-front_ends : (bytes : List ℕ) (l : ℕ) → number_within w32 1 FRONT_LIMIT bytes ≡ Err l → front_at bytes ≡ Err l
+front_ends : (bytes : List ℕ) (l : ℕ) → number_within w32 1 front_limit bytes ≡ Err l → front_at bytes ≡ Err l
 unfolding front_at
 front_ends bytes l size = rw size refl
 
-front_has : (bytes : List ℕ) (x : List ℕ × List ℕ) → front_at bytes ≡ Ok x → (n : ℕ × List ℕ) × (number_within w32 1 FRONT_LIMIT bytes ≡ Ok n)
+front_has : (bytes : List ℕ) (x : List ℕ × List ℕ) → front_at bytes ≡ Ok x → (n : ℕ × List ℕ) × (number_within w32 1 front_limit bytes ≡ Ok n)
 unfolding front_at
-front_has bytes x e = (let b = bind_ok (number_within w32 1 FRONT_LIMIT bytes) (λ _. bytes_at bytes) x e in (b.0, b.1))
+front_has bytes x e = (let b = bind_ok (number_within w32 1 front_limit bytes) (λ _. bytes_at bytes) x e in (b.0, b.1))
 
 fair_front : Fair IsPart front_at
-fair_front = record { reads = reads; blames = λ bytes left fits e some. by_size bytes left fits e some (number_within w32 1 FRONT_LIMIT bytes) refl }
+fair_front = record { reads = reads; blames = λ bytes left fits e some. by_size bytes left fits e some (number_within w32 1 front_limit bytes) refl }
   where
     reads : (bytes : List ℕ) (x : List ℕ × List ℕ) → IsBytes bytes → front_at bytes ≡ Ok x → Local front_at bytes x
     reads bytes x fits e =
         let t = front_takes bytes x fits e in
         record { front = bytes_spelling x.0; parts = t.0.parts; left = t.0.left; again = λ more. front_again x.0 more t.1 t.2 }
 
-    by_size : (bytes : List ℕ) (left : ℕ) → IsBytes bytes → front_at bytes ≡ Err left → 0 < left → (s : Reading ℕ) → number_within w32 1 FRONT_LIMIT bytes ≡ s → Blame IsPart front_at bytes left
+    by_size : (bytes : List ℕ) (left : ℕ) → IsBytes bytes → front_at bytes ≡ Err left → 0 < left → (s : Reading ℕ) → number_within w32 1 front_limit bytes ≡ s → Blame IsPart front_at bytes left
     by_size bytes left fits e some (Ok x) size = absurd (omega (arith, some, bytes_end bytes left (sym (front_is bytes x size) ∙ e)))
     by_size bytes left fits e some (Err l) size =
         let same : l ≡ left = err_is {A = List ℕ} l left (sym (front_ends bytes l size) ∙ e) in
-        let b = (fair_32 1 FRONT_LIMIT).blames bytes left fits (size ∙ ap (λ (k : ℕ). Err k) same) some in
+        let b = (fair_32 1 front_limit).blames bytes left fits (size ∙ ap (λ (k : ℕ). Err k) same) some in
         record {
           before = b.before;
           unit = b.unit;
@@ -117,8 +117,8 @@ fair_row output low high =
     fair_bind (λ bytes. number_within w32 low high bytes) _ (fair_32 low high)
     (λ id. fair_bind text_at _ fair_path
     (λ path. fair_bind front_at _ fair_front
-    (λ front. fair_bind (λ bytes. number_within w64 0 OFFSET_LIMIT bytes) _ (fair_64 0 OFFSET_LIMIT)
-    (λ start. fair_bind (λ bytes. number_within w64 start OFFSET_LIMIT bytes) _ (fair_64 start OFFSET_LIMIT)
+    (λ front. fair_bind (λ bytes. number_within w64 0 offset_limit bytes) _ (fair_64 0 offset_limit)
+    (λ start. fair_bind (λ bytes. number_within w64 start offset_limit bytes) _ (fair_64 start offset_limit)
     (λ offset. fair_bind (λ bytes. number_within w64 0 (offset - start) bytes) _ (fair_64 0 (offset - start))
     (λ records. fair_bind (λ bytes. number_within w64 0 output bytes) _ (fair_64 0 output)
     (λ lines. fair_bind bytes_at (λ state. Ok (made id path front start offset records lines state.0, state.1)) fair_bytes
@@ -146,8 +146,8 @@ unfolding checkpoint_at
 fair_checkpoint =
     fair_bind version_at _ fair_version
     (λ version. fair_bind bytes_at _ fair_bytes
-    (λ settings. fair_bind (λ bytes. number_within w64 0 OUTPUT_LIMIT bytes) _ (fair_64 0 OUTPUT_LIMIT)
-    (λ output. fair_bind (λ bytes. number_within w32 1 (ROW_LIMIT + 1) bytes) _ (fair_32 1 (ROW_LIMIT + 1))
+    (λ settings. fair_bind (λ bytes. number_within w64 0 output_limit bytes) _ (fair_64 0 output_limit)
+    (λ output. fair_bind (λ bytes. number_within w32 1 (row_limit + 1) bytes) _ (fair_32 1 (row_limit + 1))
     (λ next. fair_bind (λ bytes. number_within w32 (next - 1) (next - 1) bytes) _ (fair_32 (next - 1) (next - 1))
     (λ count. fair_bind (λ bytes. rows_at output 1 count bytes) (λ rows. Ok (kept settings output next rows.0, rows.1)) (fair_rows output 1 count)
     (λ rows. fair_ok (kept settings output next rows)))))))

@@ -8,7 +8,7 @@ use Rattle.file_tracker.specs.declared.row.Row.{Row}
 use Rattle.state_codec.specs.Spelling.{bytes_spelling}
 use Rattle.state_codec.specs.Reading.{Reading, ◌>>=◌, number_at, bytes_at, text_at}
 use Rattle.state_codec.proofs.Numbers.{IsBytes, Takes, takes_both, bind_ok, ok_is, test_ok, IsWide, wide32, wide64, number_takes, number_again, bytes_takes, bytes_again, text_takes, text_again}
-use Rattle.checkpoint_store.specs.declared.TheConstants.{FRONT_LIMIT, OFFSET_LIMIT, OUTPUT_LIMIT}
+use Rattle.checkpoint_store.specs.Limits.{front_limit, offset_limit, output_limit}
 use Rattle.checkpoint_store.specs.Rules.{KeepsRules, KeepRules}
 use Rattle.checkpoint_store.specs.Spelling.{row_spelling}
 use Rattle.checkpoint_store.specs.Reading.{number_within, front_at, row_at, rows_at}
@@ -39,11 +39,11 @@ within_again w limit wide low high n rest above below small = rw (number_again w
 same_number : (bytes : List ℕ) (m n : ℕ) (a b : List ℕ) → number_at w32 bytes ≡ Ok (m, a) → number_at w32 bytes ≡ Ok (n, b) → m ≡ n
 same_number bytes m n a b one other = ap (λ (p : ℕ × List ℕ). p.0) (ok_is (m, a) (n, b) (sym one ∙ other))
 
-pub front_takes : (bytes : List ℕ) (x : List ℕ × List ℕ) → IsBytes bytes → front_at bytes ≡ Ok x → Takes bytes (bytes_spelling x.0) x.1 × (1 ≤ length x.0) × (length x.0 ≤ FRONT_LIMIT)
+pub front_takes : (bytes : List ℕ) (x : List ℕ × List ℕ) → IsBytes bytes → front_at bytes ≡ Ok x → Takes bytes (bytes_spelling x.0) x.1 × (1 ≤ length x.0) × (length x.0 ≤ front_limit)
 unfolding front_at
 front_takes bytes x fits e =
-    let b = bind_ok (number_within w32 1 FRONT_LIMIT bytes) (λ _. bytes_at bytes) x e in
-    let size = within_takes w32 (2 ^ 32) wide32 1 FRONT_LIMIT bytes b.0 fits b.1 in
+    let b = bind_ok (number_within w32 1 front_limit bytes) (λ _. bytes_at bytes) x e in
+    let size = within_takes w32 (2 ^ 32) wide32 1 front_limit bytes b.0 fits b.1 in
     let read = bytes_takes bytes x fits b.2 in
     let first : number_at w32 bytes ≡ Ok (b.0.0, b.0.1) = ap (number_at w32) size.0.parts ∙ number_again w32 (2 ^ 32) wide32 b.0.0 b.0.1 size.3 in
     let again : number_at w32 bytes ≡ Ok (length x.0, x.0 ++ x.1) =
@@ -51,14 +51,14 @@ front_takes bytes x fits e =
     let same : b.0.0 ≡ length x.0 = same_number bytes b.0.0 (length x.0) b.0.1 (x.0 ++ x.1) first again in
     (read.0, omega (arith, size.1, same), omega (arith, size.2, same))
 
-front_step : (bytes : List ℕ) (n : ℕ) (behind : List ℕ) (x : List ℕ × List ℕ) → number_within w32 1 FRONT_LIMIT bytes ≡ Ok (n, behind) → bytes_at bytes ≡ Ok x → front_at bytes ≡ Ok x
+front_step : (bytes : List ℕ) (n : ℕ) (behind : List ℕ) (x : List ℕ × List ℕ) → number_within w32 1 front_limit bytes ≡ Ok (n, behind) → bytes_at bytes ≡ Ok x → front_at bytes ≡ Ok x
 unfolding front_at
 front_step bytes n behind x size read = rw size read
 
-pub front_again : (front rest : List ℕ) → 1 ≤ length front → length front ≤ FRONT_LIMIT → front_at (bytes_spelling front ++ rest) ≡ Ok (front, rest)
+pub front_again : (front rest : List ℕ) → 1 ≤ length front → length front ≤ front_limit → front_at (bytes_spelling front ++ rest) ≡ Ok (front, rest)
 front_again front rest some short =
     front_step (bytes_spelling front ++ rest) (length front) (front ++ rest) (front, rest)
-    (ap (number_within w32 1 FRONT_LIMIT) (append_assoc (to_be_bytes w32 (length front)) front rest) ∙ within_again w32 (2 ^ 32) wide32 1 FRONT_LIMIT (length front) (front ++ rest) some short (omega arith))
+    (ap (number_within w32 1 front_limit) (append_assoc (to_be_bytes w32 (length front)) front rest) ∙ within_again w32 (2 ^ 32) wide32 1 front_limit (length front) (front ++ rest) some short (omega arith))
     (bytes_again front rest (omega arith))
 
 -- ---- rows
@@ -75,7 +75,7 @@ last_two output id path front start offset records bytes =
 -- what is read behind the front
 abbrev last_five : ℕ → ℕ → List ℕ → List ℕ → List ℕ → Reading Row
 last_five output id path front bytes =
-    number_within w64 0 OFFSET_LIMIT bytes >>= λ start. number_within w64 start.0 OFFSET_LIMIT start.1 >>= λ offset. number_within w64 0 (offset.0 - start.0) offset.1
+    number_within w64 0 offset_limit bytes >>= λ start. number_within w64 start.0 offset_limit start.1 >>= λ offset. number_within w64 0 (offset.0 - start.0) offset.1
     >>= λ records. last_two output id path front start.0 offset.0 records.0 records.1
 
 record TwoTaken (output id : ℕ) (path front : List ℕ) (start offset records : ℕ) (bytes : List ℕ) (row : Row) (rest : List ℕ) : Type 0 where
@@ -113,20 +113,20 @@ record FiveTaken (output id : ℕ) (path front bytes : List ℕ) (row : Row) (re
   is : made id path front start offset records lines state ≡ row
   takes : Takes bytes (to_be_bytes w64 start ++ (to_be_bytes w64 offset ++ (to_be_bytes w64 records ++ (to_be_bytes w64 lines ++ bytes_spelling state)))) rest
   start_within : start ≤ offset
-  offset_within : offset ≤ OFFSET_LIMIT
+  offset_within : offset ≤ offset_limit
   records_within : records ≤ offset - start
   lines_within : lines ≤ output
   short : length state < 2 ^ 32
 
 five_taken : (output id : ℕ) (path front bytes : List ℕ) (x : Row × List ℕ) → IsBytes bytes → last_five output id path front bytes ≡ Ok x → FiveTaken output id path front bytes x.0 x.1
 five_taken output id path front bytes x fits e =
-    let start = bind_ok (number_within w64 0 OFFSET_LIMIT bytes)
-    (λ a. number_within w64 a.0 OFFSET_LIMIT a.1 >>= λ b. number_within w64 0 (b.0 - a.0) b.1 >>= λ c. last_two output id path front a.0 b.0 c.0 c.1) x e in
-    let offset = bind_ok (number_within w64 start.0.0 OFFSET_LIMIT start.0.1)
+    let start = bind_ok (number_within w64 0 offset_limit bytes)
+    (λ a. number_within w64 a.0 offset_limit a.1 >>= λ b. number_within w64 0 (b.0 - a.0) b.1 >>= λ c. last_two output id path front a.0 b.0 c.0 c.1) x e in
+    let offset = bind_ok (number_within w64 start.0.0 offset_limit start.0.1)
     (λ b. number_within w64 0 (b.0 - start.0.0) b.1 >>= λ c. last_two output id path front start.0.0 b.0 c.0 c.1) x start.2 in
     let records = bind_ok (number_within w64 0 (offset.0.0 - start.0.0) offset.0.1) (λ c. last_two output id path front start.0.0 offset.0.0 c.0 c.1) x offset.2 in
-    let t4 = within_takes w64 (2 ^ 64) wide64 0 OFFSET_LIMIT bytes start.0 fits start.1 in
-    let t5 = within_takes w64 (2 ^ 64) wide64 start.0.0 OFFSET_LIMIT start.0.1 offset.0 t4.0.left offset.1 in
+    let t4 = within_takes w64 (2 ^ 64) wide64 0 offset_limit bytes start.0 fits start.1 in
+    let t5 = within_takes w64 (2 ^ 64) wide64 start.0.0 offset_limit start.0.1 offset.0 t4.0.left offset.1 in
     let t6 = within_takes w64 (2 ^ 64) wide64 0 (offset.0.0 - start.0.0) offset.0.1 records.0 t5.0.left records.1 in
     let two = two_taken output id path front start.0.0 offset.0.0 records.0.0 records.0.1 x t6.0.left records.2 in
     let u6 = takes_both offset.0.1 (to_be_bytes w64 records.0.0) records.0.1 (to_be_bytes w64 two.lines ++ bytes_spelling two.state) x.1 t6.0 two.takes in
@@ -178,12 +178,12 @@ row_takes output low high bytes x fits e =
     )
 
 row_step : (output low high : ℕ) (r : Row) (bytes b1 b2 b3 b4 b5 b6 b7 rest : List ℕ) → number_within w32 low high bytes ≡ Ok (r.id, b1) → text_at b1 ≡ Ok (r.path, b2) → front_at b2 ≡ Ok (r.front, b3)
-    → number_within w64 0 OFFSET_LIMIT b3 ≡ Ok (r.start, b4) → number_within w64 r.start OFFSET_LIMIT b4 ≡ Ok (r.offset, b5) → number_within w64 0 (r.offset - r.start) b5 ≡ Ok (r.records, b6)
+    → number_within w64 0 offset_limit b3 ≡ Ok (r.start, b4) → number_within w64 r.start offset_limit b4 ≡ Ok (r.offset, b5) → number_within w64 0 (r.offset - r.start) b5 ≡ Ok (r.records, b6)
     → number_within w64 0 output b6 ≡ Ok (r.lines, b7) → bytes_at b7 ≡ Ok (r.state, rest) → row_at output low high bytes ≡ Ok (r, rest)
 unfolding row_at
 row_step output low high r bytes b1 b2 b3 b4 b5 b6 b7 rest e1 e2 e3 e4 e5 e6 e7 e8 = rw (e1, e2, e3, e4, e5, e6, e7, e8) refl
 
-pub row_again : (output low high : ℕ) (r : Row) (rest : List ℕ) → output ≤ OUTPUT_LIMIT → KeepsRules output r → low ≤ r.id → r.id ≤ high → row_at output low high (row_spelling r ++ rest) ≡ Ok (r, rest)
+pub row_again : (output low high : ℕ) (r : Row) (rest : List ℕ) → output ≤ output_limit → KeepsRules output r → low ≤ r.id → r.id ≤ high → row_at output low high (row_spelling r ++ rest) ≡ Ok (r, rest)
 row_again output low high r rest small keeps above below =
     let b7 = bytes_spelling r.state ++ rest in
     let b6 = to_be_bytes w64 r.lines ++ b7 in
@@ -213,8 +213,8 @@ row_again output low high r rest small keeps above below =
     (within_again w32 (2 ^ 32) wide32 low high r.id b1 above below keeps.id)
     (text_again r.path b2 keeps.path)
     (front_again r.front b3 keeps.front.0 keeps.front.1)
-    (within_again w64 (2 ^ 64) wide64 0 OFFSET_LIMIT r.start b4 (omega arith) (omega (arith, keeps.start, keeps.offset)) (omega (arith, keeps.start, keeps.offset)))
-    (within_again w64 (2 ^ 64) wide64 r.start OFFSET_LIMIT r.offset b5 keeps.start keeps.offset (omega (arith, keeps.offset)))
+    (within_again w64 (2 ^ 64) wide64 0 offset_limit r.start b4 (omega arith) (omega (arith, keeps.start, keeps.offset)) (omega (arith, keeps.start, keeps.offset)))
+    (within_again w64 (2 ^ 64) wide64 r.start offset_limit r.offset b5 keeps.start keeps.offset (omega (arith, keeps.offset)))
     (within_again w64 (2 ^ 64) wide64 0 (r.offset - r.start) r.records b6 (omega arith) keeps.records (omega (arith, keeps.records, keeps.offset)))
     (within_again w64 (2 ^ 64) wide64 0 output r.lines b7 (omega arith) keeps.lines (omega (arith, keeps.lines)))
     (bytes_again r.state rest keeps.state)
@@ -242,7 +242,7 @@ rows_step_again : (output first n : ℕ) (bytes after rest : List ℕ) (row : Ro
     → rows_at output first (suc n) bytes ≡ Ok (row ∷ rows, rest)
 rows_step_again output first n bytes after rest row rows one more = rw (one, more) refl
 
-pub rows_again : (output first : ℕ) (rows : List Row) (rest : List ℕ) → output ≤ OUTPUT_LIMIT → KeepRules output first rows → rows_at output first (length rows) (flat_map row_spelling rows ++ rest) ≡ Ok (rows, rest)
+pub rows_again : (output first : ℕ) (rows : List Row) (rest : List ℕ) → output ≤ output_limit → KeepRules output first rows → rows_at output first (length rows) (flat_map row_spelling rows ++ rest) ≡ Ok (rows, rest)
 rows_again output first [] rest small keep = refl
 rows_again output first (row ∷ rows) rest small keep =
     ap (rows_at output first (suc (length rows))) (append_assoc (row_spelling row) (flat_map row_spelling rows) rest)

@@ -1,5 +1,5 @@
 -- Rows that are read one after the other.
-use Rattle.std.proofs.Common.{◌≡◌, ℕ, suc, ◌+◌, List, [], ◌∷◌, ◌++◌, Ok, Err, refl, sym, ap, append_assoc}
+use Rattle.std.proofs.Common.{◌-◌, ◌≡◌, ℕ, suc, ◌+◌, List, [], ◌∷◌, ◌++◌, Ok, Err, refl, sym, ap, append_assoc}
 use Rattle.file_tracker.specs.declared.row.Row.{Row}
 use Rattle.state_codec.specs.declared.cursor.Fault.{Fault}
 use Rattle.state_codec.specs.declared.cursor.Fault.TheVariants.{Malformed, Memory}
@@ -23,11 +23,11 @@ rows_fail output first n front bytes Memory e = tt
 
 -- the same for rows by ascending id
 
-pub ascending_step : (output low high n : ℕ) (front : List Row) (bytes after : List ℕ) (row : Row) → row_at output low high bytes ≡ Ok (row, after)
+pub ascending_step : (output low high n : ℕ) (front : List Row) (bytes after : List ℕ) (row : Row) → row_at output low (high - n) bytes ≡ Ok (row, after)
     → with_front front (ascending_at output low high (suc n) bytes) ≡ with_front (front ++ row ∷ []) (ascending_at output (row.id + 1) high n after)
 ascending_step output low high n front bytes after row e = rw e (joined front row (ascending_at output (row.id + 1) high n after))
 
-pub ascending_fail : (output low high n : ℕ) (front : List Row) (bytes : List ℕ) (fault : Fault) → FailsAs fault (row_at output low high bytes)
+pub ascending_fail : (output low high n : ℕ) (front : List Row) (bytes : List ℕ) (fault : Fault) → FailsAs fault (row_at output low (high - n) bytes)
     → FailsAs fault (with_front front (ascending_at output low high (suc n) bytes))
 ascending_fail output low high n front bytes (Malformed left) e = rw e refl
 ascending_fail output low high n front bytes Memory e = tt

@@ -5,7 +5,7 @@ use Rattle.state_codec.specs.declared.CodecFault.{CodecFault}
 use Rattle.state_codec.specs.declared.CodecFault.TheVariants.{Malformed, Memory}
 use Rattle.state_codec.proofs.Numbers.{ok_is}
 use Rattle.state_codec.specs.Reading.{Reading}
-use Rattle.checkpoint_store.specs.declared.TheConstants.{OUTPUT_LIMIT}
+use Rattle.checkpoint_store.specs.Limits.{output_limit}
 use Rattle.checkpoint_store.specs.declared.Checkpoint.{Checkpoint}
 use Rattle.checkpoint_store.specs.declared.Change.{Change}
 use Rattle.checkpoint_store.specs.Rules.{KeepsRules, IsCheckpoint}
@@ -25,7 +25,7 @@ told {Y = Y} spelling Keeps reading again one other x y first second e =
     let same = ok_is (one, x) (other, y) (sym (again one x first) ∙ ap reading e ∙ again other y second) in
     (ap (λ (p : Y × List ℕ). p.0) same, ap (λ (p : Y × List ℕ). p.1) same)
 
-pub rows_told : (output : ℕ) (one other : Row) (x y : List ℕ) → output ≤ OUTPUT_LIMIT → KeepsRules output one → KeepsRules output other → row_spelling one ++ x ≡ row_spelling other ++ y → (one ≡ other) × (x ≡ y)
+pub rows_told : (output : ℕ) (one other : Row) (x y : List ℕ) → output ≤ output_limit → KeepsRules output one → KeepsRules output other → row_spelling one ++ x ≡ row_spelling other ++ y → (one ≡ other) × (x ≡ y)
 rows_told output one other x y small =
     told row_spelling (KeepsRules output) (row_at output 0 (2 ^ 32)) (λ row rest keeps. row_again output 0 (2 ^ 32) row rest small keeps (omega arith) (omega (arith, keeps.id))) one other x y
 

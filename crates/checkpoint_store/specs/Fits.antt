@@ -1,8 +1,8 @@
 -- What a change keeps beside the checkpoint that stood before it.
 use Rattle.std.specs.Prelude.{◌≡◌, ℕ, ◌+◌, ◌-◌, ◌<◌, ◌≤◌, ◌⊎◌, List, [], ◌∷◌, ⊤}
 use Rattle.file_tracker.specs.declared.row.Row.{Row}
-use Rattle.file_tracker.specs.declared.tracker.TheConstants.{ROW_LIMIT}
-use Rattle.checkpoint_store.specs.declared.TheConstants.{OUTPUT_LIMIT}
+use Rattle.file_tracker.specs.Limits.{row_limit}
+use Rattle.checkpoint_store.specs.Limits.{output_limit}
 use Rattle.checkpoint_store.specs.declared.Checkpoint.{Checkpoint}
 use Rattle.checkpoint_store.specs.declared.Change.{Change}
 use Rattle.checkpoint_store.specs.Rules.{KeepsRules}
@@ -20,7 +20,7 @@ HasId (row ∷ rows) id = (row.id ≡ id) ⊎ HasId rows id
 
 -- nothing falls, each row keeps the rules beside the new length, and each new id is there
 pub record Fits (before : Checkpoint) (change : Change) : Type 0 where
-  pub output_length : (before.output_length ≤ change.output_length) × (change.output_length ≤ OUTPUT_LIMIT)
-  pub next_id : (before.next_id ≤ change.next_id) × (change.next_id ≤ ROW_LIMIT + 1)
+  pub output_length : (before.output_length ≤ change.output_length) × (change.output_length ≤ output_limit)
+  pub next_id : (before.next_id ≤ change.next_id) × (change.next_id ≤ row_limit + 1)
   pub rows : Ascend change.output_length 1 (change.next_id - 1) change.rows
   pub new : (id : ℕ) → before.next_id ≤ id → id < change.next_id → HasId change.rows id

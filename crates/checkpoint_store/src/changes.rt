@@ -14,7 +14,7 @@ use state_codec::CodecFault;
 use state_codec::cursor::Fault;
 use std::alloc::{AllocError, Global};
 
-/// So many rows by ascending id, each below `next`.
+/// So many rows by ascending id, each below `next`, with an id left for each row behind it.
 fn read_ascending(
     alloc: Global,
     output_length: u64,
@@ -27,8 +27,10 @@ fn read_ascending(
     let mut rows = Vec::new(alloc);
     let mut rest = bytes;
     let mut low = 1;
-    for _ in 0..count {
-        let (row, after) = read_row(alloc, output_length, low, next.saturating_sub(1), rest)?;
+    for done in 0..count {
+        let left = count - done - 1;
+        let high = next.saturating_sub(1).saturating_sub(left);
+        let (row, after) = read_row(alloc, output_length, low, high, rest)?;
         low = row.id + 1;
         rows.push(row)?;
         rest = after;

@@ -3,7 +3,7 @@
 ghost use Rattle.std.specs.Prelude.{◌≡◌, ◌≤◌, ◌++◌, ℕ, List, Result};
 ghost use Rattle.state_codec.specs.declared.CodecFault.{CodecFault};
 ghost use Rattle.file_tracker.specs.declared.row.Row.{Row};
-ghost use Rattle.checkpoint_store.specs.declared.TheConstants.{OUTPUT_LIMIT};
+ghost use Rattle.checkpoint_store.specs.Limits.{output_limit};
 ghost use Rattle.checkpoint_store.specs.declared.Checkpoint.{Checkpoint};
 ghost use Rattle.checkpoint_store.specs.declared.Change.{Change};
 ghost use Rattle.checkpoint_store.specs.Rules.{KeepsRules, IsCheckpoint};
@@ -15,7 +15,7 @@ ghost use Rattle.checkpoint_store.specs.Applied.{Applies};
 
 /// No spelling of a row begins another.
 pub fn rows_are_told()
-    ensures { (output_length : ℕ) (one other : Row) (x y : List ℕ) → output_length ≤ OUTPUT_LIMIT
+    ensures { (output_length : ℕ) (one other : Row) (x y : List ℕ) → output_length ≤ output_limit
         → KeepsRules output_length one → KeepsRules output_length other
         → row_spelling one ++ x ≡ row_spelling other ++ y → (one ≡ other) × (x ≡ y) }
 {}

@@ -15,6 +15,9 @@
 //! each id from the next one before up to the new one is there; where one is missing, the count of rows is refused.
 #![tactic(auto)]
 
+ghost use Rattle.std.specs.Prelude.{◌≡◌};
+ghost use Rattle.checkpoint_store.specs.Limits.{front_limit, offset_limit, output_limit};
+
 mod changes;
 pub mod laws;
 mod put;
@@ -35,6 +38,13 @@ pub const OFFSET_LIMIT: u64 = 4_611_686_018_427_387_904;
 
 /// The most bytes of a front.
 pub const FRONT_LIMIT: usize = 4_096;
+
+/// The constants are the limits that the definitions have.
+pub fn constants_are_the_limits()
+    ensures output { OUTPUT_LIMIT ≡ output_limit }
+    ensures offset { OFFSET_LIMIT ≡ offset_limit }
+    ensures front { FRONT_LIMIT ≡ front_limit }
+{}
 
 /// All that the agent remembers between two runs.
 #[derive(Drop)]

@@ -2,6 +2,7 @@
 #![tactic(auto)]
 
 mod control;
+mod damage;
 mod steps;
 mod world;
 
@@ -16,6 +17,7 @@ impl Answers for Commands {
     fn answer(&mut self, alloc: Global, case: &Case<'_>) -> Result<String, AllocError> {
         match case.call {
             "commands" => steps::answer(alloc, case.text),
+            "damage" => damage::answer(alloc, case.words, case.text),
             "control" => control::answer(alloc, case.words, &case.input),
             _ => String::from_str(alloc, "no such call"),
         }

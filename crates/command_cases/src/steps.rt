@@ -23,13 +23,14 @@ fn in_pieces(alloc: Global, text: &str, piece: usize) -> Result<String, AllocErr
     requires { 0 < piece }
 {
     match played(alloc, text, piece) {
-        Ok(told) => Ok(told),
+        Ok((_world, told)) => Ok(told),
         Err(StepFault::Memory) => Err(AllocError),
         Err(_) => String::from_str(alloc, "a step that can't be made"),
     }
 }
 
-fn played(alloc: Global, text: &str, piece: usize) -> Result<String, StepFault>
+/// The world after the steps, and what they print, with reads of the control input of so many bytes.
+pub fn played(alloc: Global, text: &str, piece: usize) -> Result<(World, String), StepFault>
     requires { 0 < piece }
 {
     let mut world = World::new(alloc)?;
@@ -38,7 +39,8 @@ fn played(alloc: Global, text: &str, piece: usize) -> Result<String, StepFault>
         step(alloc, &mut world, &mut told, line, piece)?;
     }
     let trimmed = told.as_str().trim_end_matches('\n');
-    Ok(String::from_str(alloc, trimmed)?)
+    let told = String::from_str(alloc, trimmed)?;
+    Ok((world, told))
 }
 
 fn step(
@@ -63,17 +65,28 @@ fn step(
 // A step that prints nothing.
 fn change(alloc: Global, world: &mut World, step: &str, rest: &str) -> Result<(), StepFault> {
     match step {
+        "create" => world.create(alloc, rest),
         "append" => world.append(alloc, unescaped(alloc, rest)?),
         "rename" => world.rename(alloc, rest),
+        "remove" => Ok(world.remove(alloc, small(rest))?),
+        "spoil" => {
+            world.spoil(small(rest));
+            Ok(())
+        }
         "settings" => put(alloc, world, DiskFile::Settings, rest),
         "kept" => put(alloc, world, DiskFile::Output, rest),
         "checkpoint" => put(alloc, world, DiskFile::SlotA, rest),
         "crash" => world.crash(alloc),
         part => {
-            let call = u32::try_from(number(Some(rest))).unwrap_or(0);
-            Ok(world.fail(alloc, part.strip_prefix("fail_").unwrap_or(part), call)?)
+            let part = part.strip_prefix("fail_").unwrap_or(part);
+            Ok(world.fail(alloc, part, small(rest))?)
         }
     }
+}
+
+// A number of a step, 0 where none stands or it is too large.
+fn small(word: &str) -> u32 {
+    u32::try_from(number(Some(word))).unwrap_or(0)
 }
 
 fn put(alloc: Global, world: &mut World, file: DiskFile, text: &str) -> Result<(), StepFault> {

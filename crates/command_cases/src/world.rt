@@ -9,10 +9,11 @@ use std::mem;
 /// The settings that a world begins with.
 const SETTINGS: &[u8] = b"{\"include\":[\"app.log*\"],\"start_at\":\"beginning\"}";
 
-/// A tree with one file, `app.log`, a disk, a control input and a report.
+/// A tree with one file, `app.log`, a disk, a control input and a report. The steps of others are those on the newest file.
 #[derive(Drop)]
 pub struct World {
     pub tree: MemTree,
+    newest: u32,
     pub disk: MemDisk,
     pub control: MemSource,
     pub report: MemSink,
@@ -22,42 +23,45 @@ impl World {
     pub fn new(alloc: Global) -> Result<World, StepFault> {
         let mut disk = MemDisk::new(alloc)?;
         disk.put(alloc, DiskFile::Settings, SETTINGS)?;
-        let mut tree = MemTree::new(alloc)?;
-        let path = Text::from_str(alloc, "app.log")?;
-        tree.play(
-            alloc,
-            WorldStep::Create {
-                file: FileName(1),
-                path,
-            },
-        )?;
-        Ok(World {
-            tree,
+        let mut world = World {
+            tree: MemTree::new(alloc)?,
+            newest: 0,
             disk,
             control: MemSource::new(Vec::new(alloc), 1),
             report: MemSink::new(alloc)?,
-        })
+        };
+        world.create(alloc, "app.log")?;
+        Ok(world)
+    }
+
+    /// A new, empty file.
+    pub fn create(&mut self, alloc: Global, path: &str) -> Result<(), StepFault> {
+        self.newest = self.newest.saturating_add(1);
+        let file = FileName(self.newest);
+        let path = Text::from_str(alloc, path)?;
+        self.tree.play(alloc, WorldStep::Create { file, path })
     }
 
     pub fn append(&mut self, alloc: Global, bytes: Vec<u8>) -> Result<(), StepFault> {
-        self.tree.play(
-            alloc,
-            WorldStep::Append {
-                file: FileName(1),
-                bytes,
-            },
-        )
+        let file = FileName(self.newest);
+        self.tree.play(alloc, WorldStep::Append { file, bytes })
     }
 
     pub fn rename(&mut self, alloc: Global, path: &str) -> Result<(), StepFault> {
         let path = Text::from_str(alloc, path)?;
-        self.tree.play(
-            alloc,
-            WorldStep::Rename {
-                file: FileName(1),
-                path,
-            },
-        )
+        let file = FileName(self.newest);
+        self.tree.play(alloc, WorldStep::Rename { file, path })
+    }
+
+    /// The file goes when so many further calls on the tree have been made.
+    pub fn remove(&mut self, alloc: Global, calls: u32) -> Result<(), AllocError> {
+        let file = FileName(self.newest);
+        self.tree.later(alloc, calls, WorldStep::Remove { file })
+    }
+
+    /// The file is cut to so many bytes.
+    pub fn spoil(&mut self, size: u32) {
+        self.tree.spoil(FileName(self.newest), size as usize);
     }
 
     /// The disk is what a crash leaves that keeps no write which no sync followed.

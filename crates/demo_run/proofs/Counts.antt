@@ -3,23 +3,25 @@ use Rattle.std.proofs.Common.{◌≡◌, ℕ, zero, suc, ◌+◌, ◌/◌, ◌%�
 use Rattle.std.specs.Prelude.{map, reverse}
 use Rattle.std.proofs.lemmas.List.{reverse-append}
 use Rattle.std.proofs.lemmas.Bool.{eqb-true, eqb-false}
-use Rattle.demo_run.specs.Moves.{Move, step, step_within, poll, stop, reopen, move_of}
+use Rattle.demo_run.specs.Moves.{Move, step, step_within, poll, stop, disk_fails, tree_fails, reopen, move_of}
 use Rattle.demo_run.specs.Script.{Played, with_move, with_rotation, with_line, with_file, played, script, line_of, log_of, log_name, rotated_name}
 use Rattle.demo_run.proofs.Cases.{latest, latest_is, by_file, by_line, by_rotation, by_stop, filed, lined, rotated, stopped}
-use Rattle.lifetimes.specs.Script.{plan_of, stop_of, polls_of, stops_of, stops_by}
+use Rattle.lifetimes.specs.Script.{Halt, pending, counts_of, stops_by}
 use Rattle.lifetimes.specs.declared.event.Event.{Event}
-use Rattle.lifetimes.specs.declared.event.Event.TheVariants.{World, During, Poll, Stop, Reopen}
+use Rattle.lifetimes.specs.declared.event.Event.TheVariants.{World, During, Poll, Stop, FailDisk, FailTree, Reopen}
 use Rattle.outside.specs.World.{append, create, rename}
 
 -- ---- counts of moves, the newest first
 
--- whether a stop is set
-abbrev pub stop_in : List Move → Option ℕ
+-- the stop that is set
+abbrev pub stop_in : List Move → Option Halt
 stop_in [] = None
 stop_in (step _ ∷ before) = stop_in before
 stop_in (step_within _ _ ∷ before) = stop_in before
 stop_in (poll ∷ before) = None
-stop_in (stop calls _ ∷ before) = Some calls
+stop_in (stop calls outcome ∷ before) = Some (record { calls = calls; outcome = outcome })
+stop_in (disk_fails _ ∷ before) = stop_in before
+stop_in (tree_fails _ ∷ before) = stop_in before
 stop_in (reopen ∷ before) = None
 
 abbrev pub polls_in : List Move → ℕ
@@ -28,6 +30,8 @@ polls_in (step _ ∷ before) = polls_in before
 polls_in (step_within _ _ ∷ before) = polls_in before
 polls_in (poll ∷ before) = polls_in before + 1
 polls_in (stop _ _ ∷ before) = polls_in before
+polls_in (disk_fails _ ∷ before) = polls_in before
+polls_in (tree_fails _ ∷ before) = polls_in before
 polls_in (reopen ∷ before) = polls_in before
 
 abbrev pub stops_in : List Move → ℕ
@@ -36,33 +40,41 @@ stops_in (step _ ∷ before) = stops_in before
 stops_in (step_within _ _ ∷ before) = stops_in before
 stops_in (poll ∷ before) = stops_in before + stops_by (stop_in before)
 stops_in (stop _ _ ∷ before) = stops_in before
+stops_in (disk_fails _ ∷ before) = stops_in before
+stops_in (tree_fails _ ∷ before) = stops_in before
 stops_in (reopen ∷ before) = stops_in before + stops_by (stop_in before)
 
-pub stop_is : (events : List Event) → stop_of events ≡ stop_in (map move_of events)
+pub stop_is : (events : List Event) → (pending events).stop ≡ stop_in (map move_of events)
 stop_is [] = refl
 stop_is (World _ ∷ before) = stop_is before
 stop_is (During _ _ ∷ before) = stop_is before
 stop_is (Poll ∷ before) = refl
 stop_is (Stop _ _ ∷ before) = refl
+stop_is (FailDisk _ ∷ before) = stop_is before
+stop_is (FailTree _ ∷ before) = stop_is before
 stop_is (Reopen ∷ before) = refl
 
-pub polls_are : (events : List Event) → polls_of events ≡ polls_in (map move_of events)
+pub polls_are : (events : List Event) → (counts_of events).polls ≡ polls_in (map move_of events)
 polls_are [] = refl
 polls_are (World _ ∷ before) = polls_are before
 polls_are (During _ _ ∷ before) = polls_are before
 polls_are (Poll ∷ before) = omega (arith, polls_are before)
 polls_are (Stop _ _ ∷ before) = polls_are before
+polls_are (FailDisk _ ∷ before) = polls_are before
+polls_are (FailTree _ ∷ before) = polls_are before
 polls_are (Reopen ∷ before) = polls_are before
 
-more_stops : (a b : ℕ) (one other : Option ℕ) → a ≡ b → one ≡ other → a + stops_by one ≡ b + stops_by other
+more_stops : (a b : ℕ) (one other : Option Halt) → a ≡ b → one ≡ other → a + stops_by one ≡ b + stops_by other
 more_stops a b one other same same_stop = omega (arith, same, ap stops_by same_stop)
 
-pub stops_are : (events : List Event) → stops_of events ≡ stops_in (map move_of events)
+pub stops_are : (events : List Event) → (counts_of events).stops ≡ stops_in (map move_of events)
 stops_are [] = refl
 stops_are (World _ ∷ before) = stops_are before
 stops_are (During _ _ ∷ before) = stops_are before
 stops_are (Poll ∷ before) = more_stops _ _ _ _ (stops_are before) (stop_is before)
 stops_are (Stop _ _ ∷ before) = stops_are before
+stops_are (FailDisk _ ∷ before) = stops_are before
+stops_are (FailTree _ ∷ before) = stops_are before
 stops_are (Reopen ∷ before) = more_stops _ _ _ _ (stops_are before) (stop_is before)
 
 -- ---- those of a script
@@ -134,7 +146,7 @@ moves_back (event ∷ events) =
     ap (map move_of) (reverse-append (event ∷ []) events) ∙ map_append (reverse events) (event ∷ []) ∙ ap (λ (ms : List Move). ms ++ move_of event ∷ []) (moves_back events)
     ∙ sym (reverse-append (move_of event ∷ []) (map move_of events))
 
-pub script_counts : (n : ℕ) (events : List Event) → map move_of events ≡ script n → (polls_of (reverse events) ≡ n + n / 7) × (stops_of (reverse events) ≡ n / 7)
+pub script_counts : (n : ℕ) (events : List Event) → map move_of events ≡ script n → ((counts_of (reverse events)).polls ≡ n + n / 7) × ((counts_of (reverse events)).stops ≡ n / 7)
 script_counts n events is =
     let back : map move_of (reverse events) ≡ latest (played n) = moves_back events ∙ ap reverse is in
     let all = counts n in

@@ -1,7 +1,6 @@
 -- The rows of a script's last checkpoint have a line for each round.
-use Rattle.std.proofs.Common.{◌≡◌, ℕ, zero, suc, ◌≤◌, List, [], ◌∷◌, Option, Some, None, refl, ap, subst, ◌∙◌, arith}
+use Rattle.std.proofs.Common.{◌≡◌, ℕ, zero, suc, ◌≤◌, List, Option, Some, None, refl, ap, subst, ◌∙◌}
 use Rattle.std.specs.Prelude.{map, reverse, sum_by}
-use Rattle.std.proofs.lemmas.List.Sums.{sum_by-cons}
 use Rattle.checkpoint_journal.proofs.JournalLaws.{one_said}
 use Rattle.checkpoint_journal.specs.JournalOf.{HasCheckpoint}
 use Rattle.checkpoint_store.specs.declared.Checkpoint.{Checkpoint}
@@ -17,7 +16,6 @@ use Rattle.demo_run.proofs.SeenLeft.{seen_left}
 use Rattle.demo_run.proofs.SmallRounds.{not_large, small}
 use Rattle.demo_run.proofs.Undisturbed.{early, undisturbed}
 use Rattle.demo_run.proofs.WholeRows.{owned, rows_differ, whole_of_round}
-use Rattle.file_tracker.specs.declared.row.Row.{Row as SavedRow}
 use Rattle.lifetimes.proofs.CreatedLemmas.{Has}
 use Rattle.lifetimes.specs.Ended.{IsEndingBy, history_of}
 use Rattle.lifetimes.specs.Small.{AreWhole}
@@ -29,7 +27,6 @@ use Rattle.outside.specs.World.{History}
 use Rattle.outside.specs.declared.disk.DiskFile.{DiskFile}
 use Rattle.outside.specs.declared.disk.DiskFile.TheVariants.{Output}
 use Rattle.poll_core.proofs.ImageLemmas.{no_journal, one_found}
-use Rattle.poll_core.specs.Checkpoints.{row_of, rows_of, standing_checkpoint}
 use Rattle.poll_core.specs.Polled.{IsStanding}
 use Rattle.standing.proofs.OwnerLemmas.{one_owner}
 use Rattle.standing.specs.Apart.{Apart}
@@ -41,10 +38,6 @@ use Rattle.standing.specs.Standing.{Found, found, Standing}
 use Rattle.standing.specs.Stands.{CheckpointStands, LinesStand}
 
 -- ---- the sum over the rows
-
-same_lines : (saved : List SavedRow) → lines_of saved ≡ sum_by lines_by (rows_of saved)
-same_lines [] = refl
-same_lines (row ∷ rows) = omega (arith, sum_by-cons (λ (r : SavedRow). r.lines) row rows, sum_by-cons lines_by (row_of row) (rows_of rows), same_lines rows)
 
 module _ (n : ℕ) (few : n ≤ 1000) (history : History) (of : IsOfRounds n history) (rules : Rules) (ruled : IsRuled rules) (apart : Apart rules.front_size history) where
   abbrev Owns : Row → ℕ → Type 0
@@ -66,11 +59,11 @@ module _ (n : ℕ) (few : n ≤ 1000) (history : History) (of : IsOfRounds n his
       same_sum Owns n rows all.files (λ row file owns. owns.1) all.own ∙ all_rounds n all.files alone has
 
   -- what stands in an image that has the checkpoint
-  checkpoint_gives : (image : Image DiskFile) (checkpoint : Checkpoint) → HasCheckpoint (Some checkpoint) image → IsStanding rules history image → AreWhole rules history (rows_of checkpoint.rows) → lines_of checkpoint.rows ≡ n
+  checkpoint_gives : (image : Image DiskFile) (checkpoint : Checkpoint) → HasCheckpoint (Some checkpoint) image → IsStanding rules history image → AreWhole rules history checkpoint.rows → lines_of checkpoint.rows ≡ n
   checkpoint_gives image checkpoint has standing whole =
-      let there : standing.there ≡ found (standing_checkpoint checkpoint) = one_found image standing.there (found (standing_checkpoint checkpoint)) standing.found (checkpoint, has, refl) in
-      let stands : CheckpointStands rules history (standing_checkpoint checkpoint) (image Output) = subst (λ (f : Found). Standing rules history f (image Output)) there standing.stands in
-      same_lines checkpoint.rows ∙ rows_give (rows_of checkpoint.rows) checkpoint.next_id stands.stands.marks stands.stands.lines_stand whole
+      let there : standing.there ≡ found checkpoint = one_found image standing.there (found checkpoint) standing.found has in
+      let stands : CheckpointStands rules history checkpoint (image Output) = subst (λ (f : Found). Standing rules history f (image Output)) there standing.stands in
+      rows_give checkpoint.rows checkpoint.next_id stands.stands.marks stands.stands.lines_stand whole
 
 -- ---- the last checkpoint
 

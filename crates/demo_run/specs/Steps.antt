@@ -1,6 +1,6 @@
 -- The steps of others, without what the agent did.
 use Rattle.std.specs.Prelude.{◌≡◌, ℕ, List, [], ◌∷◌, reverse}
-use Rattle.demo_run.specs.Moves.{Move, step, step_within, poll, stop, reopen}
+use Rattle.demo_run.specs.Moves.{Move, step, step_within, poll, stop, disk_fails, tree_fails, reopen}
 use Rattle.demo_run.specs.Script.{script}
 use Rattle.outside.specs.World.{Event, create, append, rename, remove, look, miss, unlisted, History}
 
@@ -22,6 +22,8 @@ steps_in (step event ∷ before) = event ∷ steps_in before
 steps_in (step_within _ _ ∷ before) = steps_in before
 steps_in (poll ∷ before) = steps_in before
 steps_in (stop _ _ ∷ before) = steps_in before
+steps_in (disk_fails _ ∷ before) = steps_in before
+steps_in (tree_fails _ ∷ before) = steps_in before
 steps_in (reopen ∷ before) = steps_in before
 
 -- The steps of others in the history are those of so many rounds.

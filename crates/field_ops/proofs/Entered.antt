@@ -22,7 +22,7 @@ use Rattle.field_ops.proofs.Raised.{Put, one_put, stays_named, named_rest, named
 abbrev Entries : Type 0
 Entries = List (List ℕ × Value)
 
-abbrev found : List ℕ → List (List ℕ × Value) → Option Value
+abbrev pub found : List ℕ → List (List ℕ × Value) → Option Value
 found name es = lookup (is_at (slice_cmp nat_cmp name)) es
 
 -- ---- whether names are apart

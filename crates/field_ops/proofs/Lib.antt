@@ -7,3 +7,4 @@ pub mod Listed
 pub mod Rooted
 pub mod Raised
 pub mod Entered
+pub mod Merged

@@ -30,7 +30,7 @@ left_ascends name first (member one x rest) order = by (cmp name one) (left_asce
     by Greater h = (order.0, h)
 
 -- a name goes behind another, or in its place
-put_ascends : (name : List ℕ) (value : Datum) (first : Option (List ℕ)) (ms : Members) → IsBehind first name → KeysAscend first ms → KeysAscend first (with_member name value ms)
+pub put_ascends : (name : List ℕ) (value : Datum) (first : Option (List ℕ)) (ms : Members) → IsBehind first name → KeysAscend first ms → KeysAscend first (with_member name value ms)
 put_ascends name value first no_members less order = (less, tt)
 put_ascends name value first (member one x rest) less order = by (cmp name one) refl (λ (behind : cmp one name ≡ Less). put_ascends name value (Some one) rest behind order.1)
   where
@@ -40,7 +40,7 @@ put_ascends name value first (member one x rest) less order = by (cmp name one) 
     by Equal e h = order
     by Greater e h = (order.0, h (nat_list_cmp_total.antisymm one name ∙ ap ordering_reverse e))
 
-before_all : (name one : List ℕ) (ms : Members) → cmp name one ≡ Less → KeysAscend (Some one) ms → member_at name ms ≡ None
+pub before_all : (name one : List ℕ) (ms : Members) → cmp name one ≡ Less → KeysAscend (Some one) ms → member_at name ms ≡ None
 before_all name one no_members less order = refl
 before_all name one (member next x rest) less order =
     let further_on : cmp name next ≡ Less = nat_list_cmp_total.trans name one next less order.0 in
@@ -116,7 +116,7 @@ disjoint_left (member one x raised) ms apart = ap (without_members raised) (left
 -- ---- the names of the raised members are put first
 
 -- what stands at a name that is raised doesn't matter
-put_over : (name : List ℕ) (value : Datum) (raised ms : Members) → IsSome (member_at name raised) → with_members raised (with_member name value ms) ≡ with_members raised ms
+pub put_over : (name : List ℕ) (value : Datum) (raised ms : Members) → IsSome (member_at name raised) → with_members raised (with_member name value ms) ≡ with_members raised ms
 put_over name value no_members ms there = absurd (cc there)
 put_over name value (member one x raised) ms there = by (same_or_not one name) (first_or_rest one name x raised there) (put_over name value raised (with_member one x ms))
   where

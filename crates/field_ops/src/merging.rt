@@ -1,14 +1,15 @@
 // Putting members among those of a map.
-ghost use Rattle.std.specs.Prelude.{◌≡◌, ◌≢◌, OnOk, OnErr, IfOk, IfErr, Ok, Err, option_map};
+ghost use Rattle.std.specs.Prelude.{◌≡◌, ◌≢◌, OnOk, OnErr, IfOk, IfErr, None, Ok, Err, option_map};
 ghost use Rattle.entry_model.specs.Datum.{datum};
+ghost use Rattle.entry_model.specs.Lawful.{KeysAscend};
 ghost use Rattle.entry_model.specs.LogRecord.{log_record};
 ghost use Rattle.field_ops.specs.Rows as rows;
-ghost use Rattle.field_ops.specs.Rows.{merged};
+ghost use Rattle.field_ops.specs.Rows.{merged, with_members};
 ghost use Rattle.field_ops.specs.declared.fault.FieldFault.TheVariants.{Memory};
 ghost use Rattle.field_paths.specs.MapOf.{members_seen};
 
 use crate::FieldFault;
-use crate::flattening::raise;
+use crate::flattening::{insert, raise};
 use entry_model::{Entry, Fields, Value, copy_fields};
 use field_paths::FieldPath;
 use std::alloc::{AllocError, Global};
@@ -34,21 +35,34 @@ pub fn put_members(
     Ok(())
 }
 
-fn joined(alloc: Global, there: Option<&Value>, members: Fields) -> Result<Value, AllocError>
+// What stands goes among the members where it is less than they are, and else they go among a copy of it.
+fn joined(alloc: Global, there: Option<&Value>, mut members: Fields) -> Result<Value, AllocError>
     ensures { IfOk result (λ value. datum value
         ≡ rows.joined (members_seen members.entries) (option_map (λ held. datum held.now) there.entry)) }
 {
-    let Some(held) = there else {
+    let Some(Value::Map(held)) = there else {
         return Ok(Value::Map(members));
     };
-    match held {
-        Value::Map(held) => {
-            let mut joined = copy_fields(alloc, held)?;
-            raise(members, &mut joined)?;
-            Ok(Value::Map(joined))
-        }
-        Value::Null | Value::Bool(_) | Value::Int(_) | Value::Text(_) | Value::List(_) => {
-            Ok(Value::Map(members))
+    if held.len() <= members.len() {
+        put_absent(alloc, held, &mut members)?;
+        return Ok(Value::Map(members));
+    }
+    let mut joined = copy_fields(alloc, held)?;
+    raise(members, &mut joined)?;
+    Ok(Value::Map(joined))
+}
+
+// Puts a copy of each held member among the members where none has its name.
+fn put_absent(alloc: Global, held: &Fields, members: &mut Fields) -> Result<(), AllocError>
+    requires held { KeysAscend None (members_seen held.now.entries) }
+    requires members { KeysAscend None (members_seen members.old.entries) }
+    ensures { OnOk result (members_seen members.new.entries
+        ≡ with_members (members_seen members.old.entries) (members_seen held.now.entries)) }
+{
+    for (name, value) in held.iter() {
+        if !members.contains_key(name) {
+            insert(members, name.share()?, value.copy(alloc)?)?;
         }
     }
+    Ok(())
 }

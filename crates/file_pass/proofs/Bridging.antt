@@ -1,10 +1,10 @@
 -- From what was read of an open file to a look at it.
 use Rattle.std.proofs.Common.{◌≡◌, ℕ, ◌+◌, ◌-◌, ◌<◌, ◌≤◌, ◌==◌, List, [], ◌∷◌, ◌++◌, length, take, drop, min, Bool, true, false, cond, ◌&&◌, refl, sym, ap, subst, ◌∙◌, inl, inr, arith, eq-eqb, length-append}
+use Rattle.std.proofs.lemmas.Option.{same_Some}
 use Rattle.std.proofs.lemmas.Bool.{ne_eqb, le-ltb}
 use Rattle.std.specs.Prelude.{None, Some, slice_get, slice_set, nat_lt}
 use Rattle.file_tracker.specs.Places.{place_of, with_front}
-use Rattle.file_tracker.specs.declared.row.Row as tracked
-use Rattle.file_tracker.specs.declared.tracker.TheConstants.{ROW_LIMIT}
+use Rattle.file_tracker.specs.Limits.{row_limit}
 use Rattle.outside.proofs.Moving.{moves_none}
 use Rattle.outside.specs.Moment.{Moves}
 use Rattle.outside.specs.World.{World, History, bytes}
@@ -21,7 +21,6 @@ use Rattle.file_pass.specs.Gain.{Gain, gain_of, one_if, with_taken}
 use Rattle.file_pass.specs.LookTaken.{IsGainOf, TakesLook, IsOpenAt, SeenTaken, look_at}
 use Rattle.file_pass.specs.Reads.{HasBytes, Reads}
 use Rattle.file_pass.specs.RowTaken.{IsShorter, IsReadOn, RowTaken}
-use Rattle.file_pass.specs.Seen.{row_of, rows_of}
 use Rattle.file_pass.specs.Settled.{IsKnown, IsAdmitted, Settles, admitted}
 use Rattle.file_pass.specs.declared.ending.Ending.{Ending}
 use Rattle.file_pass.specs.declared.ending.Ending.TheVariants.{Whole, Failed, Shrunk}
@@ -85,12 +84,9 @@ module _ (rules : Rules) (first : Bool) (here : Look) (found : Outcome) (offset 
     full = sym (ap one_if has_room);
   }
 
-pub look_same : (rules : Rules) (first : Bool) (here : Look) (before : List tracked.Row) {after other : List tracked.Row} {added other_added : List Mark} {gain other_gain : Gain}
+pub look_same : (rules : Rules) (first : Bool) (here : Look) (before : List Row) {after other : List Row} {added other_added : List Mark} {gain other_gain : Gain}
     → after ≡ other → added ≡ other_added → gain ≡ other_gain → TakesLook rules first here before other other_added other_gain → TakesLook rules first here before after added gain
 look_same rules first here before rows lines counts taken = rw (rows, lines, counts) taken
-
-pub row_there : (row other : tracked.Row) → Some row ≡ Some other → row ≡ other
-row_there row other same = cc
 
 pub start_within : (at_end : Bool) (all : ℕ) → cond at_end all 0 ≤ all
 start_within true all = omega arith
@@ -103,7 +99,7 @@ record Reaches (rules : Rules) (first : Bool) (here : Look) (offset : ℕ) (give
   are : given ≡ piece here offset
   sums : (found : Outcome) → offset_found rules first here found ≡ Some offset → is_passed_as_compressed here found ≡ false → is_left_out here found ≡ false → IsGainOf rules first here found added gain
 
-module _ (rules : Rules) (first : Bool) (path : List ℕ) (file : OpenFile) (place : ℕ) (row : tracked.Row) (mid after : List tracked.Row) (added : List Mark) (found : Found) (old new : World)
+module _ (rules : Rules) (first : Bool) (path : List ℕ) (file : OpenFile) (place : ℕ) (row : Row) (mid after : List Row) (added : List Mark) (found : Found) (old new : World)
     (on : IsReadOn rules file place row mid after added found old new) (seen : ℕ) (moment : History) (at : IsOpenAt file seen moment old) (some : 0 < file.size) where
   abbrev the_look : Look
   the_look = look_at path seen moment (end_for on.ending file.size (row.offset + length on.given)) false
@@ -134,27 +130,27 @@ module _ (rules : Rules) (first : Bool) (path : List ℕ) (file : OpenFile) (pla
   reaches_for Shrunk is = absurd (on.reads.grows seen (still_open file seen moment old at) is)
 
 -- what was read of a file whose row is known, or is made
-module _ (rules : Rules) (here : Look) (before : List tracked.Row) (read : here.skipped ≡ false) (some : 0 < size here) (plain : is_compressed (front rules here) ≡ false) (count : ℕ) where
-  cost_known : (place : ℕ) (row : tracked.Row) → slice_get before place ≡ Some row → place_of (front rules here) before ≡ Some place → count ≤ min most_taken (size here - row.offset) → count ≤ cost_on here (outcome rules (rows_of before) here)
+module _ (rules : Rules) (here : Look) (before : List Row) (read : here.skipped ≡ false) (some : 0 < size here) (plain : is_compressed (front rules here) ≡ false) (count : ℕ) where
+  cost_known : (place : ℕ) (row : Row) → slice_get before place ≡ Some row → place_of (front rules here) before ≡ Some place → count ≤ min most_taken (size here - row.offset) → count ≤ cost_on here (outcome rules before here)
   cost_known place row at known few = subst (λ (o : Outcome). count ≤ cost_on here o) (sym (is_known rules true here before read some plain place row at known)) few
 
-  cost_new : place_of (front rules here) before ≡ None → length before < ROW_LIMIT → (offset : ℕ) → count ≤ min most_taken (size here - offset) → count ≤ cost_on here (outcome rules (rows_of before) here)
+  cost_new : place_of (front rules here) before ≡ None → length before < row_limit → (offset : ℕ) → count ≤ min most_taken (size here - offset) → count ≤ cost_on here (outcome rules before here)
   cost_new none room offset few = subst (λ (o : Outcome). count ≤ cost_on here o) (sym (is_fresh rules true here before read some plain none room)) (omega (arith, few))
 
 -- a row that is made
 pub new_is : (setup : Setup) (path seen_front : List ℕ) (all id : ℕ) (here : Look) → here.path ≡ path → all ≡ size here → seen_front ≡ front (rules_in setup) here
-    → row_of (admitted setup all path seen_front id) ≡ new_row (rules_in setup) setup.first here id
+    → admitted setup all path seen_front id ≡ new_row (rules_in setup) setup.first here id
 new_is setup path seen_front all id here same_path full is_front = rw (sym same_path, is_front, full) refl
 
 -- a row that is found, or made, and then read on
 module _ (setup : Setup) (path : List ℕ) (file : OpenFile) (seen_front : List ℕ) (plain : is_compressed seen_front ≡ false) (some : 0 < file.size)
-    (before mid after : List tracked.Row) (place : ℕ) (added : List Mark) (found : Found) (count : ℕ) (old new : World) where
-  known_short : (row : tracked.Row) → slice_get mid place ≡ Some row → IsShorter file row mid after added found old new → count ≤ min most_taken (file.size - row.offset) → IsKnown seen_front before place mid
+    (before mid after : List Row) (place : ℕ) (added : List Mark) (found : Found) (count : ℕ) (old new : World) where
+  known_short : (row : Row) → slice_get mid place ≡ Some row → IsShorter file row mid after added found old new → count ≤ min most_taken (file.size - row.offset) → IsKnown seen_front before place mid
       → SeenTaken (rules_in setup) setup.first path file seen_front before after (with_taken count (gain_of found)) added old new
   known_short row at shorter few known =
       let same_row : row ≡ with_front seen_front known.row =
-      row_there row (with_front seen_front known.row) (sym at ∙ ap (λ (l : List tracked.Row). slice_get l place) known.grown ∙ get_set before place known.row (with_front seen_front known.row) known.at) in
-      let short : file.size < known.row.offset = omega (arith, shorter.short, ap (λ (r : tracked.Row). r.offset) same_row) in
+      same_Some row (with_front seen_front known.row) (sym at ∙ ap (λ (l : List Row). slice_get l place) known.grown ∙ get_set before place known.row (with_front seen_front known.row) known.at) in
+      let short : file.size < known.row.offset = omega (arith, shorter.short, ap (λ (r : Row). r.offset) same_row) in
       record {
         handles = ap (λ (w : World). w.handles) shorter.still;
         moves = subst (λ (w : World). Moves old.history w.history) (sym shorter.still) (moves_none old.history);
@@ -172,10 +168,10 @@ module _ (setup : Setup) (path : List ℕ) (file : OpenFile) (seen_front : List 
             let is_front : seen_front ≡ front (rules_in setup) here = seen_at.front_is in
             let full : file.size ≡ size here = seen_at.open_at.size_then in
             cost_known (rules_in setup) here before refl (omega (arith, some, full)) (subst (λ (f : List ℕ). is_compressed f ≡ false) is_front plain) count place known.row known.at
-            (subst (λ (f : List ℕ). place_of f before ≡ Some place) is_front known.first_one) (omega (arith, few, full, ap (λ (r : tracked.Row). r.offset) same_row));
+            (subst (λ (f : List ℕ). place_of f before ≡ Some place) is_front known.first_one) (omega (arith, few, full, ap (λ (r : Row). r.offset) same_row));
       }
 
-  known_on : (row : tracked.Row) → slice_get mid place ≡ Some row → IsReadOn (rules_in setup) file place row mid after added found old new → count ≤ min most_taken (file.size - row.offset) → IsKnown seen_front before place mid
+  known_on : (row : Row) → slice_get mid place ≡ Some row → IsReadOn (rules_in setup) file place row mid after added found old new → count ≤ min most_taken (file.size - row.offset) → IsKnown seen_front before place mid
       → SeenTaken (rules_in setup) setup.first path file seen_front before after (with_taken count (gain_of found)) added old new
   known_on row at on few known = record {
     handles = on.reads.handles;
@@ -187,33 +183,33 @@ module _ (setup : Setup) (path : List ℕ) (file : OpenFile) (seen_front : List 
         let full : file.size ≡ size here = seen_at.open_at.size_then in
         let seen_known : IsKnown (front (rules_in setup) here) before place mid = subst (λ (f : List ℕ). IsKnown f before place mid) is_front known in
         let same_row : row ≡ with_front (front (rules_in setup) here) seen_known.row =
-        row_there row (with_front (front (rules_in setup) here) seen_known.row) (sym at ∙ ap (λ (l : List tracked.Row). slice_get l place) seen_known.grown ∙ get_set before place seen_known.row (with_front (front (rules_in setup) here) seen_known.row) seen_known.at) in
-        let same_offset : row.offset ≡ seen_known.row.offset = ap (λ (r : tracked.Row). r.offset) same_row in
+        same_Some row (with_front (front (rules_in setup) here) seen_known.row) (sym at ∙ ap (λ (l : List Row). slice_get l place) seen_known.grown ∙ get_set before place seen_known.row (with_front (front (rules_in setup) here) seen_known.row) seen_known.at) in
+        let same_offset : row.offset ≡ seen_known.row.offset = ap (λ (r : Row). r.offset) same_row in
         let far = reaches_for (rules_in setup) setup.first path file place row mid after added found old new on seen moment seen_at.open_at some on.ending refl in
         look_with (rules_in setup) setup.first here before after added (gain_of found) count
         (takes_on (rules_in setup) setup.first here before refl (omega (arith, some, full)) (subst (λ (f : List ℕ). is_compressed f ≡ false) is_front plain) place seen_known.row seen_known.at seen_known.first_one
         on.given after added (gain_of found) (omega (arith, same_offset, on.begins, full)) far.within (omega (arith, same_offset, far.reaches)) (far.are ∙ ap (piece here) same_offset)
-        (on.fed_row ∙ ap (λ (l : List tracked.Row). slice_set (rows_of l) place (fed (rules_in setup) on.given (row_of row))) seen_known.grown
-        ∙ ap (λ (r : tracked.Row). slice_set (rows_of (slice_set before place (with_front (front (rules_in setup) here) seen_known.row))) place (fed (rules_in setup) on.given (row_of r))) same_row)
-        (on.lines ∙ ap (λ (r : tracked.Row). lines_of (rules_in setup) on.given (row_of r)) same_row)
-        (far.sums (finds_row place (row_of seen_known.row)) (ap Some (sym same_offset)) refl refl));
+        (on.fed_row ∙ ap (λ (l : List Row). slice_set l place (fed (rules_in setup) on.given row)) seen_known.grown
+        ∙ ap (λ (r : Row). slice_set (slice_set before place (with_front (front (rules_in setup) here) seen_known.row)) place (fed (rules_in setup) on.given r)) same_row)
+        (on.lines ∙ ap (λ (r : Row). lines_of (rules_in setup) on.given r) same_row)
+        (far.sums (finds_row place seen_known.row) (ap Some (sym same_offset)) refl refl));
     cost = λ seen moment seen_at.
         let here = look_at path seen moment (end_for on.ending file.size (row.offset + length on.given)) false in
         let is_front : seen_front ≡ front (rules_in setup) here = seen_at.front_is in
         let full : file.size ≡ size here = seen_at.open_at.size_then in
         let same_row : row ≡ with_front seen_front known.row =
-        row_there row (with_front seen_front known.row) (sym at ∙ ap (λ (l : List tracked.Row). slice_get l place) known.grown ∙ get_set before place known.row (with_front seen_front known.row) known.at) in
+        same_Some row (with_front seen_front known.row) (sym at ∙ ap (λ (l : List Row). slice_get l place) known.grown ∙ get_set before place known.row (with_front seen_front known.row) known.at) in
         cost_known (rules_in setup) here before refl (omega (arith, some, full)) (subst (λ (f : List ℕ). is_compressed f ≡ false) is_front plain) count place known.row known.at
-        (subst (λ (f : List ℕ). place_of f before ≡ Some place) is_front known.first_one) (omega (arith, few, full, ap (λ (r : tracked.Row). r.offset) same_row));
+        (subst (λ (f : List ℕ). place_of f before ≡ Some place) is_front known.first_one) (omega (arith, few, full, ap (λ (r : Row). r.offset) same_row));
   }
 
-  new_short : (row : tracked.Row) → slice_get mid place ≡ Some row → IsShorter file row mid after added found old new → IsAdmitted setup file.size path seen_front before place mid → ⊥
+  new_short : (row : Row) → slice_get mid place ≡ Some row → IsShorter file row mid after added found old new → IsAdmitted setup file.size path seen_front before place mid → ⊥
   new_short row at shorter fresh =
-      let added_row : tracked.Row = admitted setup file.size path seen_front (length before + 1) in
-      let same_row : row ≡ added_row = row_there row added_row (sym at ∙ ap (λ (l : List tracked.Row). slice_get l place) fresh.added ∙ ap (slice_get (before ++ added_row ∷ [])) fresh.last ∙ push_there before added_row) in
-      omega (arith, shorter.short, ap (λ (r : tracked.Row). r.offset) same_row, start_within (setup.first && (rules_in setup).from_end) file.size)
+      let added_row : Row = admitted setup file.size path seen_front (length before + 1) in
+      let same_row : row ≡ added_row = same_Some row added_row (sym at ∙ ap (λ (l : List Row). slice_get l place) fresh.added ∙ ap (slice_get (before ++ added_row ∷ [])) fresh.last ∙ push_there before added_row) in
+      omega (arith, shorter.short, ap (λ (r : Row). r.offset) same_row, start_within (setup.first && (rules_in setup).from_end) file.size)
 
-  new_on : (row : tracked.Row) → slice_get mid place ≡ Some row → IsReadOn (rules_in setup) file place row mid after added found old new → count ≤ min most_taken (file.size - row.offset) → IsAdmitted setup file.size path seen_front before place mid
+  new_on : (row : Row) → slice_get mid place ≡ Some row → IsReadOn (rules_in setup) file place row mid after added found old new → count ≤ min most_taken (file.size - row.offset) → IsAdmitted setup file.size path seen_front before place mid
       → SeenTaken (rules_in setup) setup.first path file seen_front before after (with_taken count (gain_of found)) added old new
   new_on row at on few fresh = record {
     handles = on.reads.handles;
@@ -223,15 +219,15 @@ module _ (setup : Setup) (path : List ℕ) (file : OpenFile) (seen_front : List 
         let here = look_at path seen moment (end_for on.ending file.size (row.offset + length on.given)) false in
         let is_front : seen_front ≡ front (rules_in setup) here = seen_at.front_is in
         let full : file.size ≡ size here = seen_at.open_at.size_then in
-        let added_row : tracked.Row = admitted setup file.size path seen_front (length before + 1) in
-        let same_row : row ≡ added_row = row_there row added_row (sym at ∙ ap (λ (l : List tracked.Row). slice_get l place) fresh.added ∙ ap (slice_get (before ++ added_row ∷ [])) fresh.last ∙ push_there before added_row) in
+        let added_row : Row = admitted setup file.size path seen_front (length before + 1) in
+        let same_row : row ≡ added_row = same_Some row added_row (sym at ∙ ap (λ (l : List Row). slice_get l place) fresh.added ∙ ap (slice_get (before ++ added_row ∷ [])) fresh.last ∙ push_there before added_row) in
         let far = reaches_for (rules_in setup) setup.first path file place row mid after added found old new on seen moment seen_at.open_at some on.ending refl in
-        let is : row_of row ≡ new_row (rules_in setup) setup.first here (length before + 1) = ap row_of same_row ∙ new_is setup path seen_front file.size (length before + 1) here refl full is_front in
+        let is : row ≡ new_row (rules_in setup) setup.first here (length before + 1) = same_row ∙ new_is setup path seen_front file.size (length before + 1) here refl full is_front in
         look_with (rules_in setup) setup.first here before after added (gain_of found) count
         (takes_new (rules_in setup) setup.first here before refl (omega (arith, some, full)) (subst (λ (f : List ℕ). is_compressed f ≡ false) is_front plain)
         row on.given after added (gain_of found) is (subst (λ (f : List ℕ). place_of f before ≡ None) is_front fresh.none) fresh.room (omega (arith, on.begins, full)) far.within far.reaches far.are
-        (on.fed_row ∙ ap (λ n. slice_set (rows_of mid) n (fed (rules_in setup) on.given (row_of row))) fresh.last
-        ∙ ap (λ (l : List tracked.Row). slice_set (rows_of l) (length before) (fed (rules_in setup) on.given (row_of row))) (fresh.added ∙ ap (λ (r : tracked.Row). before ++ r ∷ []) (sym same_row)))
+        (on.fed_row ∙ ap (λ n. slice_set mid n (fed (rules_in setup) on.given row)) fresh.last
+        ∙ ap (λ (l : List Row). slice_set l (length before) (fed (rules_in setup) on.given row)) (fresh.added ∙ ap (λ (r : Row). before ++ r ∷ []) (sym same_row)))
         on.lines
         (far.sums finds_new (ap (λ (r : Row). Some r.offset) (sym is)) refl refl));
     cost = λ seen moment seen_at.

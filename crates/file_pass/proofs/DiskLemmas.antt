@@ -5,7 +5,7 @@ use Rattle.outside.specs.DiskMeaning.{DiskMeaning}
 use Rattle.outside.specs.Image.{Image, AtFile, KeepsFront}
 use Rattle.outside.specs.declared.disk.DiskFile.{DiskFile}
 use Rattle.outside.specs.declared.disk.DiskFile.TheVariants.{Output}
-use Rattle.outside.proofs.Passing.{passes_none, passes_weaker, passes_then, passes_before_same}
+use Rattle.outside.proofs.Passing.{passes_none, passes_weaker, passes_then}
 use Rattle.outside.proofs.Tearing.{at_file_idle, at_file_then, keeps_front_idle, keeps_front_then}
 use Rattle.file_pass.specs.DiskTerms.{KeepsDisk, NoFewer, Longer, Appends}
 
@@ -60,7 +60,7 @@ module _ {D : Type 0} (meaning : DiskMeaning D) where
   appends_none end disk = record {
     end_is = omega arith;
     output = λ told. at_file_idle Output (Longer []) (meaning.images.seen disk) (sym (append-nil (meaning.images.seen disk Output)));
-    idle = λ none. passes_none disk;
+    idle = λ none. refl;
   }
 
   pub appends_then : (added more : List ℕ) (end between after : ℕ) (old mid new : D) → meaning.images.tells mid ≡ meaning.images.tells old
@@ -69,7 +69,7 @@ module _ {D : Type 0} (meaning : DiskMeaning D) where
     end_is = omega (arith, first.end_is, second.end_is, length-append added more);
     output = λ told. at_file_then (first.output told) (second.output (subst IsTrue (sym tells) told))
         (λ a b. b ∙ ap (λ l. l ++ more) a ∙ append_assoc (meaning.images.seen old Output) added more);
-    idle = λ none. passes_before_same (first.idle (nothing added more none)) (second.idle (nothing_behind added more none));
+    idle = λ none. second.idle (nothing_behind added more none) ∙ first.idle (nothing added more none);
   }
 
   pub appends_same : (added other : List ℕ) (end after : ℕ) (old new : D) → added ≡ other → Appends meaning added end after old new → Appends meaning other end after old new

@@ -1,10 +1,10 @@
 -- From bytes that would make the output too long to a look that would.
 use Rattle.std.proofs.Common.{◌≡◌, ℕ, ◌+◌, ◌-◌, ◌<◌, ◌≤◌, List, [], ◌∷◌, ◌++◌, length, take, drop, min, false, refl, sym, ap, subst, ◌∙◌, inl, inr, arith, append_assoc, length-append}
+use Rattle.std.proofs.lemmas.Option.{same_Some}
 use Rattle.std.proofs.lemmas.Grind.{flat_map-append}
 use Rattle.std.proofs.lemmas.List.{take-append-drop, take-take}
 use Rattle.std.specs.Prelude.{None, Some, slice_get, IsTrue}
 use Rattle.file_tracker.specs.Places.{place_of, with_front}
-use Rattle.file_tracker.specs.declared.row.Row as tracked
 use Rattle.outside.specs.World.{World}
 use Rattle.standing.specs.AreRules.{AreRules}
 use Rattle.standing.specs.Limits.{most_taken, is_compressed}
@@ -16,12 +16,12 @@ use Rattle.file_pass.specs.Fed.{rules_in, last_of}
 use Rattle.file_pass.specs.Full.{Crosses, line_of, lines_text}
 use Rattle.file_pass.specs.LookTaken.{look_at}
 use Rattle.file_pass.specs.Overflow.{RowFills, SeenFills}
-use Rattle.file_pass.specs.Seen.{row_of, progress_of}
+use Rattle.file_pass.specs.Seen.{progress_of}
 use Rattle.file_pass.specs.Settled.{IsKnown, Settles, admitted}
 use Rattle.file_pass.specs.declared.ending.Ending.TheVariants.{Whole}
 use Rattle.file_pass.specs.declared.ending.OpenFile.{OpenFile}
 use Rattle.file_pass.specs.declared.setup.Setup.{Setup}
-use Rattle.file_pass.proofs.Bridging.{stood_then, row_there, new_is}
+use Rattle.file_pass.proofs.Bridging.{stood_then, new_is}
 use Rattle.file_pass.proofs.FeedingOn.{lines_on}
 use Rattle.file_pass.proofs.Listing.{get_set, push_there}
 use Rattle.file_pass.proofs.Looking.{added_known, added_new}
@@ -69,7 +69,7 @@ row_fills rules laws here row given limit end full good all stood within crosses
     subst (λ (l : List Mark). Crosses limit end l full) (sym (begins ∙ lines_on rules laws given rest row good)) (crosses_more limit end (lines_of rules given row) _ full crosses)
 
 module _ (setup : Setup) (laws : AreRules (rules_in setup)) (path : List ℕ) (file : OpenFile) (seen_front : List ℕ) (plain : is_compressed seen_front ≡ false) (some : 0 < file.size)
-    (before mid : List tracked.Row) (place end full : ℕ) (old new : World) (good : (row : tracked.Row) → slice_get mid place ≡ Some row → IsTrue ((rules_in setup).is_state row.state)) where
+    (before mid : List Row) (place end full : ℕ) (old new : World) (good : (row : Row) → slice_get mid place ≡ Some row → IsTrue ((rules_in setup).is_state row.state)) where
   pub seen_fills : Settles setup file.size path seen_front before (Some place) mid → RowFills (rules_in setup) setup.limit file place mid end full old new
       → SeenFills (rules_in setup) setup.first setup.limit path file seen_front before end full old new
   seen_fills settles fills = record {
@@ -81,20 +81,20 @@ module _ (setup : Setup) (laws : AreRules (rules_in setup)) (path : List ℕ) (f
         let all : file.size ≡ size here = seen_at.open_at.size_then in
         let stood = stood_then file seen moment old new fills.row.offset fills.given Whole seen_at.open_at (omega (arith, fills.within)) fills.reads in
         let here_plain : is_compressed (front (rules_in setup) here) ≡ false = subst (λ (f : List ℕ). is_compressed f ≡ false) is_front plain in
-        let crosses : Crosses setup.limit end (lines_of (rules_in setup) (piece here fills.row.offset) (row_of fills.row)) full =
-        row_fills (rules_in setup) laws here (row_of fills.row) fills.given setup.limit end full (good fills.row fills.at) all stood (omega (arith, all, fills.within)) fills.crosses in
-        let same : (after_look (rules_in setup) setup.first here (progress_of before [])).added ≡ lines_of (rules_in setup) (piece here fills.row.offset) (row_of fills.row) =
+        let crosses : Crosses setup.limit end (lines_of (rules_in setup) (piece here fills.row.offset) fills.row) full =
+        row_fills (rules_in setup) laws here fills.row fills.given setup.limit end full (good fills.row fills.at) all stood (omega (arith, all, fills.within)) fills.crosses in
+        let same : (after_look (rules_in setup) setup.first here (progress_of before [])).added ≡ lines_of (rules_in setup) (piece here fills.row.offset) fills.row =
         elim settles [
           | inl known_there ↦
               (let known : IsKnown (front (rules_in setup) here) before place mid = subst (λ (f : List ℕ). IsKnown f before place mid) is_front known_there in
               let same_row : fills.row ≡ with_front (front (rules_in setup) here) known.row =
-              row_there fills.row (with_front (front (rules_in setup) here) known.row) (sym fills.at ∙ ap (λ (l : List tracked.Row). slice_get l place) known.grown ∙ get_set before place known.row (with_front (front (rules_in setup) here) known.row) known.at) in
-              added_known (rules_in setup) setup.first here before refl (omega (arith, some, all)) here_plain place known.row known.at known.first_one (omega (arith, fills.begins, all, ap (λ (r : tracked.Row). r.offset) same_row))
-              ∙ ap (λ (r : tracked.Row). lines_of (rules_in setup) (piece here r.offset) (row_of r)) (sym same_row))
+              same_Some fills.row (with_front (front (rules_in setup) here) known.row) (sym fills.at ∙ ap (λ (l : List Row). slice_get l place) known.grown ∙ get_set before place known.row (with_front (front (rules_in setup) here) known.row) known.at) in
+              added_known (rules_in setup) setup.first here before refl (omega (arith, some, all)) here_plain place known.row known.at known.first_one (omega (arith, fills.begins, all, ap (λ (r : Row). r.offset) same_row))
+              ∙ ap (λ (r : Row). lines_of (rules_in setup) (piece here r.offset) r) (sym same_row))
           | inr fresh ↦
-              (let added_row : tracked.Row = admitted setup file.size path seen_front (length before + 1) in
-              let same_row : fills.row ≡ added_row = row_there fills.row added_row (sym fills.at ∙ ap (λ (l : List tracked.Row). slice_get l place) fresh.added ∙ ap (slice_get (before ++ added_row ∷ [])) fresh.last ∙ push_there before added_row) in
-              added_new (rules_in setup) setup.first here before refl (omega (arith, some, all)) here_plain fills.row (ap row_of same_row ∙ new_is setup path seen_front file.size (length before + 1) here refl all is_front)
+              (let added_row : Row = admitted setup file.size path seen_front (length before + 1) in
+              let same_row : fills.row ≡ added_row = same_Some fills.row added_row (sym fills.at ∙ ap (λ (l : List Row). slice_get l place) fresh.added ∙ ap (slice_get (before ++ added_row ∷ [])) fresh.last ∙ push_there before added_row) in
+              added_new (rules_in setup) setup.first here before refl (omega (arith, some, all)) here_plain fills.row (same_row ∙ new_is setup path seen_front file.size (length before + 1) here refl all is_front)
               (subst (λ (f : List ℕ). place_of f before ≡ None) is_front fresh.none) fresh.room (omega (arith, fills.begins, all)))
         ] in
         subst (λ (l : List Mark). Crosses setup.limit end l full) (sym same) crosses;

@@ -1,12 +1,11 @@
 -- Which rows are flagged, change after change.
 use Rattle.std.proofs.Common.{◌≡◌, ◌≢◌, ◌⊎◌, ◌↔◌, ℕ, ◌≤◌, zero, suc, List, [], ◌∷◌, ◌++◌, length, Bool, true, false, refl, sym, ap, subst, ◌∙◌, inl, inr, arith}
 use Rattle.std.proofs.lemmas.List.{length-set, length_push}
-use Rattle.std.proofs.lemmas.Option.{slice_get_within, slice_get_past}
+use Rattle.std.proofs.lemmas.Option.{slice_get_within, slice_get_past, same_Some}
 use Rattle.std.specs.Prelude.{Option, None, Some, replicate, slice_get, slice_set}
 use Rattle.file_tracker.specs.declared.row.Row.{Row}
 use Rattle.file_pass.specs.Unchanged.{LosesNothing, Stays, HasGrown, IsNewOrGrown, KeepsUnchanged, FlagsChanges, HasNoFlag, HasFlagForEach}
 use Rattle.file_pass.specs.declared.taking.Taking.{Taking}
-use Rattle.file_pass.proofs.Bridging.{row_there}
 use Rattle.file_pass.proofs.Listing.{get_set, set_cases, set_others, push_cases, push_before, push_there}
 
 stays_none : (at : Option Row) → Stays at at
@@ -47,7 +46,7 @@ new_at row a b before after = subst (λ (o : Option Row). IsNewOrGrown o b) (sym
 
 stays_set : (rows : List Row) (place k : ℕ) (was row : Row) → slice_get rows place ≡ Some was → LosesNothing was row → Stays (slice_get rows k) (slice_get (slice_set rows place row) k)
 stays_set [] place k was row at keeps = tt
-stays_set (first ∷ rest) zero zero was row at keeps = subst (λ (r : Row). LosesNothing r row) (row_there was first (sym at)) keeps
+stays_set (first ∷ rest) zero zero was row at keeps = subst (λ (r : Row). LosesNothing r row) (same_Some was first (sym at)) keeps
 stays_set (first ∷ rest) zero (suc k) was row at keeps = stays_none (slice_get rest k)
 stays_set (first ∷ rest) (suc place) zero was row at keeps = stays_none (Some first)
 stays_set (first ∷ rest) (suc place) (suc k) was row at keeps = stays_set rest place k was row at keeps
@@ -116,8 +115,8 @@ differs : (a b : Option Row) → IsNewOrGrown a b → b ≢ a
 differs None None grown same = grown
 differs None (Some y) grown same = (let never : Some y ≡ None = same in cc)
 differs (Some x) None grown same = grown
-differs (Some x) (Some y) (inl longer) same = omega (arith, longer, ap (λ (r : Row). length r.front) (row_there y x same))
-differs (Some x) (Some y) (inr further) same = omega (arith, further, ap (λ (r : Row). r.offset) (row_there y x same))
+differs (Some x) (Some y) (inl longer) same = omega (arith, longer, ap (λ (r : Row). length r.front) (same_Some y x same))
+differs (Some x) (Some y) (inr further) same = omega (arith, further, ap (λ (r : Row). r.offset) (same_Some y x same))
 
 -- a flag that isn't there, or is there and not set
 no_flag : (flags : List Bool) (place : ℕ) → slice_get flags place ≢ Some true → (slice_get flags place ≡ Some false) ⊎ (length flags ≤ place)

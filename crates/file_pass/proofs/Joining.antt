@@ -2,9 +2,10 @@
 use Rattle.std.proofs.Common.{◌≡◌, ℕ, ◌+◌, ◌<◌, ◌≤◌, ◌^◌, List, [], ◌∷◌, ◌++◌, length, get_or, take, min, Bool, refl, sym, ap, subst, ◌∙◌, arith, length-append}
 use Rattle.std.proofs.lemmas.Grind.{flat_map-append}
 use Rattle.std.proofs.lemmas.List.{take_all, take_more, length-take-le}
-use Rattle.std.specs.Prelude.{Option, None, Some, Result, Ok, Err}
-use Rattle.file_tracker.specs.declared.row.Row as tracked
+use Rattle.std.specs.Prelude.{Option, None, Some, Result, Ok, Err, ◌==◌, filter, not}
+use Rattle.file_tracker.specs.declared.row.Row.{Row}
 use Rattle.outside.proofs.Counting.{never_falls_same, never_falls_rose}
+use Rattle.outside.proofs.Seeing.{given_back}
 use Rattle.outside.proofs.Telling.{told_same, told_weaker, told_then}
 use Rattle.outside.specs.Closing.{Closes}
 use Rattle.outside.specs.Count.{raised, Rose, HasCause, NeverFalls}
@@ -12,10 +13,12 @@ use Rattle.outside.specs.DiskMeaning.{DiskMeaning}
 use Rattle.outside.specs.Moment.{AtOneMoment}
 use Rattle.outside.specs.Listing.{kind_at}
 use Rattle.outside.specs.Opening.{Opens, OpensFile, OpensNothing}
+use Rattle.outside.specs.Reading.{file_of}
 use Rattle.outside.specs.TreeMeaning.{TreeMeaning}
 use Rattle.outside.specs.World.{World, History, Event, Told, miss, names}
 use Rattle.outside.specs.declared.fault.CallFault.{CallFault}
 use Rattle.outside.specs.declared.fault.CallFault.TheVariants.{Failed, Memory}
+use Rattle.outside.specs.declared.tree.Handle.{Handle}
 use Rattle.outside.specs.declared.tree.Kind.TheVariants.{File as PlainFile}
 use Rattle.outside.specs.declared.tree.Opened.{Opened}
 use Rattle.outside.specs.declared.tree.Opened.TheVariants.{File, Gone, NotAFile}
@@ -32,7 +35,7 @@ use Rattle.file_pass.specs.PathTaken.{PathTaken}
 use Rattle.file_pass.specs.Sane.{AreSaneRows, IsSaneTaking}
 use Rattle.file_pass.specs.Taken.{Finds, Takes, KeepsTreeAt}
 use Rattle.standing.specs.AreRules.{AreRules}
-use Rattle.file_pass.specs.TreeTerms.{KeepsTree, IsNoWider, GoesLater, HasEnding, ReadsOnly}
+use Rattle.file_pass.specs.TreeTerms.{KeepsTree, IsNoWider, GoesLater, SameHandles, HasEnding, ReadsOnly}
 use Rattle.file_pass.specs.Overflow.{AllFill, OpenFills, PathFills, SeenFills}
 use Rattle.file_pass.specs.Reads.{Reads}
 use Rattle.file_pass.specs.declared.counts.Counts.{Counts}
@@ -45,7 +48,7 @@ use Rattle.file_pass.specs.declared.setup.Setup.{Setup}
 use Rattle.file_pass.specs.declared.taking.Taking.{Taking}
 use Rattle.file_pass.proofs.DiskLemmas.{appends_none, appends_then, appends_same}
 use Rattle.file_pass.proofs.Opening.{later_moves, open_unread, open_shrunk, open_seen, open_fills, path_looked, path_fills, path_missed, path_lost, WithFile}
-use Rattle.file_pass.proofs.Saning.{text_long}
+use Rattle.file_pass.proofs.SaneLemmas.{text_long}
 use Rattle.file_pass.proofs.TreeLemmas.{keeps_tree_none, keeps_tree_then, no_wider_none}
 use Rattle.file_pass.proofs.Turning.{all_none, all_more, all_fill}
 
@@ -77,6 +80,7 @@ tree_wider meaning most more taken old new le keeps = (
   taken,
   record {
     later = keeps.later;
+    handles = keeps.handles;
     faults = keeps.faults;
     nameless = keeps.nameless;
     plan = keeps.plan;
@@ -85,6 +89,27 @@ tree_wider meaning most more taken old new le keeps = (
     widest = no_wider_more most more (meaning.widest old) (meaning.widest new) le keeps.widest;
   },
 )
+
+opens_none : (path : List ℕ) (result : Result Opened CallFault) → ((handle : Handle) (size : ℕ) → result ≡ Ok (File handle size) → ⊥) → (old new : World) → Opens path result old new → SameHandles old new
+opens_none path (Ok (File handle size)) no_file old new opens = absurd (no_file handle size refl)
+opens_none path (Ok Gone) no_file old new opens = opens.handles
+opens_none path (Ok NotAFile) no_file old new opens = opens.handles
+opens_none path (Err Failed) no_file old new opens = opens.handles
+opens_none path (Err Memory) no_file old new opens = opens.handles
+
+-- one file more is open, under this handle
+record WithHandle (handle : ℕ) (old new : World) : Type 0 where
+  file : ℕ
+  is_new : file_of old.handles handle ≡ None
+  handles : new.handles ≡ (handle, file) ∷ old.handles
+
+-- all stayed but the world and the count of faults
+pub record Stays {T : Type 0} (meaning : TreeMeaning T) (old new : T) : Type 0 where
+  pub nameless : meaning.nameless new ≡ meaning.nameless old
+  pub taken : meaning.taken new ≡ meaning.taken old
+  pub widest : meaning.widest new ≡ meaning.widest old
+  pub plan : meaning.plan new ≡ meaning.plan old
+  pub bound : meaning.bound new ≡ meaning.bound old
 
 module _ {T : Type 0} (meaning : TreeMeaning T) (most : ℕ) where
   pub tree_none : (tree : T) → KeepsTreeAt meaning most tree tree
@@ -96,12 +121,15 @@ module _ {T : Type 0} (meaning : TreeMeaning T) (most : ℕ) where
   same_widest : (old new : Option ℕ) → new ≡ old → IsNoWider most old new
   same_widest old new same = rw same (no_wider_none most old)
 
-  pub tree_opens : (path : List ℕ) (result : Result Opened CallFault) (old new : T) → Told (Opens path result) (meaning.world old) (meaning.world new) → HasCause result (meaning.faults old) (meaning.faults new) → meaning.nameless new ≡ meaning.nameless old
+  -- no file was opened under the path
+  pub tree_opens : (path : List ℕ) (result : Result Opened CallFault) (old new : T) → ((handle : Handle) (size : ℕ) → result ≡ Ok (File handle size) → ⊥) → Told (Opens path result) (meaning.world old) (meaning.world new)
+      → HasCause result (meaning.faults old) (meaning.faults new) → meaning.nameless new ≡ meaning.nameless old
       → meaning.taken new ≡ meaning.taken old → meaning.widest new ≡ meaning.widest old → meaning.plan new ≡ meaning.plan old → meaning.bound new ≡ meaning.bound old → KeepsTreeAt meaning most old new
-  tree_opens path result old new world cause nameless taken widest plan bound = (
+  tree_opens path result old new no_file world cause nameless taken widest plan bound = (
     0,
     record {
       later = told_weaker _ _ (meaning.world old) (meaning.world new) (opens_later path result) world;
+      handles = told_weaker (Opens path result) SameHandles (meaning.world old) (meaning.world new) (opens_none path result no_file) world;
       faults = cause_falls result (meaning.faults old) (meaning.faults new) cause;
       nameless = nameless;
       plan = plan;
@@ -111,18 +139,36 @@ module _ {T : Type 0} (meaning : TreeMeaning T) (most : ℕ) where
     },
   )
 
-  pub tree_closes : (handle : ℕ) (old new : T) → Told (Closes handle) (meaning.world old) (meaning.world new) → meaning.faults new ≡ meaning.faults old → meaning.nameless new ≡ meaning.nameless old
-      → meaning.taken new ≡ meaning.taken old → meaning.widest new ≡ meaning.widest old → meaning.plan new ≡ meaning.plan old → meaning.bound new ≡ meaning.bound old → KeepsTreeAt meaning most old new
-  tree_closes handle old new world faults nameless taken widest plan bound = (
-    0,
+-- a file was opened, read and closed
+module _ {T : Type 0} (meaning : TreeMeaning T) (most : ℕ) (path : List ℕ) (handle : Handle) (size : ℕ) (old opened taken closed : T) (opens : Told (Opens path (Ok (File handle size))) (meaning.world old) (meaning.world opened))
+    (keeps : KeepsTreeAt meaning most opened taken) (closes : Told (Closes handle.0) (meaning.world taken) (meaning.world closed)) where
+  later_file : Told GoesLater (meaning.world old) (meaning.world closed)
+  later_file =
+      told_then GoesLater GoesLater GoesLater (meaning.world old) (meaning.world taken) (meaning.world closed) (λ x y z a b. later_then x.history y.history z.history a b)
+      (told_then GoesLater GoesLater GoesLater (meaning.world old) (meaning.world opened) (meaning.world taken) (λ x y z a b. later_then x.history y.history z.history a b)
+      (told_weaker _ _ (meaning.world old) (meaning.world opened) (opens_later path (Ok (File handle size))) opens) keeps.1.later)
+      (told_weaker _ _ (meaning.world taken) (meaning.world closed) (λ x y closing. later_moves closing.history) closes)
+
+  handles_file : Told SameHandles (meaning.world old) (meaning.world closed)
+  handles_file =
+      told_then (WithHandle handle.0) (Closes handle.0) SameHandles (meaning.world old) (meaning.world taken) (meaning.world closed)
+      (λ x y z one closing. closing.handles ∙ ap (λ (hs : List (ℕ × ℕ)). filter (λ pair. not (pair.0 == handle.0)) hs) one.handles ∙ given_back handle.0 one.file x.handles one.is_new)
+      (told_then (OpensFile path handle.0 size) SameHandles (WithHandle handle.0) (meaning.world old) (meaning.world opened) (meaning.world taken)
+      (λ x y z opening same. record { file = opening.file; is_new = opening.is_new; handles = same ∙ opening.handles })
+      (told_weaker (Opens path (Ok (File handle size))) (OpensFile path handle.0 size) (meaning.world old) (meaning.world opened) (λ x y o. o) opens) keeps.1.handles) closes
+
+  pub tree_file : meaning.faults opened ≡ meaning.faults old → meaning.faults closed ≡ meaning.faults taken → Stays meaning old opened → Stays meaning taken closed → KeepsTreeAt meaning most old closed
+  tree_file no_fault none_after first last = (
+    keeps.0,
     record {
-      later = told_weaker _ _ (meaning.world old) (meaning.world new) (λ x y closes. later_moves closes.history) world;
-      faults = never_falls_same faults;
-      nameless = nameless;
-      plan = plan;
-      bound = bound;
-      taken_then = omega (arith, taken);
-      widest = same_widest (meaning.widest old) (meaning.widest new) widest;
+      later = later_file;
+      handles = handles_file;
+      faults = subst (λ (n : ℕ). NeverFalls n (meaning.faults closed)) no_fault (subst (λ (n : ℕ). NeverFalls (meaning.faults opened) n) (sym none_after) keeps.1.faults);
+      nameless = last.nameless ∙ keeps.1.nameless ∙ first.nameless;
+      plan = last.plan ∙ keeps.1.plan ∙ first.plan;
+      bound = last.bound ∙ keeps.1.bound ∙ first.bound;
+      taken_then = omega (arith, first.taken, last.taken, keeps.1.taken_then);
+      widest = subst (λ (w : Option ℕ). IsNoWider most w (meaning.widest closed)) first.widest (subst (λ (w : Option ℕ). IsNoWider most (meaning.widest opened) w) (sym last.widest) keeps.1.widest);
     },
   )
 
@@ -243,7 +289,7 @@ module _ {T D : Type 0} (trees : TreeMeaning T) (disks : DiskMeaning D) where
   }
 
 -- the front of an open file was read, or not
-module _ {T D : Type 0} (trees : TreeMeaning T) (disks : DiskMeaning D) (rules : Rules) (first : Bool) (path : List ℕ) (file : OpenFile) (some : 0 < file.size) (before : List tracked.Row) where
+module _ {T D : Type 0} (trees : TreeMeaning T) (disks : DiskMeaning D) (rules : Rules) (first : Bool) (path : List ℕ) (file : OpenFile) (some : 0 < file.size) (before : List Row) where
   takes_unread : (ending : Ending) (last : ℕ) (given : List ℕ) (count : ℕ) (end : ℕ) (old new : T) (disk : D) → (ending ≡ Whole → ⊥) → last ≤ file.size → count ≤ rules.front_size → Told (Reads file.handle.0 0 last given ending) (trees.world old) (trees.world new)
       → HasEnding ending (trees.faults old) (trees.faults new) → trees.taken new ≤ trees.taken old + count
       → Takes trees disks (OpenTaken rules first path file before before (with_taken count (gain_of (Unread ending)))) (with_taken count (gain_of (Unread ending))) end end old new disk disk
@@ -254,7 +300,7 @@ module _ {T D : Type 0} (trees : TreeMeaning T) (disks : DiskMeaning D) (rules :
       takes_call trees disks _ _ end old new disk refl (omega (arith, cause)) read (told_weaker _ _ (trees.world old) (trees.world new) (λ x y reads. open_shrunk rules first path file before x y last given count few le reads) told)
 
   module _ (old mid new : T) (seen_front : List ℕ) (last : ℕ) (is : last ≡ min rules.front_size file.size) (many : length seen_front ≡ last) (told : Told (Reads file.handle.0 0 last seen_front Whole) (trees.world old) (trees.world mid)) (same : trees.faults mid ≡ trees.faults old) where
-    takes_open : (after : List tracked.Row) (gain : Gain) (count end end_after : ℕ) (disk disk_after : D) → count ≤ rules.front_size → trees.taken mid ≤ trees.taken old + count
+    takes_open : (after : List Row) (gain : Gain) (count end end_after : ℕ) (disk disk_after : D) → count ≤ rules.front_size → trees.taken mid ≤ trees.taken old + count
         → Takes trees disks (SeenTaken rules first path file seen_front before after gain) gain end end_after mid new disk disk_after
         → Takes trees disks (OpenTaken rules first path file before after (with_taken (count + gain.taken) gain)) (with_taken (count + gain.taken) gain) end end_after old new disk disk_after
     takes_open after gain count end end_after disk disk_after few read takes =
@@ -284,7 +330,7 @@ module _ {T D : Type 0} (trees : TreeMeaning T) (disks : DiskMeaning D) (rules :
     stood : ending ≡ Whole → trees.faults mid ≡ trees.faults old
     stood is = subst (λ (e : Ending). HasEnding e (trees.faults old) (trees.faults mid)) is reads.cause
 
-    pub front_takes : ending ≡ Whole → count ≡ length front → (new : T) (after : List tracked.Row) (found : Found) (end end_after : ℕ) (disk disk_after : D) → Finds trees disks (SeenTaken rules first path file front before after) found end end_after mid new disk disk_after
+    pub front_takes : ending ≡ Whole → count ≡ length front → (new : T) (after : List Row) (found : Found) (end end_after : ℕ) (disk disk_after : D) → Finds trees disks (SeenTaken rules first path file front before after) found end end_after mid new disk disk_after
         → Finds trees disks (OpenTaken rules first path file before after) found end end_after old new disk disk_after
     front_takes is all new after found end end_after disk disk_after finds = record {
       bytes = count + finds.bytes;
@@ -298,10 +344,10 @@ module _ {T D : Type 0} (trees : TreeMeaning T) (disks : DiskMeaning D) (rules :
     front_tree most le = tree_wider trees (length old_front) most count old mid le reads.keeps
 
 -- a file was opened, taken and closed
-module _ {T D : Type 0} (trees : TreeMeaning T) (disks : DiskMeaning D) (rules : Rules) (first : Bool) (path : List ℕ) (included : Includes rules path) (file : OpenFile) (before : List tracked.Row) (old opened taken closed : T)
+module _ {T D : Type 0} (trees : TreeMeaning T) (disks : DiskMeaning D) (rules : Rules) (first : Bool) (path : List ℕ) (included : Includes rules path) (file : OpenFile) (before : List Row) (old opened taken closed : T)
     (opens : Told (OpensFile path file.handle.0 file.size) (trees.world old) (trees.world opened)) (closes : Told (Closes file.handle.0) (trees.world taken) (trees.world closed))
     (still : trees.faults opened ≡ trees.faults old) (stays : trees.faults closed ≡ trees.faults taken) where
-  pub takes_file : (after : List tracked.Row) (found : Found) (end end_after : ℕ) (disk disk_after : D) → trees.taken opened ≡ trees.taken old → trees.taken closed ≡ trees.taken taken
+  pub takes_file : (after : List Row) (found : Found) (end end_after : ℕ) (disk disk_after : D) → trees.taken opened ≡ trees.taken old → trees.taken closed ≡ trees.taken taken
       → Finds trees disks (OpenTaken rules first path file before after) found end end_after opened taken disk disk_after → Finds trees disks (PathTaken rules first path before after) found end end_after old closed disk disk_after
   takes_file after found end end_after disk disk_after opening_reads closing_reads finds =
       let gain : Gain = with_taken finds.bytes (gain_of found) in
@@ -322,7 +368,7 @@ module _ {T D : Type 0} (trees : TreeMeaning T) (disks : DiskMeaning D) (rules :
       (told_then _ _ (WithFile (OpenFills rules first limit path file before end full) path file) (trees.world old) (trees.world opened) (trees.world taken) (λ x y z opening changes. record { opened = y; opens = opening; changes = changes }) opens fills) closes
 
 -- a path that could not be opened, or was no file's
-module _ {T D : Type 0} (trees : TreeMeaning T) (disks : DiskMeaning D) (rules : Rules) (first : Bool) (path : List ℕ) (before : List tracked.Row) (end : ℕ) (old new : T) (disk : D) where
+module _ {T D : Type 0} (trees : TreeMeaning T) (disks : DiskMeaning D) (rules : Rules) (first : Bool) (path : List ℕ) (before : List Row) (end : ℕ) (old new : T) (disk : D) where
   pub takes_missed : Told (OpensNothing (miss path ∷ []) (λ _. Unit {0})) (trees.world old) (trees.world new) → Rose (trees.faults old) (trees.faults new) → trees.taken new ≡ trees.taken old
       → Finds trees disks (PathTaken rules first path before before) Missed end end old new disk disk
   takes_missed told rose none = record {
@@ -348,9 +394,9 @@ module _ {T D : Type 0} (trees : TreeMeaning T) (disks : DiskMeaning D) (setup :
 
   pub sane_counted : (after : Taking) → after.tracker ≡ taken.tracker → after.changed.items ≡ taken.changed.items → after.end ≡ taken.end → Counted taken.counts gain after.counts → IsSaneTaking setup after
   sane_counted after tracker changed end counted = record {
-    rows = subst (λ (rows : List tracked.Row). AreSaneRows (rules_in setup) after.end rows) (sym tracker) (subst (λ e. AreSaneRows (rules_in setup) e taken.tracker) (sym end) sane_taken.rows);
-    few = omega (arith, sane_taken.few, ap (λ (rows : List tracked.Row). length rows) tracker);
-    flags = omega (arith, ap (λ (flags : List Bool). length flags) changed, sane_taken.flags, ap (λ (rows : List tracked.Row). length rows) tracker);
+    rows = subst (λ (rows : List Row). AreSaneRows (rules_in setup) after.end rows) (sym tracker) (subst (λ e. AreSaneRows (rules_in setup) e taken.tracker) (sym end) sane_taken.rows);
+    few = omega (arith, sane_taken.few, ap (λ (rows : List Row). length rows) tracker);
+    flags = omega (arith, ap (λ (flags : List Bool). length flags) changed, sane_taken.flags, ap (λ (rows : List Row). length rows) tracker);
     end_within = omega (arith, end, sane_taken.end_within);
     lines = omega (arith, end, lines_fit, counted.lines, ap (λ (c : Counts). c.lines) counts_same);
   }

@@ -11,7 +11,7 @@ pub mod Bridging
 pub mod Filling
 pub mod Opening
 pub mod Turning
-pub mod Saning
+pub mod SaneLemmas
 pub mod Flagging
 pub mod RowLemmas
 pub mod Joining

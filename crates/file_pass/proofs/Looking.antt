@@ -1,27 +1,23 @@
 -- What a look makes of the rows, by what was found of its file.
-use Rattle.std.proofs.Common.{◌≡◌, ℕ, ◌+◌, ◌<◌, ◌≤◌, ◌==◌, List, [], ◌∷◌, ◌++◌, length, Bool, true, false, cond, not, ◌||◌, ◌&&◌, refl, sym, ap, subst, ◌∙◌, arith, eq-eqb}
+use Rattle.std.proofs.Common.{◌≡◌, ℕ, ◌+◌, ◌<◌, ◌≤◌, ◌==◌, List, [], ◌∷◌, ◌++◌, length, Bool, true, false, not, ◌||◌, ◌&&◌, refl, sym, ap, subst, ◌∙◌, arith, eq-eqb}
 use Rattle.std.proofs.lemmas.Bool.{cond-true, ne_eqb, lt-ltb, le-ltb}
-use Rattle.std.proofs.lemmas.List.{map-set, length-set, length-map, length_push, map-append}
-use Rattle.std.proofs.lemmas.Option.{slice_get-map}
+use Rattle.std.proofs.lemmas.List.{length-set, length_push}
 use Rattle.std.proofs.Math.Seq.{set-append_seam}
-use Rattle.std.specs.Prelude.{None, Some, option_map, slice_get, slice_set, nat_lt}
-use Rattle.std.specs.List.{position, position_or_len}
+use Rattle.std.specs.Prelude.{None, Some, slice_get, slice_set, nat_lt}
 use Rattle.file_tracker.specs.Places.{place_of, with_front}
-use Rattle.file_tracker.specs.declared.row.Row as tracked
-use Rattle.file_tracker.specs.declared.tracker.TheConstants.{ROW_LIMIT}
+use Rattle.file_tracker.specs.Limits.{row_limit}
 use Rattle.standing.proofs.FindLemmas.{is_skipped, is_nothing, is_compressed_file, is_row, is_new, is_no_room}
 use Rattle.standing.proofs.ReadLemmas.{row_after-read, lines_added-read}
 use Rattle.standing.specs.Limits.{most_taken, is_compressed}
 use Rattle.standing.specs.Look.{Look, Outcome, Progress, skips, finds_nothing, finds_compressed, finds_no_room, finds_new, finds_row, front, size, piece, fed, lines_of, new_row, row_after, lines_added, outcome, after_look, progress_after, ReadsOn}
 use Rattle.standing.specs.Marks.{Mark}
 use Rattle.standing.specs.Pass.{is_short}
-use Rattle.standing.specs.Prefixes.{begins}
 use Rattle.standing.specs.Rows.{Row}
 use Rattle.standing.specs.Rules.{Rules}
 use Rattle.standing.specs.Sums.{is_filled}
 use Rattle.file_pass.specs.Gain.{Gain, no_gain, one_file, one_if, with_taken}
 use Rattle.file_pass.specs.LookTaken.{IsGainOf, TakesLook}
-use Rattle.file_pass.specs.Seen.{row_of, rows_of, progress_of}
+use Rattle.file_pass.specs.Seen.{progress_of}
 use Rattle.file_pass.proofs.Listing.{set_twice}
 
 pub filled_some : (here : Look) → 0 < size here → is_filled here ≡ true
@@ -53,14 +49,6 @@ same_progress : {rows other_rows : List Row} {id other_id : ℕ} {added other_ad
     → ◌≡◌ {A = Progress} (record { rows = rows; next_id = id; added = added }) (record { rows = other_rows; next_id = other_id; added = other_added })
 same_progress a b c = cc
 
--- the search among the rows of the tracker
-same_place : (seen : List ℕ) (rows : List tracked.Row) → position_or_len (λ (r : Row). begins r.front seen) (rows_of rows) ≡ position_or_len (λ (r : tracked.Row). begins r.front seen) rows
-same_place seen [] = refl
-same_place seen (row ∷ rows) = ap (λ n. cond (not (begins row.front seen)) (1 + n) 0) (same_place seen rows)
-
-pub same_position : (seen : List ℕ) (rows : List tracked.Row) → position (λ (r : Row). begins r.front seen) (rows_of rows) ≡ place_of seen rows
-same_position seen rows = rw (same_place seen rows, length-map rows row_of) refl
-
 row_after-short : (rules : Rules) (here : Look) (row : Row) → size here < row.offset → row_after rules here row ≡ record row { front = front rules here }
 unfolding row_after
 row_after-short rules here row short = cond-true (nat_lt (size here) row.offset) (record row { front = front rules here }) (fed rules (piece here row.offset) (record row { front = front rules here })) (lt-ltb (size here) row.offset short)
@@ -81,7 +69,7 @@ more_not : (here : Look) (offset : ℕ) → size here ≤ offset + most_taken �
 more_not here offset within = and_false_right (here.end == size here) (nat_lt (offset + most_taken) (size here)) (le-ltb (offset + most_taken) (size here) within)
 
 -- whatever was read
-pub look_with : (rules : Rules) (first : Bool) (here : Look) (before after : List tracked.Row) (added : List Mark) (gain : Gain) (count : ℕ) → TakesLook rules first here before after added gain → TakesLook rules first here before after added (with_taken count gain)
+pub look_with : (rules : Rules) (first : Bool) (here : Look) (before after : List Row) (added : List Mark) (gain : Gain) (count : ℕ) → TakesLook rules first here before after added gain → TakesLook rules first here before after added (with_taken count gain)
 look_with rules first here before after added gain count taken = record {
   end_within = taken.end_within;
   reads_on = taken.reads_on;
@@ -98,9 +86,9 @@ look_with rules first here before after added gain count taken = record {
   };
 }
 
-module _ (rules : Rules) (first : Bool) (here : Look) (before : List tracked.Row) where
+module _ (rules : Rules) (first : Bool) (here : Look) (before : List Row) where
   -- an outcome that leaves the rows
-  leaves : (found : Outcome) (gain : Gain) → outcome rules (rows_of before) here ≡ found → here.end ≤ size here → ReadsOn rules first here found
+  leaves : (found : Outcome) (gain : Gain) → outcome rules before here ≡ found → here.end ≤ size here → ReadsOn rules first here found
       → progress_after rules first here (progress_of before []) found ≡ progress_of before [] → IsGainOf rules first here found [] gain → TakesLook rules first here before before [] gain
   leaves found gain is within reads same sums = record {
     end_within = within;
@@ -111,7 +99,7 @@ module _ (rules : Rules) (first : Bool) (here : Look) (before : List tracked.Row
 
   pub takes_nothing : here.skipped ≡ false → size here ≡ 0 → here.end ≡ 0 → TakesLook rules first here before before [] no_gain
   takes_nothing read none end =
-      leaves finds_nothing no_gain (is_nothing rules (rows_of before) here read none) (omega (arith, end)) tt refl
+      leaves finds_nothing no_gain (is_nothing rules before here read none) (omega (arith, end)) tt refl
       (record {
         files = sym (ap one_if (filled_none here none));
         lines = refl;
@@ -125,7 +113,7 @@ module _ (rules : Rules) (first : Bool) (here : Look) (before : List tracked.Row
 
   pub takes_unread : here.skipped ≡ true → 0 < size here → here.end ≤ size here → TakesLook rules first here before before [] (record one_file { failed = 1 })
   takes_unread unread some within =
-      leaves skips (record one_file { failed = 1 }) (is_skipped rules (rows_of before) here unread) within tt refl
+      leaves skips (record one_file { failed = 1 }) (is_skipped rules before here unread) within tt refl
       (record {
         files = sym (ap one_if (filled_some here some));
         lines = refl;
@@ -140,7 +128,7 @@ module _ (rules : Rules) (first : Bool) (here : Look) (before : List tracked.Row
   module _ (read : here.skipped ≡ false) (some : 0 < size here) where
     pub takes_compressed : is_compressed (front rules here) ≡ true → here.end ≡ size here → TakesLook rules first here before before [] (record one_file { compressed = 1 })
     takes_compressed is end =
-        leaves finds_compressed (record one_file { compressed = 1 }) (is_compressed_file rules (rows_of before) here read some is) (omega (arith, end)) tt refl
+        leaves finds_compressed (record one_file { compressed = 1 }) (is_compressed_file rules before here read some is) (omega (arith, end)) tt refl
         (record {
           files = sym (ap one_if (filled_some here some));
           lines = refl;
@@ -153,10 +141,10 @@ module _ (rules : Rules) (first : Bool) (here : Look) (before : List tracked.Row
         })
 
     module _ (plain : is_compressed (front rules here) ≡ false) where
-      pub takes_full : place_of (front rules here) before ≡ None → ROW_LIMIT ≤ length before → here.end ≡ size here → TakesLook rules first here before before [] (record one_file { full = 1 })
+      pub takes_full : place_of (front rules here) before ≡ None → row_limit ≤ length before → here.end ≡ size here → TakesLook rules first here before before [] (record one_file { full = 1 })
       takes_full none all end =
           leaves finds_no_room (record one_file { full = 1 })
-          (is_no_room rules (rows_of before) here read some plain (same_position (front rules here) before ∙ none) (omega (arith, all, length-map before row_of))) (omega (arith, end)) tt refl
+          (is_no_room rules before here read some plain none all) (omega (arith, end)) tt refl
           (record {
             files = sym (ap one_if (filled_some here some));
             lines = refl;
@@ -169,15 +157,12 @@ module _ (rules : Rules) (first : Bool) (here : Look) (before : List tracked.Row
           })
 
       -- the file of a row that stands there is read on, or is too short
-      module _ (place : ℕ) (row : tracked.Row) (at : slice_get before place ≡ Some row) (known : place_of (front rules here) before ≡ Some place) where
-        at_row : slice_get (rows_of before) place ≡ Some (row_of row)
-        at_row = slice_get-map row_of before place ∙ ap (option_map row_of) at
+      module _ (place : ℕ) (row : Row) (at : slice_get before place ≡ Some row) (known : place_of (front rules here) before ≡ Some place) where
+        pub is_known : outcome rules before here ≡ finds_row place row
+        is_known = is_row rules before here place row read some plain known at
 
-        pub is_known : outcome rules (rows_of before) here ≡ finds_row place (row_of row)
-        is_known = is_row rules (rows_of before) here place (row_of row) read some plain (same_position (front rules here) before ∙ known) at_row
-
-        pub added_known : row.offset ≤ size here → (after_look rules first here (progress_of before [])).added ≡ lines_of rules (piece here row.offset) (row_of row)
-        added_known from = ap (λ (o : Outcome). (progress_after rules first here (progress_of before []) o).added) is_known ∙ lines_added-read rules here (row_of row) from
+        pub added_known : row.offset ≤ size here → (after_look rules first here (progress_of before [])).added ≡ lines_of rules (piece here row.offset) row
+        added_known from = ap (λ (o : Outcome). (progress_after rules first here (progress_of before []) o).added) is_known ∙ lines_added-read rules here row from
 
         pub takes_short : size here < row.offset → here.end ≡ size here
             → TakesLook rules first here before (slice_set before place (with_front (front rules here) row)) [] (record one_file { shrunk = 1 })
@@ -187,9 +172,9 @@ module _ (rules : Rules) (first : Bool) (here : Look) (before : List tracked.Row
           leads_to =
               ap (λ (o : Outcome). progress_after rules first here (progress_of before []) o) is_known
               ∙ same_progress
-              (ap (slice_set (rows_of before) place) (row_after-short rules here (row_of row) short) ∙ sym (map-set row_of before place (with_front (front rules here) row)))
+              (ap (slice_set before place) (row_after-short rules here row short))
               (ap (λ n. n + 1) (sym (length-set before place (with_front (front rules here) row))))
-              (lines_added-short rules here (row_of row) short);
+              (lines_added-short rules here row short);
           sums = subst (λ (o : Outcome). IsGainOf rules first here o [] (record one_file { shrunk = 1 })) (sym is_known)
               (record {
                 files = sym (ap one_if (filled_some here some));
@@ -203,45 +188,45 @@ module _ (rules : Rules) (first : Bool) (here : Look) (before : List tracked.Row
               });
         }
 
-        pub takes_on : (given : List ℕ) (after : List tracked.Row) (added : List Mark) (gain : Gain) → row.offset ≤ size here → here.end ≤ size here → row.offset ≤ here.end → given ≡ piece here row.offset
-            → rows_of after ≡ slice_set (rows_of (slice_set before place (with_front (front rules here) row))) place (fed rules given (row_of (with_front (front rules here) row)))
-            → added ≡ lines_of rules given (row_of row) → IsGainOf rules first here (finds_row place (row_of row)) added gain → TakesLook rules first here before after added gain
+        pub takes_on : (given : List ℕ) (after : List Row) (added : List Mark) (gain : Gain) → row.offset ≤ size here → here.end ≤ size here → row.offset ≤ here.end → given ≡ piece here row.offset
+            → after ≡ slice_set (slice_set before place (with_front (front rules here) row)) place (fed rules given (with_front (front rules here) row))
+            → added ≡ lines_of rules given row → IsGainOf rules first here (finds_row place row) added gain → TakesLook rules first here before after added gain
         takes_on given after added gain from within reaches are rows lines sums = record {
           end_within = within;
           reads_on = subst (λ (o : Outcome). ReadsOn rules first here o) (sym is_known) (λ _. reaches);
           leads_to =
               ap (λ (o : Outcome). progress_after rules first here (progress_of before []) o) is_known
               ∙ same_progress
-              (ap (slice_set (rows_of before) place) (row_after-read rules here (row_of row) from ∙ ap (λ (g : List ℕ). fed rules g (row_of (with_front (front rules here) row))) (sym are))
-              ∙ sym (ap (λ (l : List Row). slice_set l place (fed rules given (row_of (with_front (front rules here) row)))) (map-set row_of before place (with_front (front rules here) row)) ∙ set_twice (rows_of before) place (row_of (with_front (front rules here) row)) (fed rules given (row_of (with_front (front rules here) row))))
+              (ap (slice_set before place) (row_after-read rules here row from ∙ ap (λ (g : List ℕ). fed rules g (with_front (front rules here) row)) (sym are))
+              ∙ sym (set_twice before place (with_front (front rules here) row) (fed rules given (with_front (front rules here) row)))
               ∙ sym rows)
-              (omega (arith, ap length rows, length-map after row_of, length-set (rows_of (slice_set before place (with_front (front rules here) row))) place (fed rules given (row_of (with_front (front rules here) row))), length-map (slice_set before place (with_front (front rules here) row)) row_of, length-set before place (with_front (front rules here) row)))
-              (lines_added-read rules here (row_of row) from ∙ ap (λ (g : List ℕ). lines_of rules g (row_of row)) (sym are) ∙ sym lines);
+              (omega (arith, ap length rows, length-set (slice_set before place (with_front (front rules here) row)) place (fed rules given (with_front (front rules here) row)), length-set before place (with_front (front rules here) row)))
+              (lines_added-read rules here row from ∙ ap (λ (g : List ℕ). lines_of rules g row) (sym are) ∙ sym lines);
           sums = subst (λ (o : Outcome). IsGainOf rules first here o added gain) (sym is_known) sums;
         }
 
-      pub is_fresh : place_of (front rules here) before ≡ None → length before < ROW_LIMIT → outcome rules (rows_of before) here ≡ finds_new
-      is_fresh none room = is_new rules (rows_of before) here read some plain (same_position (front rules here) before ∙ none) (omega (arith, room, length-map before row_of))
+      pub is_fresh : place_of (front rules here) before ≡ None → length before < row_limit → outcome rules before here ≡ finds_new
+      is_fresh none room = is_new rules before here read some plain none room
 
-      pub added_new : (row : tracked.Row) → row_of row ≡ new_row rules first here (length before + 1) → place_of (front rules here) before ≡ None → length before < ROW_LIMIT → row.offset ≤ size here
-          → (after_look rules first here (progress_of before [])).added ≡ lines_of rules (piece here row.offset) (row_of row)
+      pub added_new : (row : Row) → row ≡ new_row rules first here (length before + 1) → place_of (front rules here) before ≡ None → length before < row_limit → row.offset ≤ size here
+          → (after_look rules first here (progress_of before [])).added ≡ lines_of rules (piece here row.offset) row
       added_new row is none room from =
-          let new_is : outcome rules (rows_of before) here ≡ finds_new = is_fresh none room in
+          let new_is : outcome rules before here ≡ finds_new = is_fresh none room in
           ap (λ (o : Outcome). (progress_after rules first here (progress_of before []) o).added) new_is
           ∙ lines_added-read rules here (new_row rules first here (length before + 1)) (omega (arith, from, ap (λ (r : Row). r.offset) is))
           ∙ ap (λ (r : Row). lines_of rules (piece here r.offset) r) (sym is)
 
       -- a new row is read on
-      pub takes_new : (row : tracked.Row) (given : List ℕ) (after : List tracked.Row) (added : List Mark) (gain : Gain) → row_of row ≡ new_row rules first here (length before + 1)
-          → place_of (front rules here) before ≡ None → length before < ROW_LIMIT → row.offset ≤ size here → here.end ≤ size here → row.offset ≤ here.end → given ≡ piece here row.offset
-          → rows_of after ≡ slice_set (rows_of (before ++ row ∷ [])) (length before) (fed rules given (row_of row))
-          → added ≡ lines_of rules given (row_of row) → IsGainOf rules first here finds_new added gain → TakesLook rules first here before after added gain
+      pub takes_new : (row : Row) (given : List ℕ) (after : List Row) (added : List Mark) (gain : Gain) → row ≡ new_row rules first here (length before + 1)
+          → place_of (front rules here) before ≡ None → length before < row_limit → row.offset ≤ size here → here.end ≤ size here → row.offset ≤ here.end → given ≡ piece here row.offset
+          → after ≡ slice_set (before ++ row ∷ []) (length before) (fed rules given row)
+          → added ≡ lines_of rules given row → IsGainOf rules first here finds_new added gain → TakesLook rules first here before after added gain
       takes_new row given after added gain is none room from within reaches are rows lines sums =
           let fresh : Row = new_row rules first here (length before + 1) in
           let at : row.offset ≡ fresh.offset = ap (λ (r : Row). r.offset) is in
-          let new_is : outcome rules (rows_of before) here ≡ finds_new = is_fresh none room in
+          let new_is : outcome rules before here ≡ finds_new = is_fresh none room in
           let fresh_begins : fresh.offset ≤ size here = omega (arith, at, from) in
-          let read_then : row_after rules here fresh ≡ fed rules given (row_of row) =
+          let read_then : row_after rules here fresh ≡ fed rules given row =
           row_after-read rules here fresh fresh_begins ∙ ap (λ (g : List ℕ). fed rules g fresh) (sym (are ∙ ap (piece here) at)) ∙ ap (fed rules given) (sym is) in
           record {
             end_within = within;
@@ -249,12 +234,10 @@ module _ (rules : Rules) (first : Bool) (here : Look) (before : List tracked.Row
             leads_to =
                 ap (λ (o : Outcome). progress_after rules first here (progress_of before []) o) new_is
                 ∙ same_progress
-                (ap (λ (r : Row). rows_of before ++ r ∷ []) read_then
-                ∙ sym (ap (λ (l : List Row). slice_set l (length before) (fed rules given (row_of row))) (map-append row_of before (row ∷ []))
-                ∙ ap (λ n. slice_set (rows_of before ++ row_of row ∷ []) n (fed rules given (row_of row))) (sym (length-map before row_of))
-                ∙ set-append_seam (rows_of before) (row_of row) [] (fed rules given (row_of row)))
+                (ap (λ (r : Row). before ++ r ∷ []) read_then
+                ∙ sym (set-append_seam before row [] (fed rules given row))
                 ∙ sym rows)
-                (omega (arith, ap length rows, length-map after row_of, length-set (rows_of (before ++ row ∷ [])) (length before) (fed rules given (row_of row)), length-map (before ++ row ∷ []) row_of, length_push before row))
+                (omega (arith, ap length rows, length-set (before ++ row ∷ []) (length before) (fed rules given row), length_push before row))
                 (lines_added-read rules here fresh fresh_begins ∙ ap (λ (g : List ℕ). lines_of rules g fresh) (sym (are ∙ ap (piece here) at)) ∙ ap (lines_of rules given) (sym is) ∙ sym lines);
             sums = subst (λ (o : Outcome). IsGainOf rules first here o added gain) (sym new_is) sums;
           }

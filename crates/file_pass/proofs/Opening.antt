@@ -4,7 +4,7 @@ use Rattle.std.proofs.lemmas.Bool.{cases_lt}
 use Rattle.std.proofs.lemmas.List.{take_all}
 use Rattle.std.specs.Prelude.{Option, None, Some, filter}
 use Rattle.file_tracker.specs.Places.{place_of}
-use Rattle.file_tracker.specs.declared.row.Row as tracked
+use Rattle.file_tracker.specs.declared.row.Row.{Row}
 use Rattle.outside.proofs.Moving.{moves_none, moves_then, moves_by_moment}
 use Rattle.outside.proofs.Seeing.{looks_stay, misses_stay, unlisted_stay, given_back}
 use Rattle.outside.specs.Closing.{Closes}
@@ -37,7 +37,7 @@ use Rattle.file_pass.proofs.ReadingLemmas.{same_piece}
 pub later_moves : {old new : History} → Moves old new → IsLater old new
 later_moves moves = record { events = moves.steps; goes_on = moves.goes_on }
 
-module _ (rules : Rules) (first : Bool) (path : List ℕ) (file : OpenFile) (before : List tracked.Row) where
+module _ (rules : Rules) (first : Bool) (path : List ℕ) (file : OpenFile) (before : List Row) where
   -- nothing was done with an empty file
   pub open_nothing : (world : World) → file.size ≡ 0 → OpenTaken rules first path file before before no_gain [] world world
   open_nothing world none = record {
@@ -101,7 +101,7 @@ module _ (rules : Rules) (first : Bool) (path : List ℕ) (file : OpenFile) (bef
       ]
 
   module _ (old mid new : World) (seen_front : List ℕ) (last : ℕ) (is : last ≡ min rules.front_size file.size) (many : length seen_front ≡ last) (reads : Reads file.handle.0 0 last seen_front Whole old mid) where
-    pub open_seen : (after : List tracked.Row) (gain : Gain) (added : List Mark) (count : ℕ) → count ≤ rules.front_size → SeenTaken rules first path file seen_front before after gain added mid new
+    pub open_seen : (after : List Row) (gain : Gain) (added : List Mark) (count : ℕ) → count ≤ rules.front_size → SeenTaken rules first path file seen_front before after gain added mid new
         → OpenTaken rules first path file before after (with_taken (count + gain.taken) gain) added old new
     open_seen after gain added count few taken = record {
       handles = taken.handles ∙ reads.handles;
@@ -130,7 +130,7 @@ module _ (rules : Rules) (first : Bool) (path : List ℕ) (file : OpenFile) (bef
     cost = λ seen moment at. omega arith;
   }
 
-  pub seen_full : (world : World) (seen_front : List ℕ) (after : List tracked.Row) → is_compressed seen_front ≡ false → 0 < file.size → IsLeftOut seen_front before after
+  pub seen_full : (world : World) (seen_front : List ℕ) (after : List Row) → is_compressed seen_front ≡ false → 0 < file.size → IsLeftOut seen_front before after
       → SeenTaken rules first path file seen_front before after (record one_file { full = 1 }) [] world world
   seen_full world seen_front after plain some left_out = record {
     handles = refl;
@@ -145,7 +145,7 @@ module _ (rules : Rules) (first : Bool) (path : List ℕ) (file : OpenFile) (bef
   }
 
 -- a path that was opened, whose file was taken and closed
-module _ (rules : Rules) (first : Bool) (path : List ℕ) (included : Includes rules path) (file : OpenFile) (before : List tracked.Row) (old opened taken closed : World)
+module _ (rules : Rules) (first : Bool) (path : List ℕ) (included : Includes rules path) (file : OpenFile) (before : List Row) (old opened taken closed : World)
     (opens : OpensFile path file.handle.0 file.size old opened) (closes : Closes file.handle.0 taken closed) where
   open_at : IsOpenAt file opens.file opens.history.moment opened
   open_at = record {
@@ -183,7 +183,7 @@ module _ (rules : Rules) (first : Bool) (path : List ℕ) (included : Includes r
   seen_unlisted moves =
       unlisted_stay taken.history closed.history closes.history ∙ unlisted_stay opened.history taken.history moves ∙ unlisted_stay (look opens.file ∷ opens.history.moment) opened.history opens.history.after ∙ unlisted_stay old.history opens.history.moment opens.history.before
 
-  pub path_looked : (after : List tracked.Row) (gain : Gain) (added : List Mark) → OpenTaken rules first path file before after gain added opened taken → PathTaken rules first path before after gain added old closed
+  pub path_looked : (after : List Row) (gain : Gain) (added : List Mark) → OpenTaken rules first path file before after gain added opened taken → PathTaken rules first path before after gain added old closed
   path_looked after gain added open_taken =
       let took = open_taken.looks opens.file opens.history.moment open_at in
       record {
@@ -222,7 +222,7 @@ pub record WithFile (change : World → World → Type 0) (path : List ℕ) (fil
   pub changes : change opened taken
 
 -- a path that could not be opened, or was no file's
-module _ (rules : Rules) (first : Bool) (path : List ℕ) (before : List tracked.Row) (old new : World) where
+module _ (rules : Rules) (first : Bool) (path : List ℕ) (before : List Row) (old new : World) where
   pub path_missed : OpensNothing (miss path ∷ []) (λ _. Unit {0}) old new → PathTaken rules first path before before (record no_gain { failed = 1 }) [] old new
   path_missed opens = record {
     turn = misses_path path;

@@ -11,7 +11,7 @@ use Rattle.outside.proofs.Telling.{told_then, told_weaker}
 use Rattle.slot_store.proofs.Filling.{take_filled}
 use Rattle.file_pass.specs.Reads.{Reads}
 use borrow.Rule.Slice.PartMut.{put_mid}
-use Rattle.file_pass.specs.TreeTerms.{GoesLater, HasEnding, KeepsTree, ReadsOnly}
+use Rattle.file_pass.specs.TreeTerms.{GoesLater, SameHandles, HasEnding, KeepsTree, ReadsOnly}
 use Rattle.file_pass.specs.declared.ending.Ending.{Ending}
 use Rattle.file_pass.specs.declared.ending.Ending.TheVariants.{Shrunk, Whole}
 use Rattle.file_pass.proofs.ReadingLemmas.{reads_one, reads_then, moves_later}
@@ -27,6 +27,7 @@ piece_read meaning handle from last piece rest most count ending old new some ro
   cause = cause;
   keeps = keeps_tree_read meaning most ending count (length piece) old new le
       (told_weaker (ReadsOnce handle from piece (Ok count)) GoesLater (meaning.world old) (meaning.world new) (λ x y reads. moves_later (moves_by_moment reads.history)) once)
+      (told_weaker (ReadsOnce handle from piece (Ok count)) SameHandles (meaning.world old) (meaning.world new) (λ x y reads. reads.handles) once)
       cause nameless plan bound (omega (arith, taken)) widest;
 }
 

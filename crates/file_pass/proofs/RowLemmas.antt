@@ -1,11 +1,11 @@
 -- A row that is read on.
 use Rattle.std.proofs.Common.{◌≡◌, ℕ, ◌+◌, ◌-◌, ◌<◌, ◌≤◌, ◌^◌, List, [], ◌∷◌, length, min, Bool, false, nat_lt, refl, sym, ap, subst, ◌∙◌, inl, inr, arith}
-use Rattle.std.proofs.lemmas.List.{map-set, length-set}
+use Rattle.std.proofs.lemmas.Option.{same_Some}
+use Rattle.std.proofs.lemmas.List.{length-set}
 use Rattle.std.proofs.lemmas.Bool.Decides.{nat_tests}
 use Rattle.std.specs.Prelude.{Some, slice_get, slice_set, IsTrue}
 use Rattle.entry_model.specs.LogRecord.{LogRecord}
 use Rattle.file_tracker.specs.Places.{with_progress, HasGone}
-use Rattle.file_tracker.specs.declared.row.Row as tracked
 use Rattle.op_kinds.specs.StateTexts.{state_text}
 use Rattle.outside.proofs.Telling.{told_same, told_weaker}
 use Rattle.outside.specs.Count.{raised}
@@ -25,7 +25,6 @@ use Rattle.file_pass.specs.Overflow.{RowFills}
 use Rattle.file_pass.specs.Reads.{Reads}
 use Rattle.file_pass.specs.RowTaken.{RowTaken}
 use Rattle.file_pass.specs.Sane.{IsSaneTaking}
-use Rattle.file_pass.specs.Seen.{row_of, rows_of}
 use Rattle.file_pass.specs.Taken.{Finds}
 use Rattle.file_pass.specs.TreeTerms.{HasEnding}
 use Rattle.file_pass.specs.declared.counts.Counts.{Counts}
@@ -37,12 +36,11 @@ use Rattle.file_pass.specs.declared.feeding.Feeding.{Feeding}
 use Rattle.file_pass.specs.declared.found.Found.TheVariants.{Shorter, Read}
 use Rattle.file_pass.specs.declared.setup.Setup.{Setup}
 use Rattle.file_pass.proofs.DiskLemmas.{appends_none, appends_same}
-use Rattle.file_pass.proofs.Saning.{few_tokens, length-numbered, sane_progress}
-use Rattle.file_pass.proofs.Bridging.{row_there}
+use Rattle.file_pass.proofs.SaneLemmas.{few_tokens, length-numbered, sane_progress}
 
 -- where the row's file is read on from
-abbrev pub begins_of : tracked.Row → Row
-begins_of row = record (row_of row) { front = []; start = 0 }
+abbrev pub begins_of : Row → Row
+begins_of row = record row { front = []; start = 0 }
 
 raised_by : (ending : Ending) (before after : ℕ) → HasEnding ending before after → raised before (failures ending) ≤ after
 raised_by Whole before after same = omega (arith, same)
@@ -50,11 +48,11 @@ raised_by Failed before after rose = rose.1
 raised_by Shrunk before after same = omega (arith, same)
 
 -- a state that was restored of the row
-pub restored_row : (row : tracked.Row) (feeding : Feeding) → feeding.id ≡ row.id → feeding.path ≡ row.path → feeding.offset ≡ row.offset → feeding.state.records ≡ row.records → feeding.state.lines ≡ row.lines
+pub restored_row : (row : Row) (feeding : Feeding) → feeding.id ≡ row.id → feeding.path ≡ row.path → feeding.offset ≡ row.offset → feeding.state.records ≡ row.records → feeding.state.lines ≡ row.lines
     → row.state ≡ state_text feeding.state.states.items → feeding_row feeding ≡ begins_of row
 restored_row row feeding id path offset records lines state = cc
 
-module _ (setup : Setup) (laws : AreRules (rules_in setup)) (row : tracked.Row) (before after : Feeding) (given : List ℕ)
+module _ (setup : Setup) (laws : AreRules (rules_in setup)) (row : Row) (before after : Feeding) (given : List ℕ)
     (good : IsTrue ((rules_in setup).is_state row.state)) (begins : feeding_row before ≡ begins_of row) (feeds : feeding_row after ≡ fed (rules_in setup) given (feeding_row before)) where
   on_row : feeding_row after ≡ fed (rules_in setup) given (begins_of row)
   on_row = feeds ∙ ap (fed (rules_in setup) given) begins
@@ -82,14 +80,14 @@ module _ (setup : Setup) (laws : AreRules (rules_in setup)) (row : tracked.Row) 
   good_then = subst (λ (state : List ℕ). IsTrue ((rules_in setup).is_state state)) (sym state_then) (laws.operators.state_goes_on row.path row.records row.state (tokens_of (rules_in setup) given) good)
 
   -- the row that is noted
-  abbrev noted : tracked.Row
+  abbrev noted : Row
   noted = with_progress after.offset after.state.records after.state.lines kept_then row
 
   same_row : {offset other_offset records other_records lines other_lines : ℕ} {state other_state : List ℕ} → offset ≡ other_offset → records ≡ other_records → lines ≡ other_lines → state ≡ other_state
-      → ◌≡◌ {A = Row} (record (row_of row) { offset = offset; records = records; lines = lines; state = state }) (record (row_of row) { offset = other_offset; records = other_records; lines = other_lines; state = other_state })
+      → ◌≡◌ {A = Row} (record row { offset = offset; records = records; lines = lines; state = state }) (record row { offset = other_offset; records = other_records; lines = other_lines; state = other_state })
   same_row a b c d = cc
 
-  pub noted_is : row_of noted ≡ fed (rules_in setup) given (row_of row)
+  pub noted_is : noted ≡ fed (rules_in setup) given row
   noted_is = same_row offset_then records_then lines_then state_then
 
   pub rises : HasGone row after.offset after.state.records after.state.lines
@@ -110,10 +108,10 @@ module _ (setup : Setup) (laws : AreRules (rules_in setup)) (row : tracked.Row) 
       let same_state : kept_then ≡ row.state = state_then ∙ ap ((rules_in setup).state_after row.path row.records row.state) none ∙ laws.operators.state_stays row.path row.records row.state good in
       same_numbers after.offset after.state.records after.state.lines kept_then (omega (arith, offset_then, no_further)) (omega (arith, records_then, ap length none)) (omega (arith, lines_then, ap length none_made)) same_state
 
-  pub lines_are : lines_of (rules_in setup) given (feeding_row before) ≡ lines_of (rules_in setup) given (row_of row)
+  pub lines_are : lines_of (rules_in setup) given (feeding_row before) ≡ lines_of (rules_in setup) given row
   lines_are = ap (lines_of (rules_in setup) given) begins
 
-  pub lines_more : after.state.lines ≡ row.lines + length (lines_of (rules_in setup) given (row_of row))
+  pub lines_more : after.state.lines ≡ row.lines + length (lines_of (rules_in setup) given row)
   lines_more = omega (arith, lines_then, length-numbered row.id (row.lines + 1) made_then)
 
   pub lines_later : row.lines + (after.state.lines - row.lines) ≡ after.state.lines
@@ -126,7 +124,7 @@ module _ (setup : Setup) (laws : AreRules (rules_in setup)) (row : tracked.Row) 
   pub few_records : row.start + row.records ≤ row.offset → row.start + after.state.records ≤ after.offset
   few_records few = omega (arith, offset_then, records_then, few, few_tokens (rules_in setup) laws given)
 
-module _ {T D : Type 0} (trees : TreeMeaning T) (disks : DiskMeaning D) (setup : Setup) (file : OpenFile) (place : ℕ) (row : tracked.Row) (rows : List tracked.Row) (at : slice_get rows place ≡ Some row) where
+module _ {T D : Type 0} (trees : TreeMeaning T) (disks : DiskMeaning D) (setup : Setup) (file : OpenFile) (place : ℕ) (row : Row) (rows : List Row) (at : slice_get rows place ≡ Some row) where
   -- the file is shorter than the row's offset
   pub takes_shorter : (end : ℕ) (tree : T) (disk : D) → file.size < row.offset → Finds trees disks (RowTaken (rules_in setup) file place rows rows Shorter) Shorter end end tree tree disk disk
   takes_shorter end tree disk short = record {
@@ -159,13 +157,13 @@ module _ {T D : Type 0} (trees : TreeMeaning T) (disks : DiskMeaning D) (setup :
         }) fills.world
 
     -- it was read on
-    pub takes_on_row : (after : Feeding) (end_after : ℕ) (ending : Ending) (more : Bool) (lines : ℕ) (rows_after : List tracked.Row) (disk disk_after : D) (on : ReadsOn trees disks setup file before after end end_after ending tree tree_after disk disk_after)
+    pub takes_on_row : (after : Feeding) (end_after : ℕ) (ending : Ending) (more : Bool) (lines : ℕ) (rows_after : List Row) (disk disk_after : D) (on : ReadsOn trees disks setup file before after end end_after ending tree tree_after disk disk_after)
         → (ending ≡ Whole → more ≡ nat_lt most_taken (file.size - row.offset)) → ((ending ≡ Whole → ⊥) → more ≡ false) → row.lines + lines ≡ after.state.lines
         → rows_after ≡ slice_set rows place (with_progress after.offset after.state.records after.state.lines (state_text after.state.states.items) row)
         → trees.taken tree_after ≤ trees.taken tree + (last_of file.size before.offset - before.offset)
         → Finds trees disks (RowTaken (rules_in setup) file place rows rows_after (Read ending more lines)) (Read ending more lines) end end_after tree tree_after disk disk_after
     takes_on_row after end_after ending more lines rows_after disk disk_after on left not_left many noted read =
-        let added : List Mark = lines_of (rules_in setup) on.given (row_of row) in
+        let added : List Mark = lines_of (rules_in setup) on.given row in
         let count : lines ≡ length added = omega (arith, many, lines_more setup laws row before after on.given good begins on.row) in
         record {
           bytes = min most_taken (file.size - row.offset);
@@ -187,7 +185,7 @@ module _ {T D : Type 0} (trees : TreeMeaning T) (disks : DiskMeaning D) (setup :
                 within = omega (arith, on.within, same_begin);
                 whole = λ is. omega (arith, on.whole is, same_begin);
                 partly = λ not. omega (arith, on.partly not, same_begin);
-                fed_row = ap rows_of noted ∙ map-set row_of rows place (with_progress after.offset after.state.records after.state.lines (state_text after.state.states.items) row) ∙ ap (slice_set (rows_of rows) place) (noted_is setup laws row before after on.given good begins on.row);
+                fed_row = noted ∙ ap (slice_set rows place) (noted_is setup laws row before after on.given good begins on.row);
                 lines = refl;
                 is = ap (Read ending more) count;
                 left = λ is. left is ∙ past row.offset file.size inside;
@@ -202,17 +200,17 @@ module _ {T D : Type 0} (trees : TreeMeaning T) (disks : DiskMeaning D) (setup :
         past offset all le = grind (arith, nat_tests)
 
 -- the numbers after a file was read on
-module _ {T D : Type 0} (trees : TreeMeaning T) (disks : DiskMeaning D) (setup : Setup) (laws : AreRules (rules_in setup)) (file : OpenFile) (small : file.size ≤ 2 ^ 62) (place : ℕ) (row : tracked.Row) (taking next : Taking)
+module _ {T D : Type 0} (trees : TreeMeaning T) (disks : DiskMeaning D) (setup : Setup) (laws : AreRules (rules_in setup)) (file : OpenFile) (small : file.size ≤ 2 ^ 62) (place : ℕ) (row : Row) (taking next : Taking)
     (sane : IsSaneTaking setup taking) (at : slice_get taking.tracker place ≡ Some row) (before after : Feeding) (begins : feeding_row before ≡ begins_of row) (end_now : ℕ) (ending : Ending) (tree tree_after : T) (disk disk_after : D)
     (on : ReadsOn trees disks setup file before after taking.end end_now ending tree tree_after disk disk_after) where
   good : IsTrue ((rules_in setup).is_state row.state)
   good = (sane.rows place row at).state
 
-  pub note_same : (other : tracked.Row) → slice_get taking.tracker place ≡ Some other → after.offset ≤ other.offset → with_progress after.offset after.state.records after.state.lines (state_text after.state.states.items) other ≡ other
+  pub note_same : (other : Row) → slice_get taking.tracker place ≡ Some other → after.offset ≤ other.offset → with_progress after.offset after.state.records after.state.lines (state_text after.state.states.items) other ≡ other
   note_same other there no_further =
-      let is : row ≡ other = row_there row other (sym at ∙ there) in
-      subst (λ (r : tracked.Row). with_progress after.offset after.state.records after.state.lines (state_text after.state.states.items) r ≡ r) is
-      (stays setup laws row before after on.given good begins on.row (omega (arith, no_further, ap (λ (r : tracked.Row). r.offset) is)))
+      let is : row ≡ other = same_Some row other (sym at ∙ there) in
+      subst (λ (r : Row). with_progress after.offset after.state.records after.state.lines (state_text after.state.states.items) r ≡ r) is
+      (stays setup laws row before after on.given good begins on.row (omega (arith, no_further, ap (λ (r : Row). r.offset) is)))
 
   pub sane_on_row : IsSane setup after end_now → (length row.state < 2 ^ 32 → length (state_text after.state.states.items) < 2 ^ 32) → next.tracker ≡ slice_set taking.tracker place (with_progress after.offset after.state.records after.state.lines (state_text after.state.states.items) row)
       → length next.changed.items ≡ length taking.changed.items → next.end ≡ end_now → next.counts ≡ taking.counts → IsSaneTaking setup next
@@ -226,8 +224,8 @@ module _ {T D : Type 0} (trees : TreeMeaning T) (disks : DiskMeaning D) (setup :
             (far_within setup laws row before after on.given good begins on.row file small (omega (arith, on.within, started)))
             (few_records setup laws row before after on.given good begins on.row was.records)
             (omega (arith, fed_sane.lines, end)) (good_then setup laws row before after on.given good begins on.row) (short was.short);
-        few = omega (arith, sane.few, ap (λ (rows : List tracked.Row). length rows) noted, length-set taking.tracker place (with_progress after.offset after.state.records after.state.lines (state_text after.state.states.items) row));
-        flags = flags ∙ sane.flags ∙ sym (ap (λ (rows : List tracked.Row). length rows) noted ∙ length-set taking.tracker place (with_progress after.offset after.state.records after.state.lines (state_text after.state.states.items) row));
+        few = omega (arith, sane.few, ap (λ (rows : List Row). length rows) noted, length-set taking.tracker place (with_progress after.offset after.state.records after.state.lines (state_text after.state.states.items) row));
+        flags = flags ∙ sane.flags ∙ sym (ap (λ (rows : List Row). length rows) noted ∙ length-set taking.tracker place (with_progress after.offset after.state.records after.state.lines (state_text after.state.states.items) row));
         end_within = omega (arith, fed_sane.end_within, end);
         lines = omega (arith, sane.lines, later, ap (λ (c : Counts). c.lines) counts);
       }

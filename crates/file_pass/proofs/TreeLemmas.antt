@@ -7,7 +7,7 @@ use Rattle.outside.specs.TreeMeaning.{TreeMeaning}
 use Rattle.outside.proofs.Counting.{never_falls_none, never_falls_same, never_falls_rose, never_falls_then}
 use Rattle.outside.proofs.Telling.{told_same, told_then}
 use Rattle.standing.proofs.MomentLemmas.{later_none, later_then}
-use Rattle.file_pass.specs.TreeTerms.{KeepsTree, GoesLater, IsNoWider, HasEnding}
+use Rattle.file_pass.specs.TreeTerms.{KeepsTree, GoesLater, SameHandles, IsNoWider, HasEnding}
 use Rattle.file_pass.specs.declared.ending.Ending.{Ending}
 use Rattle.file_pass.specs.declared.ending.Ending.TheVariants.{Whole, Failed, Shrunk}
 
@@ -42,6 +42,7 @@ module _ {T : Type 0} (meaning : TreeMeaning T) (most : ℕ) where
   pub keeps_tree_none : (tree : T) → KeepsTree meaning most 0 tree tree
   keeps_tree_none tree = record {
     later = told_same GoesLater (meaning.world tree) (λ world. later_none world.history);
+    handles = told_same SameHandles (meaning.world tree) (λ world. refl);
     faults = never_falls_none (meaning.faults tree);
     nameless = refl;
     plan = refl;
@@ -53,6 +54,7 @@ module _ {T : Type 0} (meaning : TreeMeaning T) (most : ℕ) where
   pub keeps_tree_then : (taken more : ℕ) (old mid new : T) → KeepsTree meaning most taken old mid → KeepsTree meaning most more mid new → KeepsTree meaning most (taken + more) old new
   keeps_tree_then taken more old mid new first second = record {
     later = told_then GoesLater GoesLater GoesLater (meaning.world old) (meaning.world mid) (meaning.world new) (λ x y z a b. later_then x.history y.history z.history a b) first.later second.later;
+    handles = told_then SameHandles SameHandles SameHandles (meaning.world old) (meaning.world mid) (meaning.world new) (λ x y z a b. b ∙ a) first.handles second.handles;
     faults = never_falls_then first.faults second.faults;
     nameless = second.nameless ∙ first.nameless;
     plan = second.plan ∙ first.plan;
@@ -64,6 +66,7 @@ module _ {T : Type 0} (meaning : TreeMeaning T) (most : ℕ) where
   pub keeps_tree_within : (taken other : ℕ) (old new : T) → taken ≤ other → KeepsTree meaning most taken old new → KeepsTree meaning most other old new
   keeps_tree_within taken other old new le keeps = record {
     later = keeps.later;
+    handles = keeps.handles;
     faults = keeps.faults;
     nameless = keeps.nameless;
     plan = keeps.plan;
@@ -73,10 +76,11 @@ module _ {T : Type 0} (meaning : TreeMeaning T) (most : ℕ) where
   }
 
   -- one read
-  pub keeps_tree_read : (ending : Ending) (count size : ℕ) (old new : T) → size ≤ most → Told GoesLater (meaning.world old) (meaning.world new) → HasEnding ending (meaning.faults old) (meaning.faults new) → meaning.nameless new ≡ meaning.nameless old
+  pub keeps_tree_read : (ending : Ending) (count size : ℕ) (old new : T) → size ≤ most → Told GoesLater (meaning.world old) (meaning.world new) → Told SameHandles (meaning.world old) (meaning.world new) → HasEnding ending (meaning.faults old) (meaning.faults new) → meaning.nameless new ≡ meaning.nameless old
       → meaning.plan new ≡ meaning.plan old → meaning.bound new ≡ meaning.bound old → meaning.taken new ≤ meaning.taken old + count → meaning.widest new ≡ widest_after size (meaning.widest old) → KeepsTree meaning most count old new
-  keeps_tree_read ending count size old new le later cause nameless plan bound taken widest = record {
+  keeps_tree_read ending count size old new le later handles cause nameless plan bound taken widest = record {
     later = later;
+    handles = handles;
     faults = ending_falls ending (meaning.faults old) (meaning.faults new) cause;
     nameless = nameless;
     plan = plan;
@@ -89,6 +93,7 @@ module _ {T : Type 0} (meaning : TreeMeaning T) (most : ℕ) where
   pub keeps_tree_wider : (part taken : ℕ) (old new : T) → part ≤ most → KeepsTree meaning part taken old new → KeepsTree meaning most taken old new
   keeps_tree_wider part taken old new le keeps = record {
     later = keeps.later;
+    handles = keeps.handles;
     faults = keeps.faults;
     nameless = keeps.nameless;
     plan = keeps.plan;

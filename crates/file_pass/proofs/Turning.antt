@@ -3,7 +3,7 @@ use Rattle.std.proofs.Common.{◌≡◌, ℕ, ◌+◌, ◌≤◌, List, [], ◌�
 use Rattle.std.proofs.lemmas.List.Sums.{sum_by-cons}
 use Rattle.std.proofs.lemmas.List.{append-nil, length-map, length-reverse, reverse-append}
 use Rattle.std.specs.Prelude.{count_by, Option, None, Some, IfSome}
-use Rattle.file_tracker.specs.declared.row.Row as tracked
+use Rattle.file_tracker.specs.declared.row.Row.{Row}
 use Rattle.outside.specs.Seen.{left_unlisted}
 use Rattle.outside.specs.World.{World, History, look}
 use Rattle.standing.proofs.MomentLemmas.{later_none, later_then, look_lasts, past_look, at_look}
@@ -20,7 +20,7 @@ use Rattle.file_pass.specs.Full.{Crosses, lines_text}
 use Rattle.file_pass.specs.Gain.{Gain, no_gain, both, one_if}
 use Rattle.file_pass.specs.Overflow.{PathFills, AllFill}
 use Rattle.file_pass.specs.PathTaken.{Comes, LooksAtPath, MissesPath, FindsNoFile, PathTaken}
-use Rattle.file_pass.specs.Seen.{rows_of, progress_of}
+use Rattle.file_pass.specs.Seen.{progress_of}
 use Rattle.file_pass.specs.Turns.{Turn, looks_at, misses_path, finds_none, path_of, looks_of, gone_of, HadNone}
 use Rattle.file_pass.proofs.Filling.{crosses_before}
 use Rattle.file_pass.proofs.Listing.{contains_none, contains_cons}
@@ -40,7 +40,7 @@ had_none_before old mid new path later had = record { moment = had.moment; after
 abbrev with_lines : List Mark → Progress → Progress
 with_lines earlier progress = record progress { added = earlier ++ progress.added }
 
-lines_before : (rules : Rules) (first : Bool) (here : Look) (rows : List tracked.Row) (earlier : List Mark) (found : Outcome)
+lines_before : (rules : Rules) (first : Bool) (here : Look) (rows : List Row) (earlier : List Mark) (found : Outcome)
     → progress_after rules first here (progress_of rows earlier) found ≡ with_lines earlier (progress_after rules first here (progress_of rows []) found)
 lines_before rules first here rows earlier skips = ap (progress_of rows) (sym (append-nil earlier))
 lines_before rules first here rows earlier finds_nothing = ap (progress_of rows) (sym (append-nil earlier))
@@ -49,8 +49,8 @@ lines_before rules first here rows earlier finds_no_room = ap (progress_of rows)
 lines_before rules first here rows earlier finds_new = refl
 lines_before rules first here rows earlier (finds_row place row) = refl
 
-pub look_after_lines : (rules : Rules) (first : Bool) (here : Look) (rows : List tracked.Row) (earlier : List Mark) → after_look rules first here (progress_of rows earlier) ≡ with_lines earlier (after_look rules first here (progress_of rows []))
-look_after_lines rules first here rows earlier = lines_before rules first here rows earlier (outcome rules (rows_of rows) here)
+pub look_after_lines : (rules : Rules) (first : Bool) (here : Look) (rows : List Row) (earlier : List Mark) → after_look rules first here (progress_of rows earlier) ≡ with_lines earlier (after_look rules first here (progress_of rows []))
+look_after_lines rules first here rows earlier = lines_before rules first here rows earlier (outcome rules rows here)
 
 later_of : (rules : Rules) (here : Look) (old new : History) → IsLater old here.moment → ComesAt rules here new → IsLater old new
 later_of rules here old new later comes =
@@ -65,7 +65,7 @@ reads_whole rules first here whole found = by (offset_found rules first here fou
     by (Some o) = λ le. omega (arith, le, whole)
 
 module _ (rules : Rules) (first : Bool) where
-  pub all_none : (rows : List tracked.Row) (world : World) → AllTaken rules first [] rows rows no_gain [] world world
+  pub all_none : (rows : List Row) (world : World) → AllTaken rules first [] rows rows no_gain [] world world
   all_none rows world = record {
     turns = [];
     each = refl;
@@ -83,17 +83,17 @@ module _ (rules : Rules) (first : Bool) where
     gains = record { files = refl; lines = refl; left = refl; gone = refl; failed = refl; compressed = refl; shrunk = refl; full = refl; taken = omega arith };
   }
 
-  module _ (paths : List (List ℕ)) (path : List ℕ) (before mid after : List tracked.Row) (gain more : Gain) (added next : List Mark) (old between new : World) (a : AllTaken rules first paths before mid gain added old between) where
+  module _ (paths : List (List ℕ)) (path : List ℕ) (before mid after : List Row) (gain more : Gain) (added next : List Mark) (old between new : World) (a : AllTaken rules first paths before mid gain added old between) where
     abbrev start : Progress
     start = progress_of before []
 
-    outcome_is : (here : Look) → outcome_after rules first (looks_of a.turns) start here ≡ outcome rules (rows_of mid) here
+    outcome_is : (here : Look) → outcome_after rules first (looks_of a.turns) start here ≡ outcome rules mid here
     outcome_is here = ap (λ (p : Progress). outcome rules p.rows here) a.leads_to
 
-    count_is : (test : Look → Outcome → Bool) (here : Look) → count_of rules first test (here ∷ looks_of a.turns) start ≡ count_of rules first test (looks_of a.turns) start + one_if (test here (outcome rules (rows_of mid) here))
+    count_is : (test : Look → Outcome → Bool) (here : Look) → count_of rules first test (here ∷ looks_of a.turns) start ≡ count_of rules first test (looks_of a.turns) start + one_if (test here (outcome rules mid here))
     count_is test here = ap (λ (o : Outcome). count_of rules first test (looks_of a.turns) start + one_if (test here o)) (outcome_is here)
 
-    cost_is : (here : Look) → cost_of rules first (here ∷ looks_of a.turns) start ≡ cost_of rules first (looks_of a.turns) start + look_cost rules here (outcome rules (rows_of mid) here)
+    cost_is : (here : Look) → cost_of rules first (here ∷ looks_of a.turns) start ≡ cost_of rules first (looks_of a.turns) start + look_cost rules here (outcome rules mid here)
     cost_is here = ap (λ (o : Outcome). cost_of rules first (looks_of a.turns) start + look_cost rules here o) (outcome_is here)
 
     each_more : (turn : Turn) → path_of turn ≡ path → map path_of (turn ∷ a.turns) ≡ reverse (paths ++ path ∷ [])

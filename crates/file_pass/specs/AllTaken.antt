@@ -1,6 +1,6 @@
 -- What a pass makes of its paths.
 use Rattle.std.specs.Prelude.{◌≡◌, ℕ, ◌+◌, ◌≤◌, List, [], ◌++◌, length, map, reverse, Bool, Contains, count_by}
-use Rattle.file_tracker.specs.declared.row.Row as tracked
+use Rattle.file_tracker.specs.declared.row.Row.{Row}
 use Rattle.outside.specs.DiskMeaning.{DiskMeaning}
 use Rattle.outside.specs.Seen.{looked, missed, left_unlisted}
 use Rattle.outside.specs.TreeMeaning.{TreeMeaning}
@@ -44,7 +44,7 @@ pub record AreGains (rules : Rules) (first : Bool) (turns : List Turn) (start : 
   pub taken : gain.taken ≤ cost_of rules first (looks_of turns) start
 
 -- Each path has its turn, and the looks lead from the rows before to those after, with these lines.
-pub record AllTaken (rules : Rules) (first : Bool) (paths : List (List ℕ)) (before after : List tracked.Row) (gain : Gain) (added : List Mark) (old new : World) : Type 0 where
+pub record AllTaken (rules : Rules) (first : Bool) (paths : List (List ℕ)) (before after : List Row) (gain : Gain) (added : List Mark) (old new : World) : Type 0 where
   pub turns : List Turn
   pub each : map path_of turns ≡ reverse paths
   pub handles : new.handles ≡ old.handles

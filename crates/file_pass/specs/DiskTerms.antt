@@ -2,7 +2,7 @@
 use Rattle.std.specs.Prelude.{◌≡◌, ℕ, ◌+◌, ◌≤◌, List, [], ◌++◌, length, Option, Some, None, ⊤, IsTrue}
 use Rattle.outside.specs.Crash.{Passes}
 use Rattle.outside.specs.DiskMeaning.{DiskMeaning}
-use Rattle.outside.specs.Image.{AtFile, KeepsFront, Same}
+use Rattle.outside.specs.Image.{AtFile, KeepsFront}
 use Rattle.outside.specs.declared.disk.DiskFile.TheVariants.{Output}
 use Rattle.slot_store.specs.OnlyRead.{KeepsTerms}
 
@@ -29,5 +29,5 @@ Longer added old new = new ≡ old ++ added
 pub record Appends {D : Type 0} (meaning : DiskMeaning D) (added : List ℕ) (end after : ℕ) (old new : D) : Type 0 where
   pub end_is : after ≡ end + length added
   pub output : IsTrue (meaning.images.tells old) → AtFile Output (Longer added) (meaning.images.seen old) (meaning.images.seen new)
-  -- without them nothing is written
-  pub idle : added ≡ [] → Passes meaning.images Same old new
+  -- without them nothing is done
+  pub idle : added ≡ [] → new ≡ old

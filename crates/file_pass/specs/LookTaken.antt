@@ -1,6 +1,6 @@
 -- What a look at a file makes of the rows and of the counts.
 use Rattle.std.specs.Prelude.{◌≡◌, ℕ, ◌≤◌, List, [], length, take, Bool, false, Some}
-use Rattle.file_tracker.specs.declared.row.Row as tracked
+use Rattle.file_tracker.specs.declared.row.Row.{Row}
 use Rattle.outside.specs.Moment.{Moves}
 use Rattle.outside.specs.Reading.{file_of}
 use Rattle.outside.specs.World.{World, History, bytes}
@@ -12,7 +12,7 @@ use Rattle.standing.specs.Rules.{Rules}
 use Rattle.standing.specs.Sums.{is_filled, is_passed_as_compressed, is_left_out, has_more, is_shrunk}
 use Rattle.file_pass.specs.Cost.{cost_on, look_cost}
 use Rattle.file_pass.specs.Gain.{Gain, one_if}
-use Rattle.file_pass.specs.Seen.{rows_of, progress_of}
+use Rattle.file_pass.specs.Seen.{progress_of}
 use Rattle.file_pass.specs.declared.ending.OpenFile.{OpenFile}
 
 abbrev pub look_at : List ℕ → ℕ → History → ℕ → Bool → Look
@@ -29,11 +29,11 @@ pub record IsGainOf (rules : Rules) (first : Bool) (here : Look) (found : Outcom
   pub shrunk : gain.shrunk ≡ one_if (is_shrunk rules first here found)
   pub full : gain.full ≡ one_if (is_left_out here found)
 
-pub record TakesLook (rules : Rules) (first : Bool) (here : Look) (before after : List tracked.Row) (added : List Mark) (gain : Gain) : Type 0 where
+pub record TakesLook (rules : Rules) (first : Bool) (here : Look) (before after : List Row) (added : List Mark) (gain : Gain) : Type 0 where
   pub end_within : here.end ≤ size here
-  pub reads_on : ReadsOn rules first here (outcome rules (rows_of before) here)
+  pub reads_on : ReadsOn rules first here (outcome rules before here)
   pub leads_to : after_look rules first here (progress_of before []) ≡ progress_of after added
-  pub sums : IsGainOf rules first here (outcome rules (rows_of before) here) added gain
+  pub sums : IsGainOf rules first here (outcome rules before here) added gain
 
 -- the handle stands for this file, which had that size at an earlier moment
 pub record IsOpenAt (file : OpenFile) (seen : ℕ) (moment : History) (world : World) : Type 0 where
@@ -47,19 +47,19 @@ pub record IsSeenAt (rules : Rules) (file : OpenFile) (front : List ℕ) (seen :
   pub front_is : front ≡ take rules.front_size (bytes moment seen)
 
 -- An open file with this front was taken: what that makes of the rows is what a look at it makes of them.
-pub record SeenTaken (rules : Rules) (first : Bool) (path : List ℕ) (file : OpenFile) (front : List ℕ) (before after : List tracked.Row) (gain : Gain) (added : List Mark) (old new : World) : Type 0 where
+pub record SeenTaken (rules : Rules) (first : Bool) (path : List ℕ) (file : OpenFile) (front : List ℕ) (before after : List Row) (gain : Gain) (added : List Mark) (old new : World) : Type 0 where
   pub handles : new.handles ≡ old.handles
   pub moves : Moves old.history new.history
   pub end : ℕ
   pub looks : (seen : ℕ) (moment : History) → IsSeenAt rules file front seen moment old → TakesLook rules first (look_at path seen moment end false) before after added gain
   -- beside what was read for the front
-  pub cost : (seen : ℕ) (moment : History) → IsSeenAt rules file front seen moment old → gain.taken ≤ cost_on (look_at path seen moment end false) (outcome rules (rows_of before) (look_at path seen moment end false))
+  pub cost : (seen : ℕ) (moment : History) → IsSeenAt rules file front seen moment old → gain.taken ≤ cost_on (look_at path seen moment end false) (outcome rules before (look_at path seen moment end false))
 
 -- The same of any open file.
-pub record OpenTaken (rules : Rules) (first : Bool) (path : List ℕ) (file : OpenFile) (before after : List tracked.Row) (gain : Gain) (added : List Mark) (old new : World) : Type 0 where
+pub record OpenTaken (rules : Rules) (first : Bool) (path : List ℕ) (file : OpenFile) (before after : List Row) (gain : Gain) (added : List Mark) (old new : World) : Type 0 where
   pub handles : new.handles ≡ old.handles
   pub moves : Moves old.history new.history
   pub end : ℕ
   pub skipped : Bool
   pub looks : (seen : ℕ) (moment : History) → IsOpenAt file seen moment old → TakesLook rules first (look_at path seen moment end skipped) before after added gain
-  pub cost : (seen : ℕ) (moment : History) → IsOpenAt file seen moment old → gain.taken ≤ look_cost rules (look_at path seen moment end skipped) (outcome rules (rows_of before) (look_at path seen moment end skipped))
+  pub cost : (seen : ℕ) (moment : History) → IsOpenAt file seen moment old → gain.taken ≤ look_cost rules (look_at path seen moment end skipped) (outcome rules before (look_at path seen moment end skipped))

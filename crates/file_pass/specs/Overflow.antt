@@ -1,6 +1,6 @@
 -- The output would be too long: with which looks it would.
 use Rattle.std.specs.Prelude.{◌≡◌, ℕ, ◌+◌, ◌≤◌, List, [], ◌∷◌, ◌++◌, length, map, reverse, take, Bool, false, Some, slice_get}
-use Rattle.file_tracker.specs.declared.row.Row as tracked
+use Rattle.file_tracker.specs.declared.row.Row.{Row}
 use Rattle.outside.specs.Moment.{Moves}
 use Rattle.outside.specs.Seen.{looked, missed, left_unlisted}
 use Rattle.outside.specs.World.{World, History}
@@ -12,38 +12,38 @@ use Rattle.file_pass.specs.Fed.{last_of}
 use Rattle.file_pass.specs.Full.{Crosses}
 use Rattle.file_pass.specs.LookTaken.{look_at, IsOpenAt, IsSeenAt}
 use Rattle.file_pass.specs.Reads.{Reads}
-use Rattle.file_pass.specs.Seen.{row_of, progress_of}
+use Rattle.file_pass.specs.Seen.{progress_of}
 use Rattle.file_pass.specs.Turns.{Turn, looks_at, path_of, looks_of, misses_of}
 use Rattle.file_pass.specs.declared.ending.Ending.TheVariants.{Whole}
 use Rattle.file_pass.specs.declared.ending.OpenFile.{OpenFile}
 
 -- with a line of the bytes that were read for the row at this place
-pub record RowFills (rules : Rules) (limit : ℕ) (file : OpenFile) (place : ℕ) (rows : List tracked.Row) (end full : ℕ) (old new : World) : Type 0 where
-  pub row : tracked.Row
+pub record RowFills (rules : Rules) (limit : ℕ) (file : OpenFile) (place : ℕ) (rows : List Row) (end full : ℕ) (old new : World) : Type 0 where
+  pub row : Row
   pub at : slice_get rows place ≡ Some row
   pub begins : row.offset ≤ file.size
   pub given : List ℕ
   pub within : row.offset + length given ≤ last_of file.size row.offset
-  pub crosses : Crosses limit end (lines_of rules given (row_of row)) full
+  pub crosses : Crosses limit end (lines_of rules given row) full
   pub reads : Reads file.handle.0 row.offset file.size given Whole old new
 
 -- with a line of those that the look adds
-abbrev pub LookFills : Rules → Bool → ℕ → Look → List tracked.Row → ℕ → ℕ → Type 0
+abbrev pub LookFills : Rules → Bool → ℕ → Look → List Row → ℕ → ℕ → Type 0
 LookFills rules first limit here rows end full = Crosses limit end (after_look rules first here (progress_of rows [])).added full
 
 -- with a line of those that a look adds which sees this front, and could read the file to its end
-pub record SeenFills (rules : Rules) (first : Bool) (limit : ℕ) (path : List ℕ) (file : OpenFile) (front : List ℕ) (rows : List tracked.Row) (end full : ℕ) (old new : World) : Type 0 where
+pub record SeenFills (rules : Rules) (first : Bool) (limit : ℕ) (path : List ℕ) (file : OpenFile) (front : List ℕ) (rows : List Row) (end full : ℕ) (old new : World) : Type 0 where
   pub handles : new.handles ≡ old.handles
   pub moves : Moves old.history new.history
   pub looks : (seen : ℕ) (moment : History) → IsSeenAt rules file front seen moment old → LookFills rules first limit (look_at path seen moment file.size false) rows end full
 
 -- with a line of those that a look adds which could read the file to its end
-pub record OpenFills (rules : Rules) (first : Bool) (limit : ℕ) (path : List ℕ) (file : OpenFile) (rows : List tracked.Row) (end full : ℕ) (old new : World) : Type 0 where
+pub record OpenFills (rules : Rules) (first : Bool) (limit : ℕ) (path : List ℕ) (file : OpenFile) (rows : List Row) (end full : ℕ) (old new : World) : Type 0 where
   pub handles : new.handles ≡ old.handles
   pub moves : Moves old.history new.history
   pub looks : (seen : ℕ) (moment : History) → IsOpenAt file seen moment old → LookFills rules first limit (look_at path seen moment file.size false) rows end full
 
-pub record PathFills (rules : Rules) (first : Bool) (limit : ℕ) (path : List ℕ) (rows : List tracked.Row) (end full : ℕ) (old new : World) : Type 0 where
+pub record PathFills (rules : Rules) (first : Bool) (limit : ℕ) (path : List ℕ) (rows : List Row) (end full : ℕ) (old new : World) : Type 0 where
   pub here : Look
   pub path_is : here.path ≡ path
   pub whole : here.end ≡ size here
@@ -57,7 +57,7 @@ pub record PathFills (rules : Rules) (first : Bool) (limit : ℕ) (path : List �
 
 -- The first of the paths had their turns, and the newest of the looks, which could read its file to the end, leads to lines
 -- with which the output is too long.
-pub record AllFill (rules : Rules) (first : Bool) (limit : ℕ) (paths : List (List ℕ)) (rows : List tracked.Row) (end full : ℕ) (old new : World) : Type 0 where
+pub record AllFill (rules : Rules) (first : Bool) (limit : ℕ) (paths : List (List ℕ)) (rows : List Row) (end full : ℕ) (old new : World) : Type 0 where
   pub here : Look
   pub earlier : List Turn
   pub each : map path_of (looks_at here ∷ earlier) ≡ reverse (take (length earlier + 1) paths)

@@ -1,6 +1,6 @@
 -- What a pass makes of one path.
 use Rattle.std.specs.Prelude.{◌≡◌, ℕ, ◌≤◌, List, [], ◌∷◌, Bool}
-use Rattle.file_tracker.specs.declared.row.Row as tracked
+use Rattle.file_tracker.specs.declared.row.Row.{Row}
 use Rattle.outside.specs.Seen.{looked, missed, left_unlisted}
 use Rattle.outside.specs.World.{World, History}
 use Rattle.standing.specs.Look.{Look, ComesAt, outcome}
@@ -10,20 +10,19 @@ use Rattle.standing.specs.Rules.{Rules}
 use Rattle.file_pass.specs.Cost.{look_cost}
 use Rattle.file_pass.specs.Gain.{Gain, no_gain}
 use Rattle.file_pass.specs.LookTaken.{TakesLook}
-use Rattle.file_pass.specs.Seen.{rows_of}
 use Rattle.file_pass.specs.Turns.{Turn, looks_at, misses_path, finds_none, path_of, HadNone}
 
 -- a file was looked at under the path
-pub record LooksAtPath (rules : Rules) (first : Bool) (here : Look) (before after : List tracked.Row) (gain : Gain) (added : List Mark) (old new : History) : Type 0 where
+pub record LooksAtPath (rules : Rules) (first : Bool) (here : Look) (before after : List Row) (gain : Gain) (added : List Mark) (old new : History) : Type 0 where
   pub later : IsLater old here.moment
   pub comes : ComesAt rules here new
   pub all_looks : looked new ≡ here.file ∷ looked old
   pub all_misses : missed new ≡ missed old
   pub takes : TakesLook rules first here before after added gain
-  pub cost : gain.taken ≤ look_cost rules here (outcome rules (rows_of before) here)
+  pub cost : gain.taken ≤ look_cost rules here (outcome rules before here)
 
 -- the path could not be opened
-pub record MissesPath (path : List ℕ) (before after : List tracked.Row) (gain : Gain) (added : List Mark) (old new : History) : Type 0 where
+pub record MissesPath (path : List ℕ) (before after : List Row) (gain : Gain) (added : List Mark) (old new : History) : Type 0 where
   pub later : IsLater old new
   pub all_looks : looked new ≡ looked old
   pub all_misses : missed new ≡ path ∷ missed old
@@ -31,7 +30,7 @@ pub record MissesPath (path : List ℕ) (before after : List tracked.Row) (gain 
   pub none : added ≡ []
   pub gain_is : gain ≡ record no_gain { failed = 1 }
 
-pub record FindsNoFile (path : List ℕ) (before after : List tracked.Row) (gain : Gain) (added : List Mark) (old new : History) : Type 0 where
+pub record FindsNoFile (path : List ℕ) (before after : List Row) (gain : Gain) (added : List Mark) (old new : History) : Type 0 where
   pub had_none : HadNone old new path
   pub all_looks : looked new ≡ looked old
   pub all_misses : missed new ≡ missed old
@@ -39,12 +38,12 @@ pub record FindsNoFile (path : List ℕ) (before after : List tracked.Row) (gain
   pub none : added ≡ []
   pub gain_is : gain ≡ record no_gain { gone = 1 }
 
-abbrev pub Comes : Rules → Bool → List tracked.Row → List tracked.Row → Gain → List Mark → Turn → History → History → Type 0
+abbrev pub Comes : Rules → Bool → List Row → List Row → Gain → List Mark → Turn → History → History → Type 0
 Comes rules first before after gain added (looks_at here) old new = LooksAtPath rules first here before after gain added old new
 Comes rules first before after gain added (misses_path path) old new = MissesPath path before after gain added old new
 Comes rules first before after gain added (finds_none path) old new = FindsNoFile path before after gain added old new
 
-pub record PathTaken (rules : Rules) (first : Bool) (path : List ℕ) (before after : List tracked.Row) (gain : Gain) (added : List Mark) (old new : World) : Type 0 where
+pub record PathTaken (rules : Rules) (first : Bool) (path : List ℕ) (before after : List Row) (gain : Gain) (added : List Mark) (old new : World) : Type 0 where
   pub turn : Turn
   pub path_is : path_of turn ≡ path
   pub comes : Comes rules first before after gain added turn old.history new.history

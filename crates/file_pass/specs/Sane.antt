@@ -1,7 +1,7 @@
 -- What holds of the numbers of a pass, whatever is read.
 use Rattle.std.specs.Prelude.{◌≡◌, ℕ, ◌+◌, ◌<◌, ◌≤◌, ◌^◌, List, length, Some, slice_get, IsTrue}
 use Rattle.file_tracker.specs.declared.row.Row.{Row}
-use Rattle.file_tracker.specs.declared.tracker.TheConstants.{ROW_LIMIT}
+use Rattle.file_tracker.specs.Limits.{row_limit}
 use Rattle.state_codec.specs.Rules.{IsShortText}
 use Rattle.standing.specs.Rules.{Rules}
 use Rattle.file_pass.specs.Fed.{rules_in}
@@ -30,7 +30,7 @@ AreSaneRows rules end rows = (place : ℕ) (row : Row) → slice_get rows place 
 
 pub record IsSaneTaking (setup : Setup) (taking : Taking) : Type 0 where
   pub rows : AreSaneRows (rules_in setup) taking.end taking.tracker
-  pub few : length taking.tracker ≤ ROW_LIMIT
+  pub few : length taking.tracker ≤ row_limit
   pub flags : length taking.changed.items ≡ length taking.tracker
   pub end_within : taking.end ≤ setup.limit
   pub lines : taking.counts.lines ≤ taking.end

@@ -2,7 +2,7 @@
 use Rattle.std.specs.Prelude.{◌≡◌, ◌⊎◌, ℕ, ◌+◌, ◌<◌, ◌&&◌, if◌then◌else◌, List, [], ◌∷◌, ◌++◌, length, Option, None, Some, slice_get, slice_set}
 use Rattle.file_tracker.specs.Places.{place_of, with_front}
 use Rattle.file_tracker.specs.declared.row.Row.{Row}
-use Rattle.file_tracker.specs.declared.tracker.TheConstants.{ROW_LIMIT}
+use Rattle.file_tracker.specs.Limits.{row_limit}
 use Rattle.file_pass.specs.Fed.{rules_in}
 use Rattle.file_pass.specs.declared.setup.Setup.{Setup}
 
@@ -22,14 +22,14 @@ pub record IsKnown (front : List ℕ) (before : List Row) (place : ℕ) (after :
 -- no row's front begins this one, and a row was added
 pub record IsAdmitted (setup : Setup) (size : ℕ) (path front : List ℕ) (before : List Row) (place : ℕ) (after : List Row) : Type 0 where
   pub none : place_of front before ≡ None
-  pub room : length before < ROW_LIMIT
+  pub room : length before < row_limit
   pub last : place ≡ length before
   pub added : after ≡ before ++ admitted setup size path front (length before + 1) ∷ []
 
 -- there was no room for a row
 pub record IsLeftOut (front : List ℕ) (before after : List Row) : Type 0 where
   pub none : place_of front before ≡ None
-  pub all : length before ≡ ROW_LIMIT
+  pub all : length before ≡ row_limit
   pub same : after ≡ before
 
 abbrev pub Settles : Setup → ℕ → List ℕ → List ℕ → List Row → Option ℕ → List Row → Type 0

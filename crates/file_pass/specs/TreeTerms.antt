@@ -17,9 +17,14 @@ IsNoWider most (Some before) (Some after) = after ≤ max before most
 abbrev pub GoesLater : World → World → Type 0
 GoesLater old new = IsLater old.history new.history
 
+-- the files that were open are, and no other
+abbrev pub SameHandles : World → World → Type 0
+SameHandles old new = new.handles ≡ old.handles
+
 -- what no call of a pass changes, and how many bytes reads gave
 pub record KeepsTree {T : Type 0} (meaning : TreeMeaning T) (most taken : ℕ) (old new : T) : Type 0 where
   pub later : Told GoesLater (meaning.world old) (meaning.world new)
+  pub handles : Told SameHandles (meaning.world old) (meaning.world new)
   pub faults : NeverFalls (meaning.faults old) (meaning.faults new)
   pub nameless : meaning.nameless new ≡ meaning.nameless old
   pub plan : meaning.plan new ≡ meaning.plan old

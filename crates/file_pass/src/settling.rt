@@ -4,6 +4,7 @@ ghost use Rattle.file_pass.specs.Fed.{rules_in};
 ghost use Rattle.file_pass.specs.Sane.{FreshFits, IsSaneTaking};
 ghost use Rattle.file_pass.specs.Settled.{IsKnown, Settles, admitted};
 ghost use Rattle.file_pass.specs.Unchanged.{FlagsChanges};
+ghost use Rattle.file_tracker.specs.Limits.{row_limit};
 ghost use Rattle.file_tracker.specs.Places.{place_of};
 ghost use Rattle.pipeline.specs.Parts.{settings_of};
 ghost use Rattle.settings_text.specs.Limits.{KeepsLimits};
@@ -13,7 +14,7 @@ use crate::setup::Setup;
 use crate::spelled::first_spelled;
 use crate::taking::Taking;
 use entry_model::Text;
-use file_tracker::{Bytes, ROW_LIMIT, Row};
+use file_tracker::{AdmitFault, Bytes, ROW_LIMIT, Row};
 use settings_text::StartAt;
 use std::alloc::{AllocError, Global};
 
@@ -96,7 +97,8 @@ fn admit(
             }
             Ok(Some(place))
         }
-        Err(_) => Err(AllocError),
+        Err(AdmitFault::Full) => unreachable!(),
+        Err(AdmitFault::Memory) => Err(AllocError),
     }
 }
 
@@ -109,7 +111,7 @@ fn new_row(
     front: &[u8],
     rows: usize,
 ) -> Result<Row, AllocError>
-    requires { rows < ROW_LIMIT }
+    requires { rows < row_limit }
     ensures row { IfOk result (λ row. row ≡ admitted setup.now size path.now front.now (rows + 1)) }
     ensures fits { OnOk result (FreshFits setup.now) }
 {

@@ -9,7 +9,6 @@ ghost use Rattle.file_pass.specs.PassCause.{HasPassCause};
 ghost use Rattle.file_pass.specs.PathTaken.{PathTaken};
 ghost use Rattle.file_pass.specs.RowTaken.{RowTaken};
 ghost use Rattle.file_pass.specs.Sane.{IsSaneTaking};
-ghost use Rattle.file_pass.specs.Seen.{row_of};
 ghost use Rattle.file_pass.specs.Taken.{Finds, KeepsTreeAt};
 ghost use Rattle.file_pass.specs.Unchanged.{FlagsChanges};
 ghost use Rattle.file_tracker.specs.Places.{HasGone, with_progress};
@@ -18,6 +17,7 @@ ghost use Rattle.op_kinds.specs.StateTexts.{state_text};
 ghost use Rattle.outside.specs.World.{Told};
 ghost use Rattle.outside.specs.declared.disk.DiskFile.{DiskFile};
 ghost use Rattle.pipeline.specs.Parts.{HaveKinds, settings_of};
+ghost use Rattle.pipeline.specs.RowStates.{IsStateOf};
 ghost use Rattle.settings_text.specs.Limits.{KeepsLimits};
 ghost use Rattle.standing.specs.Rules.{Includes};
 ghost use Rattle.state_codec.specs.Rules.{IsShortText};
@@ -34,7 +34,9 @@ use crate::spelled::spelled;
 use entry_model::Text;
 use file_tracker::{Row, Tracker};
 use outside::{CallFault, Disk, Opened, Tree};
-use pipeline::laws::a_pipeline_is_rules;
+use pipeline::FileState;
+use pipeline::laws::{a_pipeline_is_rules, a_row_tells_its_state};
+use state_codec::CodecFault;
 use std::alloc::{AllocError, Global};
 
 // How many bytes are read at once.
@@ -313,20 +315,36 @@ fn has_more(ending: Ending, past: u64) -> bool
 
 // Where reading of the row's file goes on.
 fn feeding_of(alloc: Global, setup: &Setup<'_>, row: &Row) -> Result<Feeding, AllocError>
-    ensures row { IfOk result (λ feeding. feeding_row feeding ≡ record (row_of row.now) { front = []; start = 0 }) }
+    requires { IsTrue ((rules_in setup.now).is_state row.now.state) }
+    ensures row { IfOk result (λ feeding. feeding_row feeding ≡ record row.now { front = []; start = 0 }) }
     ensures kinds { IfOk result (λ feeding. HaveKinds setup.now.pipeline.now feeding.state.states.items) }
 {
     let path = row.path.share()?;
-    let state = row.state.as_slice();
-    match setup.pipeline.restore(alloc, row.records, row.lines, state) {
-        Ok(state) => Ok(Feeding {
-            id: row.id,
-            path,
-            offset: row.offset,
-            state,
-        }),
-        // The row's state is one of these operators, so this is want of memory.
-        Err(_) => Err(AllocError),
+    let state = restored(alloc, setup, row, row.state.as_slice())?;
+    Ok(Feeding {
+        id: row.id,
+        path,
+        offset: row.offset,
+        state,
+    })
+}
+
+// The state that these bytes spell, with the counts of a row.
+fn restored(
+    alloc: Global,
+    setup: &Setup<'_>,
+    row: &Row,
+    bytes: &[u8],
+) -> Result<FileState, AllocError>
+    requires { IsTrue ((rules_in setup.now).is_state bytes.now) }
+    ensures state { IfOk result (IsStateOf setup.now.pipeline.now row.now.records row.now.lines bytes.now) }
+    ensures kinds { IfOk result (λ state. HaveKinds setup.now.pipeline.now state.states.items) }
+{
+    a_row_tells_its_state(setup.pipeline);
+    match setup.pipeline.restore(alloc, row.records, row.lines, bytes) {
+        Ok(state) => Ok(state),
+        Err(CodecFault::Malformed { .. }) => unreachable!(),
+        Err(CodecFault::Memory) => Err(AllocError),
     }
 }
 

@@ -4,7 +4,7 @@ use Rattle.std.proofs.lemmas.List.{length-set, length-map, length_push, map-set,
 use Rattle.std.proofs.lemmas.Option.{get_or_from_slice_get, slice_get_read}
 use Rattle.std.specs.List.{insert}
 use Rattle.file_tracker.specs.declared.row.Row.{Row}
-use Rattle.file_tracker.specs.declared.tracker.TheConstants.{ROW_LIMIT}
+use Rattle.file_tracker.specs.Limits.{row_limit}
 use Rattle.file_tracker.specs.Fronts.{begins, front_of, fronts_of, front_at, ArePrefixFree}
 use Rattle.file_tracker.specs.Order.{front_in, ArePlaces, Ascends, AscendsBefore, StandsBetween, IsIndex, IsKept}
 use Rattle.file_tracker.proofs.FrontLemmas.{front_read}
@@ -29,7 +29,7 @@ pub row_read : (rows : List Row) (place : ℕ) (row was : Row) → place < lengt
 row_read rows place row was inside read there = read ∙ get_or_from_slice_get rows place row was there
 
 -- a row is put behind the others
-pub kept_more : (rows : List Row) (order : List ℕ) (nested begun ahead now : Bool) (k : ℕ) (row : Row) → length rows < ROW_LIMIT → IsKept rows order nested
+pub kept_more : (rows : List Row) (order : List ℕ) (nested begun ahead now : Bool) (k : ℕ) (row : Row) → length rows < row_limit → IsKept rows order nested
     → StandsBetween (fronts_of rows) order (front_of row) k k begun
     → ahead ≡ (if nat_lt k (length order) then begins (front_of row) (front_in (fronts_of rows) order k) else false)
     → now ≡ (if nested then true else if begun then true else ahead) → IsKept (rows ++ row ∷ []) (insert order k (length rows)) now

@@ -2,7 +2,7 @@
 use Rattle.std.specs.Prelude.{◌≡◌, ◌≢◌, ◌-◌, ℕ, ◌<◌, ◌≤◌, Bool, true, false, if◌then◌else◌, List, length, slice_index, nat_lt, MatchBool}
 use Rattle.std.specs.Cmp.Lexicographic.{slice_cmp}
 use Rattle.std.specs.Ordering.{nat_cmp, is_gt}
-use Rattle.file_tracker.specs.declared.tracker.TheConstants.{ROW_LIMIT}
+use Rattle.file_tracker.specs.Limits.{row_limit}
 use Rattle.file_tracker.specs.declared.row.Row.{Row}
 use Rattle.file_tracker.specs.Fronts.{begins, front_at, fronts_of, ArePrefixFree}
 
@@ -49,5 +49,5 @@ AscendsBefore place end fronts order =
 
 -- what a tracker is at any time
 pub record IsKept (rows : List Row) (order : List ℕ) (nested : Bool) : Type 0 where
-  pub short : length rows ≤ ROW_LIMIT
+  pub short : length rows ≤ row_limit
   pub index : IsIndex (fronts_of rows) order nested

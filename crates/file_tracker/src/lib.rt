@@ -20,4 +20,4 @@ mod tracker;
 pub use bytes::Bytes;
 pub use row::Row;
 pub use steps::Steps;
-pub use tracker::{AdmitFault, ROW_LIMIT, Tracker};
+pub use tracker::{AdmitFault, ROW_LIMIT, Tracker, constants_are_the_limits};

@@ -1,5 +1,6 @@
 // The rows of all files that the agent knows.
 ghost use Rattle.std.specs.Prelude.{◌≡◌, ℕ, ◌+◌, ◌*◌, ◌-◌, ◌^◌, ◌<◌, ◌≤◌, ◌↔◌, [], ◌∷◌, ◌++◌, length, IsTrue, Some, slice_get, slice_set, IfOk, OnOk, OnErr};
+ghost use Rattle.file_tracker.specs.Limits.{row_limit};
 
 use crate::index::{begins_next, is_nested, locate, settle};
 use crate::search::{first_begun, search};
@@ -11,6 +12,11 @@ use thiserror::Error;
 
 /// The most rows that a tracker has.
 pub const ROW_LIMIT: usize = 1_024;
+
+/// The constant is the limit that the definitions have.
+pub fn constants_are_the_limits()
+    ensures { ROW_LIMIT ≡ row_limit }
+{}
 
 /// Why a row is not admitted.
 #[derive(Clone, Copy, Debug, Error, PartialEq, Eq)]
@@ -62,7 +68,7 @@ impl Tracker {
     /// The number of rows.
     pub fn len(&self) -> usize
         ensures value { result ≡ length self.now }
-        ensures within { result ≤ ROW_LIMIT }
+        ensures within { result ≤ row_limit }
     {
         self.rows.len()
     }
@@ -112,7 +118,7 @@ impl Tracker {
     /// What it needs comes from the allocator of the tracker.
     pub fn admit(&mut self, _alloc: Global, row: Row) -> Result<usize, AdmitFault>
         ensures ok { IfOk result (λ place. (place ≡ length self.old) × (self.new ≡ self.old ++ row ∷ [])) }
-        ensures full { (result ≡ Err AdmitFault.Full) ↔ (length self.old ≡ ROW_LIMIT) }
+        ensures full { (result ≡ Err AdmitFault.Full) ↔ (length self.old ≡ row_limit) }
         ensures err { OnErr result (self.new ≡ self.old) }
     {
         let place = self.rows.len();

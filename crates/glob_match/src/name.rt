@@ -1,5 +1,5 @@
 // Whether a name fits the pieces of a component.
-ghost use Rattle.std.specs.Prelude.{◌≡◌, ◌+◌, ◌≤◌, ◌<◌, ◌↔◌, ◌&&◌, ◌||◌, ℕ, false, length, take, IfSome, IsTrue, slice_index, slice_index_or};
+ghost use Rattle.std.specs.Prelude.{◌≡◌, ◌+◌, ◌*◌, ◌≤◌, ◌<◌, ◌↔◌, ◌&&◌, ◌||◌, ℕ, false, length, take, IfSome, IsTrue, slice_index, slice_index_or};
 ghost use Rattle.std.specs.List.{list_any};
 ghost use Rattle.std.specs.Str.{chars};
 ghost use Rattle.glob_match.specs.Fits.{FitsPiece, FitsPieces, FitsUnit, FitsUnits};
@@ -13,21 +13,58 @@ use crate::search::fits_long;
 /// names.
 const PLACES: usize = 4_096;
 
+/// The places of most names, of up to 63 characters, for which little room is cleared.
+const FEW_PLACES: usize = 64;
+
 /// Whether the name fits. The places that the pieces lead to are marked piece by piece, so that each character is
 /// looked at once for each unit.
 pub(crate) fn fits_name(pieces: &[Piece], name: &str) -> bool
     ensures { IsTrue result ↔ FitsPieces pieces.now (chars name.now) }
 {
-    let mut room = ['/'; PLACES - 1];
-    match decode(name, &mut room) {
-        Some(count) => fits_characters(pieces, &room[..count]),
+    let fits = if name.len() < FEW_PLACES {
+        fits_short(pieces, name)
+    } else {
+        fits_any(pieces, name)
+    };
+    match fits {
+        Some(fits) => fits,
         None => fits_long(&[], pieces, name),
     }
+}
+
+fn fits_short(pieces: &[Piece], name: &str) -> Option<bool>
+    ensures { IfSome result (λ fits. IsTrue fits ↔ FitsPieces pieces.now (chars name.now)) }
+{
+    let mut room = ['/'; FEW_PLACES - 1];
+    let mut marks = [false; 3 * FEW_PLACES];
+    fits_within(pieces, name, &mut room, &mut marks)
+}
+
+fn fits_any(pieces: &[Piece], name: &str) -> Option<bool>
+    ensures { IfSome result (λ fits. IsTrue fits ↔ FitsPieces pieces.now (chars name.now)) }
+{
+    let mut room = ['/'; PLACES - 1];
+    let mut marks = [false; 3 * PLACES];
+    fits_within(pieces, name, &mut room, &mut marks)
+}
+
+/// Whether the name fits, or `None` where it has more characters than `room`.
+fn fits_within(pieces: &[Piece], name: &str, room: &mut [char], marks: &mut [bool]) -> Option<bool>
+    requires { 3 * (length room.old + 1) ≤ length marks.old }
+    ensures { IfSome result (λ fits. IsTrue fits ↔ FitsPieces pieces.now (chars name.now)) }
+{
+    let count = decode(name, room)?;
+    let places = count + 1;
+    let (reached, others) = marks.split_at_mut(places);
+    let (from, to) = others.split_at_mut(places);
+    let reaches = reaches_end(pieces, &room[..count], reached, from, &mut to[..places]);
+    Some(reaches)
 }
 
 /// The number of characters, which are put into the front of `room`, or `None` where there are more than fit.
 fn decode(name: &str, room: &mut [char]) -> Option<usize>
     ensures within { IfSome result (λ count. count ≤ length room.new) }
+    ensures long { length room.new ≡ length room.old }
     ensures front { IfSome result (λ count. take count room.new ≡ chars name.now) }
 {
     let mut count = 0;
@@ -39,23 +76,6 @@ fn decode(name: &str, room: &mut [char]) -> Option<usize>
         count += 1;
     }
     Some(count)
-}
-
-fn fits_characters(pieces: &[Piece], characters: &[char]) -> bool
-    requires { length characters.now < 4096 }
-    ensures { IsTrue result ↔ FitsPieces pieces.now characters.now }
-{
-    let places = characters.len() + 1;
-    let mut reached = [false; PLACES];
-    let mut from = [false; PLACES];
-    let mut to = [false; PLACES];
-    reaches_end(
-        pieces,
-        characters,
-        &mut reached[..places],
-        &mut from[..places],
-        &mut to[..places],
-    )
 }
 
 fn reaches_end(

@@ -1,14 +1,14 @@
 -- What a disk may be left with, call by call.
-use Rattle.std.proofs.Common.{◌≡◌, ℕ, ◌+◌, ◌≤◌, List, [], Bool, true, false, IsTrue, None, refl, sym, subst, ◌∙◌, arith, inl, inr}
+use Rattle.std.proofs.Common.{◌≡◌, ℕ, ◌+◌, ◌≤◌, List, [], length, Bool, true, false, IsTrue, None, Some, refl, sym, ap, subst, ◌∙◌, arith, inl, inr}
 use Rattle.std.specs.Prelude.{◌⊎◌}
 use Rattle.std.proofs.lemmas.Bool.{and_parts}
-use Rattle.checkpoint_store.specs.declared.Checkpoint.{Checkpoint as Saved}
+use Rattle.checkpoint_store.specs.declared.Checkpoint.{Checkpoint}
 use Rattle.lifetimes.proofs.ImageLemmas.{NumberedBy, numbered_by, left_reopened, left_later, Kept, kept_by_stays, kept_by_steps, closed_by_stays}
-use Rattle.lifetimes.specs.Past.{Past, IsLeftAt, LeavesAt, IsDiskAt, polled}
-use Rattle.mem_world.specs.DiskImages.{LeavesImage}
+use Rattle.lifetimes.specs.Past.{Past, Failures, IsLeftAt, LeavesAt, IsDiskAt, IsWell, dropped, polled}
+use Rattle.mem_world.specs.DiskImages.{LeavesImage, LeftSince}
 use Rattle.mem_world.specs.DiskLaws.{left_now, left_only_now}
 use Rattle.mem_world.specs.DiskLog.{Log}
-use Rattle.mem_world.specs.MemDisk.{disk_images, history_of, seen_of, moment_of, MayLeave, IsFresh}
+use Rattle.mem_world.specs.MemDisk.{disk_images, faults_of, history_of, seen_of, moment_of, MayLeave, IsFresh}
 use Rattle.mem_world.specs.declared.disk.MemDisk.{MemDisk}
 use Rattle.outside.specs.Crash.{Passes, IsDurable}
 use Rattle.outside.specs.Image.{Image}
@@ -66,14 +66,21 @@ same_image : (one other : Image DiskFile) → ((file : DiskFile) → one file �
 same_image one other each = λ i file. each file i
 
 -- After a crash there is one image, and it is one of those that might be left.
-pub leaves_crashed : (rules : Rules) (past : Past) (disk crashed : MemDisk) → MayLeave disk (seen_of crashed) → ((file : DiskFile) → IsDurable disk_images file crashed) → IsFresh crashed → LeavesAt rules past disk → IsDiskAt rules past crashed
-leaves_crashed rules past disk crashed may durable fresh leaves = record {
+no_more : (n : ℕ) → n ≡ 0 → 0 ≡ n + 0
+no_more n none = omega (arith, none)
+
+-- a disk without faults, on which nothing is planned
+pub well_fresh : (failures : Failures) (disk : MemDisk) → IsFresh disk → IsWell (dropped failures) disk
+well_fresh failures disk fresh = record { bound = fresh.bound ∙ ap (λ (n : ℕ). Some n) (no_more (faults_of disk) fresh.faults); few = omega (arith, fresh.faults) }
+
+pub leaves_crashed : (rules : Rules) (past : Past) (failures : Failures) (disk crashed : MemDisk) → MayLeave disk (seen_of crashed) → ((file : DiskFile) → IsDurable disk_images file crashed) → IsFresh crashed → LeavesAt rules past disk → IsDiskAt rules past (dropped failures) crashed
+leaves_crashed rules past failures disk crashed may durable fresh leaves = record {
   leaves = record {
     each = λ image left.
         let same : seen_of crashed ≡ image = same_image (seen_of crashed) image (λ file. sym (durable file image left)) in
         subst (λ (i : Image DiskFile). IsLeftAt rules past i) same (leaves.each (seen_of crashed) may);
   };
-  well = record { faults = fresh.faults; bound = fresh.bound };
+  well = well_fresh failures crashed fresh;
 }
 
 -- ---- openings
@@ -88,6 +95,15 @@ leaves_reopened rules past disk disk_after passes leaves = record {
 -- the same images, whatever is planned
 pub leaves_same : (rules : Rules) (past : Past) (disk disk_after : MemDisk) → history_of disk_after ≡ history_of disk → LeavesAt rules past disk → LeavesAt rules past disk_after
 leaves_same rules past disk disk_after same leaves = record { each = λ image left. leaves.each image (subst (λ (log : Log). LeavesImage log image) same left) }
+
+-- a change of the images, on to a disk with the same ones
+pub passes_same : (change : Image DiskFile → Image DiskFile → Type 0) (disk disk_after same_disk : MemDisk) → history_of same_disk ≡ history_of disk_after → Passes disk_images change disk disk_after → Passes disk_images change disk same_disk
+passes_same change disk disk_after same_disk same passes = record {
+  later = subst (λ (log : Log). length (history_of disk) ≤ length log) (sym same) passes.later;
+  now_left = λ image left. passes.now_left image (subst (λ (log : Log). LeavesImage log image) same left);
+  since = λ from image within left. passes.since from image within (subst (λ (log : Log). LeftSince log from image) same left);
+  keeps = λ from image within left. subst (λ (log : Log). LeftSince log from image) (sym same) (passes.keeps from image within left);
+}
 
 -- ---- the world goes on
 
@@ -109,7 +125,7 @@ stands_after rules old new disk disk_after later keeps stand apart = record {
 -- the images of a poll: those that stay, or those of a pass
 abbrev pub StepsBy : Session → MemDisk → MemDisk → Type 0
 StepsBy session disk disk_after = Passes disk_images (Stays session) disk disk_after
-    ⊎ ((after : Saved) × (added : List Mark) × ComesAfter session after added × Passes disk_images (Steps session after added) disk disk_after)
+    ⊎ ((after : Checkpoint) × (added : List Mark) × ComesAfter session after added × Passes disk_images (Steps session after added) disk disk_after)
 
 module _ (session : Session) (is : IsSession session) (rules : Rules) (same : rules_of_session session ≡ rules) (past : Past) (disk disk_after : MemDisk) (stands : StandsOn disk_images session disk) (leaves : LeavesAt rules past disk) where
   pub all_kept : StepsBy session disk disk_after → EachLeft disk_images disk_after (Kept rules (past.polls + 1))

@@ -3,7 +3,7 @@ use Rattle.std.proofs.Common.{◌≡◌, ℕ, ◌+◌, ◌≤◌, ◌<◌, List,
 use Rattle.checkpoint_journal.specs.JournalOf.{log_of, HasJournal}
 use Rattle.checkpoint_journal.specs.Written.{IsWorn}
 use Rattle.checkpoint_journal.specs.declared.journal.Journal.{Journal}
-use Rattle.checkpoint_store.specs.declared.Checkpoint.{Checkpoint as Saved}
+use Rattle.checkpoint_store.specs.declared.Checkpoint.{Checkpoint}
 use Rattle.lifetimes.specs.Past.{Past, IsLeftAt}
 use Rattle.outside.specs.Image.{Image}
 use Rattle.outside.specs.World.{History}
@@ -19,7 +19,7 @@ use Rattle.poll_core.specs.Polled.{IsSoundIn, Stays, Steps, ComesAfter}
 use Rattle.poll_core.specs.Remembers.{HasMemory, EndsWithMemory, IsLeftBy}
 use Rattle.poll_core.specs.Reopens.{Reopens}
 use Rattle.poll_core.specs.Sequence.{HasSequence, no_slot, of_log}
-use Rattle.poll_core.specs.SessionParts.{store_checkpoint, rules_of_session, journal_of_session}
+use Rattle.poll_core.specs.SessionParts.{checkpoint_of_session, rules_of_session, journal_of_session}
 use Rattle.poll_core.specs.declared.session.Session.{Session}
 use Rattle.slot_store.specs.ChosenSlot.{chosen_slot}
 use Rattle.standing.proofs.MomentLemmas.{apart_before}
@@ -32,13 +32,13 @@ use Rattle.standing.specs.Standing.{Found, nothing, damaged, found, Sound}
 
 -- ---- sequence numbers
 
-journal_number : (image : Image DiskFile) (journal : Journal) (saved : Saved) → HasJournal journal saved image → HasSequence image journal.sequence
+journal_number : (image : Image DiskFile) (journal : Journal) (saved : Checkpoint) → HasJournal journal saved image → HasSequence image journal.sequence
 journal_number image journal saved has = of_log (log_of journal) has.base has.records has.log_is
 
 number_of_found : (rules : Rules) (image : Image DiskFile) (there : Found) → IsFound image there → Sound rules there (image Output) → (sequence : ℕ) × HasSequence image sequence
 number_of_found rules image nothing has sound = (0, no_slot has)
 number_of_found rules image damaged has sound = absurd sound
-number_of_found rules image (found checkpoint) has sound = (has.1.0.sequence, journal_number image has.1.0 has.0 has.1.1)
+number_of_found rules image (found checkpoint) has sound = (has.0.sequence, journal_number image has.0 checkpoint has.1)
 
 -- an image that is sound has a sequence number
 number_of : (rules : Rules) (image : Image DiskFile) → IsSoundIn rules image → (sequence : ℕ) × HasSequence image sequence
@@ -80,25 +80,25 @@ left_later rules laws old new polls early image later left = record {
 
 -- ---- polls
 
-stays_numbered : (journal : Option Journal) (saved : Saved) (old new : Image DiskFile) (polls : ℕ) → EndsWithMemory journal saved old → HasMemory journal saved new → NumberedBy polls old → NumberedBy (polls + 1) new
+stays_numbered : (journal : Option Journal) (saved : Checkpoint) (old new : Image DiskFile) (polls : ℕ) → EndsWithMemory journal saved old → HasMemory journal saved new → NumberedBy polls old → NumberedBy (polls + 1) new
 stays_numbered None saved old new polls ends memory before = numbered_by new 0 (polls + 1) (no_slot memory.0) (omega arith)
 stays_numbered (Some journal) saved old new polls ends memory before =
     numbered_by new journal.sequence (polls + 1) (journal_number new journal saved memory) (omega (arith, before journal.sequence (journal_number old journal saved ends.journal_is)))
 
-gains_numbered : (journal : Option Journal) (saved after : Saved) (old new : Image DiskFile) (polls : ℕ) → EndsWithMemory journal saved old → HasNext journal after new → NumberedBy polls old → NumberedBy (polls + 1) new
+gains_numbered : (journal : Option Journal) (saved after : Checkpoint) (old new : Image DiskFile) (polls : ℕ) → EndsWithMemory journal saved old → HasNext journal after new → NumberedBy polls old → NumberedBy (polls + 1) new
 gains_numbered None saved after old new polls ends next before = numbered_by new next.0.sequence (polls + 1) (journal_number new next.0 after next.1) (omega (arith, next.2))
 gains_numbered (Some journal) saved after old new polls ends next before =
     numbered_by new next.0.sequence (polls + 1) (journal_number new next.0 after next.1) (omega (arith, next.2, before journal.sequence (journal_number old journal saved ends.journal_is)))
 
-pub worn_never : (journal : Option Journal) (saved : Saved) (image : Image DiskFile) (polls : ℕ) → EndsWithMemory journal saved image → NumberedBy polls image → polls < 18446744073709551615 → IsWorn journal → ⊥
+pub worn_never : (journal : Option Journal) (saved : Checkpoint) (image : Image DiskFile) (polls : ℕ) → EndsWithMemory journal saved image → NumberedBy polls image → polls < 18446744073709551615 → IsWorn journal → ⊥
 worn_never None saved image polls ends within few worn = worn
 worn_never (Some journal) saved image polls ends within few worn = omega (arith, within journal.sequence (journal_number image journal saved ends.journal_is), few, worn)
 
 -- A session without a journal opens no slot where it stays.
 stays_closed : (session : Session) (old new : Image DiskFile) → IsLeftBy session old → Stays session old new → chosen_slot old ≡ None → chosen_slot new ≡ None
 stays_closed session old new left stays closed =
-    let none : journal_of_session session ≡ None = found_first (journal_of_session session) (store_checkpoint session) old nothing (left_goes_on session old left).memory closed refl in
-    let memory : HasMemory None (store_checkpoint session) new = subst (λ (journal : Option Journal). HasMemory journal (store_checkpoint session) new) none stays.memory in
+    let none : journal_of_session session ≡ None = found_first (journal_of_session session) (checkpoint_of_session session) old nothing (left_goes_on session old left).memory closed refl in
+    let memory : HasMemory None (checkpoint_of_session session) new = subst (λ (journal : Option Journal). HasMemory journal (checkpoint_of_session session) new) none stays.memory in
     memory.0
 
 -- what a poll leaves of an image, but for what it stands for
@@ -110,14 +110,14 @@ module _ (session : Session) (is : IsSession session) (rules : Rules) (same : ru
   pub kept_by_stays : Stays session old new → Kept rules (past.polls + 1) new
   kept_by_stays stays = record {
     sound = subst (λ (r : Rules). IsSoundIn r new) same (stays_sound session old new is left stays);
-    numbered = stays_numbered (journal_of_session session) (store_checkpoint session) old new past.polls left.memory stays.memory was.numbered;
+    numbered = stays_numbered (journal_of_session session) (checkpoint_of_session session) old new past.polls left.memory stays.memory was.numbered;
   }
 
-  pub kept_by_steps : (after : Saved) (added : List Mark) → ComesAfter session after added → Steps session after added old new → Kept rules (past.polls + 1) new
+  pub kept_by_steps : (after : Checkpoint) (added : List Mark) → ComesAfter session after added → Steps session after added old new → Kept rules (past.polls + 1) new
   kept_by_steps after added comes (inl stays) = kept_by_stays stays
   kept_by_steps after added comes (inr gains) = record {
     sound = subst (λ (r : Rules). IsSoundIn r new) same (steps_sound session after added old new is comes left (inr gains));
-    numbered = gains_numbered (journal_of_session session) (store_checkpoint session) after old new past.polls left.memory gains.memory was.numbered;
+    numbered = gains_numbered (journal_of_session session) (checkpoint_of_session session) after old new past.polls left.memory gains.memory was.numbered;
   }
 
   pub closed_by_stays : IsTrue past.early → Stays session old new → chosen_slot new ≡ None

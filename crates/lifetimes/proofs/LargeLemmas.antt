@@ -2,16 +2,15 @@
 use Rattle.std.proofs.Common.{◌≡◌, ◌≢◌, ℕ, zero, suc, ◌+◌, ◌<◌, ◌≤◌, ◌==◌, List, [], ◌∷◌, ◌++◌, length, get_or, Bool, true, false, refl, sym, ap, subst, ◌∙◌, inl, inr, arith, length-append, eq-eqb, append_assoc}
 use Rattle.std.specs.List.{All, sum_by}
 use Rattle.std.proofs.lemmas.Bool.{cases_eq, ne_eqb}
-use Rattle.std.proofs.lemmas.List.{append-nil, length-map, length-set}
+use Rattle.std.proofs.lemmas.List.{append-nil, length-set}
 use Rattle.std.proofs.lemmas.List.Concat.{flat_map-append, length-flat_map}
 use Rattle.std.proofs.lemmas.List.Elements.{All-nil, All-cons, All-head, All-tail}
 use Rattle.std.proofs.lemmas.List.Sums.{sum_by-cons}
 use Rattle.std.proofs.lemmas.Option.{slice_get-get_or, slice_get_within}
-use Rattle.checkpoint_store.specs.declared.TheConstants.{OUTPUT_LIMIT}
+use Rattle.checkpoint_store.specs.Limits.{output_limit}
 use Rattle.file_pass.specs.Full.{line_of, lines_text}
 use Rattle.lifetimes.specs.Large.{Share, IsShare, text_of, Differ, AreDifferent, Large}
 use Rattle.outside.specs.World.{History, World}
-use Rattle.poll_core.specs.Checkpoints.{row_of}
 use Rattle.poll_core.specs.Overflows.{Overflows, FirstPast}
 use Rattle.poll_core.specs.IsSession.{IsSession}
 use Rattle.poll_core.specs.Polled.{is_first}
@@ -179,7 +178,7 @@ module _ (rules : Rules) (laws : AreRules rules) (history : History) (rows : Lis
       let id : is.1.id ≡ is.0 + 1 = stand.ids.ids is.0 is.1 is.2 in
       (omega (arith, id, is.3), omega (arith, id, is.3, slice_get_within rows is.0 is.1 is.2))
 
-  pub large_by : OUTPUT_LIMIT < length (output_text rules marks) → Large rules history
+  pub large_by : output_limit < length (output_text rules marks) → Large rules history
   large_by long =
       let all = all_shared (length rows) (omega arith) in
       let ids : All (Within weight_of (length rows)) marks = λ k mark inside. id_within (get_or marks k mark) (stand.no_other_line k mark inside) in
@@ -217,7 +216,7 @@ full_long session full marks past =
     ap (λ (ms : List Mark). length (lines_text ms)) whole ∙ ap length (flat_map-append line_of part past.back) ∙ length-append (lines_text part) (lines_text past.back) in
     omega (arith, past.too_much, past.size_then, sizes)
 
-pub fills_large : (session : Session) (full : ℕ) (old new : World) (output : List ℕ) → IsSession session → AreRules (rules_of_session session) → limit_of session ≡ OUTPUT_LIMIT → Overflows session full old new
+pub fills_large : (session : Session) (full : ℕ) (old new : World) (output : List ℕ) → IsSession session → AreRules (rules_of_session session) → limit_of session ≡ output_limit → Overflows session full old new
     → Apart (rules_of_session session).front_size new.history → Stands (rules_of_session session) old.history (checkpoint_of_session session).rows (checkpoint_of_session session).next_id output → length output ≡ kept_of session
     → Large (rules_of_session session) new.history
 fills_large session full old new output is laws limit overflows apart stands size =
@@ -229,7 +228,7 @@ fills_large session full old new output is laws limit overflows apart stands siz
     let P : List Mark → Type 0 = λ ms. LinesStand rules old.history start.rows start.next_id ms in
     let stand : LinesStand rules new.history now.rows now.next_id (stands.marks ++ now.added) =
     looks_stand rules laws first stands.marks looks old.history new.history start overflows.come apart (subst P (sym (append-nil stands.marks)) stands.lines_stand) in
-    let begun : length start.rows ≤ row_limit = omega (arith, length-map session.tracker row_of, is.lawful.count, is.lawful.next_id.1) in
+    let begun : length start.rows ≤ row_limit = omega (arith, is.lawful.count, is.lawful.next_id.1) in
     let sizes : length (output_text rules (stands.marks ++ now.added)) ≡ length output + length (lines_text now.added) =
     ap length (flat_map-append rules.line stands.marks now.added) ∙ length-append (output_text rules stands.marks) (output_text rules now.added) ∙ ap (λ (o : List ℕ). length o + length (lines_text now.added)) (sym stands.whole_lines) in
     large_by rules laws new.history now.rows now.next_id (stands.marks ++ now.added) stand (few_rows rules first looks start begun)

@@ -3,7 +3,7 @@ use Rattle.std.proofs.Common.{◌≡◌, ℕ, ◌+◌, ◌<◌, ◌≤◌, List,
 use Rattle.std.specs.Prelude.{reverse, slice_get, is_some, false, Vec}
 use Rattle.std.specs.declared.alloc.Global.{Global}
 use Rattle.std.proofs.lemmas.List.{reverse-append, length-reverse, take_more, take_all, length-take}
-use Rattle.lifetimes.specs.Course.{Course, Runs, begins, goes_on}
+use Rattle.lifetimes.specs.Course.{Course, Begins, Runs, begins, goes_on}
 use Rattle.lifetimes.specs.Ended.{history_of, IsEnding, FailsAt, IsScriptFault, CantPoll, CantOpen, CantStep}
 use Rattle.lifetimes.specs.Life.{IsLifeAt, course_of, CameTo, Cant, AreFew}
 use Rattle.lifetimes.specs.Past.{CantOpenBy}
@@ -12,7 +12,8 @@ use Rattle.lifetimes.specs.declared.event.Event.{Event}
 use Rattle.lifetimes.specs.declared.fault.ScriptFault.{ScriptFault}
 use Rattle.lifetimes.specs.declared.fault.ScriptFault.TheVariants.{Setup, NotOpen, AlreadyOpen, NotLawful, Memory}
 use Rattle.lifetimes.specs.declared.life.Life.{Life}
-use Rattle.outside.specs.World.{History}
+use Rattle.mem_world.specs.MemDisk.{seen_of}
+use Rattle.outside.specs.declared.disk.DiskFile.{DiskFile}
 use Rattle.poll_core.specs.MadeOf.{HasRules}
 use Rattle.poll_core.specs.declared.session.Session.{Session}
 use Rattle.standing.specs.Rules.{Rules}
@@ -32,11 +33,10 @@ pub next_events : (script : List Event) (at : ℕ) (event : Event) → at < leng
 next_events script at event within is =
     ap reverse (take_more script at event within) ∙ reverse_push (take at script) (get_or script at event) ∙ ap (λ (e : Event). e ∷ reverse (take at script)) is
 
-pub run_begins : (text : List ℕ) (script : List Event) (rules : Rules) (life : Life) → HasRules text rules → IsLifeAt rules [] life → (course_of life).history ≡ [] → life.session ≡ None → Run text script 0 life []
-run_begins text script rules life has at empty closed =
-    let no_session : is_some life.session ≡ false = ap (λ (s : Option Session). is_some s) closed in
-    let first : Runs rules [] [] (record { history = []; has_session = is_some life.session }) = subst (λ (b : Bool). Runs rules [] [] (record { history = []; has_session = b })) (sym no_session) begins in
-    (rules, has, record { life_is = at; runs = subst (λ (h : History). Runs rules [] [] (record { history = h; has_session = is_some life.session })) (sym empty) first })
+pub run_begins : (text : List ℕ) (script : List Event) (rules : Rules) (life : Life) → HasRules text rules → IsLifeAt rules [] life → (course_of life).history ≡ [] → ((file : DiskFile) → seen_of life.disk file ≡ []) → life.session ≡ None → Run text script 0 life []
+run_begins text script rules life has at empty empty_disk closed =
+    let first : Begins (course_of life) = record { history = empty; disk = empty_disk; closed = ap (λ (s : Option Session). is_some s) closed } in
+    (rules, has, record { life_is = at; runs = begins (course_of life) first })
 
 pub run_goes_on : (text : List ℕ) (script : List Event) (at : ℕ) (event : Event) (old new : Life) (marks : List ℕ) (mark : ℕ) → at < length script → get_or script at event ≡ event → mark ≡ length (history_of new.tree)
     → ((rules : Rules) (events : List Event) → AreFew events → HasRules text rules → IsLifeAt rules events old → CameTo rules events event old new)

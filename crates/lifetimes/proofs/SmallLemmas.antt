@@ -213,13 +213,13 @@ look_between : (rules : Rules) (looks : List Look) (old new : History) (here : L
 look_between rules looks old new here come there = subst (λ (h : Look). IsLater old h.moment × IsLater h.moment new) there.2 (come_between rules looks old new there.0 here come there.1)
 
 pub small_whole : (rules : Rules) → AreRules rules → (first : Bool) (stretch : Stretch) (looks : List Look) (before after : Checkpoint) (added : List Mark) (pass : Pass rules first stretch looks before after added) (sums : Sums) (output : List ℕ)
-    → stretch.faults_before ≡ 0 → stretch.faults_after ≡ 0 → Apart rules.front_size stretch.new → IsLawful stretch.new → IsUndisturbed stretch.old stretch.new
+    → stretch.faults_after ≡ stretch.faults_before → stretch.faults_before < 18446744073709551615 → Apart rules.front_size stretch.new → IsLawful stretch.new → IsUndisturbed stretch.old stretch.new
     → Stands rules stretch.old before.rows before.next_id output → AreSums rules first stretch looks before after added pass sums → IsSmall stretch.new → AreWhole rules stretch.new after.rows
-small_whole rules laws first stretch looks before after added pass sums output none none_after apart lawful still stands are small = λ path file included named filled.
+small_whole rules laws first stretch looks before after added pass sums output none few apart lawful still stands are small = λ path file included named filled.
     let P : List Mark → Type 0 = λ ms. LinesStand rules stretch.old before.rows before.next_id ms in
     let free = unlimited rules laws first stands.marks stretch.new small lawful apart looks stretch.old stretch.new (start_at before) pass.come (later_none stretch.new) (subst P (sym (append-nil stands.marks)) stands.lines_stand) in
-    let counted = pass.calls.counted (omega (arith, none_after)) in
-    let failures : count_by is_short looks + (length pass.misses + length pass.unlisteds) ≡ 0 = omega (arith, counted, none, none_after) in
+    let counted = pass.calls.counted (omega (arith, none, few)) in
+    let failures : count_by is_short looks + (length pass.misses + length pass.unlisteds) ≡ 0 = omega (arith, counted, none) in
     let tells : TellNothingLeft sums = record {
       left = omega (arith, are.left, count_none rules first (has_more rules first) looks (start_at before) free.near);
       failed = omega (arith, are.failed, failures);

@@ -4,6 +4,7 @@ use Rattle.lifetimes.specs.Refusal.{setup_fault}
 use Rattle.lifetimes.specs.declared.fault.ScriptFault.{ScriptFault}
 use Rattle.lifetimes.specs.declared.fault.ScriptFault.TheVariants.{Memory}
 use Rattle.poll_core.specs.declared.fault.OpenFault.{OpenFault}
+use Rattle.poll_core.specs.declared.fault.OpenFault.TheVariants as opening
 use Rattle.poll_core.specs.declared.poll_fault.PollFault.{PollFault}
 use Rattle.poll_core.specs.declared.poll_fault.PollFault.TheVariants as poll
 use Rattle.poll_core.specs.declared.session.Session.{Session}
@@ -17,7 +18,8 @@ next_of (Err (poll.OutputFull size)) = Ok None
 next_of (Err (poll.Worn sequence)) = Ok None
 next_of (Err poll.Memory) = Err Memory
 
--- an opening that is refused ends the script
-abbrev pub session_of : Result Session OpenFault → Result Session ScriptFault
-session_of (Ok session) = Ok session
-session_of (Err fault) = Err (setup_fault fault)
+-- An opening leaves a session, or none where a call on the disk failed. Any other refusal ends the script.
+abbrev pub opened_of : Result Session OpenFault → Result (Option Session) ScriptFault
+opened_of (Ok session) = Ok (Some session)
+opened_of (Err opening.Disk) = Ok None
+opened_of (Err fault) = Err (setup_fault fault)

@@ -3,7 +3,7 @@ use Rattle.std.specs.Prelude.{◌≡◌, ℕ, Bool, true, false, List, take, rev
 use Rattle.lifetimes.specs.Course.{Course, Runs}
 use Rattle.lifetimes.specs.Large.{Large}
 use Rattle.lifetimes.specs.Refusal.{IsSetup}
-use Rattle.lifetimes.specs.Script.{polls_of, stops_of, are_early, EndsUndisturbed}
+use Rattle.lifetimes.specs.Script.{counts_of, EndsUndisturbed}
 use Rattle.lifetimes.specs.Small.{IsSmall, IsReachedIn}
 use Rattle.lifetimes.specs.declared.ending.Ending.{Ending}
 use Rattle.lifetimes.specs.declared.event.Event.{Event}
@@ -41,18 +41,18 @@ NoneOpen disk = EachLeft disk_images disk (λ image. chosen_slot image ≡ None)
 
 -- The events are those of the script, the newest first.
 pub record IsEndingBy (rules : Rules) (events : List Event) (ending : Ending) : Type 0 where
-  -- The world took a course that the script allows, and the marks tell where each event ended.
+  -- The world and the disk took a course that the script allows, and the marks tell where each event ended.
   pub has_session : Bool
-  pub runs : Runs rules events (reverse ending.marks.items) (record { history = history_of ending.tree; has_session = has_session })
+  pub runs : Runs rules events (reverse ending.marks.items) (record { history = history_of ending.tree; disk = ending.disk; has_session = has_session })
   -- Where files can be told apart, whatever a crash may leave stands for the history.
   pub standing : Apart rules.front_size (history_of ending.tree) → AllStand rules (history_of ending.tree) ending.disk
   -- After a poll that nothing disturbed, a small history's files are taken as a whole, unless they have too many lines.
   pub reached : Apart rules.front_size (history_of ending.tree) → EndsUndisturbed events → IsSmall (history_of ending.tree)
       → (Large rules (history_of ending.tree) → ⊥) → AllReached rules (history_of ending.tree) ending.disk
   -- Where each poll was stopped before its fourth call, nothing was committed.
-  pub none_open : IsTrue (are_early events) → NoneOpen ending.disk
-  pub polls : ending.polls ≡ polls_of events
-  pub stops : ending.stops ≡ stops_of events
+  pub none_open : IsTrue (counts_of events).early → NoneOpen ending.disk
+  pub polls : ending.polls ≡ (counts_of events).polls
+  pub stops : ending.stops ≡ (counts_of events).stops
 
 -- an ending of the script with the settings that this text says
 pub record IsEnding (text : List ℕ) (script : List Event) (ending : Ending) : Type 0 where

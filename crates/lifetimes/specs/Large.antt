@@ -1,6 +1,6 @@
 -- Histories whose files may have more lines together than an output has room for.
 use Rattle.std.specs.Prelude.{◌≢◌, ℕ, ◌<◌, ◌≤◌, All, List, [], ◌∷◌, length, drop, sum_by, ⊤}
-use Rattle.checkpoint_store.specs.declared.TheConstants.{OUTPUT_LIMIT}
+use Rattle.checkpoint_store.specs.Limits.{output_limit}
 use Rattle.outside.specs.World.{History, bytes}
 use Rattle.standing.specs.Limits.{row_limit}
 use Rattle.standing.specs.Marks.{numbered}
@@ -47,4 +47,4 @@ pub record Large (rules : Rules) (history : History) : Type 0 where
   pub few : length shares ≤ row_limit
   pub are : All (IsShare rules history) shares
   pub differ : AreDifferent shares
-  pub long : OUTPUT_LIMIT < sum_by (λ (share : Share). length (text_of rules history share)) shares
+  pub long : output_limit < sum_by (λ (share : Share). length (text_of rules history share)) shares

@@ -1,6 +1,7 @@
 pub mod Refusal
 pub mod Answered
 pub mod Script
+pub mod Stopped
 pub mod Large
 pub mod Small
 pub mod Course

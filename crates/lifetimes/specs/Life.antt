@@ -3,9 +3,10 @@ use Rattle.std.specs.Prelude.{◌≡◌, ◌<◌, ℕ, List, ◌∷◌, length, 
 use Rattle.lifetimes.specs.Course.{Course, Comes}
 use Rattle.lifetimes.specs.Ended.{history_of, CantPoll, CantOpen, CantStep}
 use Rattle.lifetimes.specs.Large.{Large}
-use Rattle.lifetimes.specs.Past.{Past, IsTreeAt, IsDiskAt, IsReady, IsOpened, ReachesAll}
+use Rattle.lifetimes.specs.Past.{Past, Failures, Waits, IsTreeAt, IsDiskAt, IsReady, IsOpened, ReachesAll}
 use Rattle.lifetimes.specs.Refusal.{IsSetup}
-use Rattle.lifetimes.specs.Script.{plan_of, stop_of, are_early, polls_of, stops_of, EndsUndisturbed}
+use Rattle.lifetimes.specs.Script.{Halt, pending, counts_of, EndsUndisturbed}
+use Rattle.lifetimes.specs.Stopped.{halt_of}
 use Rattle.lifetimes.specs.declared.event.Event.{Event}
 use Rattle.lifetimes.specs.declared.fault.ScriptFault.{ScriptFault}
 use Rattle.lifetimes.specs.declared.fault.ScriptFault.TheVariants.{Setup, NotOpen, AlreadyOpen, NotLawful, Memory}
@@ -14,11 +15,22 @@ use Rattle.standing.specs.AreRules.{AreRules}
 use Rattle.standing.specs.Rules.{Rules}
 
 abbrev pub past_of : List Event → Life → Past
-past_of events life = record { history = history_of life.tree; polls = polls_of events; early = are_early events }
+past_of events life = record { history = history_of life.tree; polls = (counts_of events).polls; early = (counts_of events).early }
 
--- the calls of the stop that is set
-abbrev pub calls_set : Life → Option ℕ
-calls_set life = option_map (λ stopping. stopping.calls) life.stopping
+-- the stop that is set
+abbrev pub stop_set : Life → Option Halt
+stop_set life = option_map halt_of life.stopping
+
+-- No more calls have failed, or are to, than there were events.
+abbrev pub failures_of : List ℕ → List Event → Failures
+failures_of calls events = record { waiting = length calls; most = length events }
+
+abbrev pub waits_of : List Event → Waits
+waits_of events = record {
+  plan = (pending events).plan;
+  tree = failures_of (pending events).tree_fails events;
+  disk = failures_of (pending events).disk_fails events;
+}
 
 -- where there is a session, its disk is ready for it
 abbrev pub IsReadyLife : Life → Type 0
@@ -26,16 +38,16 @@ IsReadyLife life = IfSome life.session (λ session. IsReady session life.disk)
 
 pub record IsLifeAt (rules : Rules) (events : List Event) (life : Life) : Type 0 where
   pub laws : AreRules rules
-  pub tree : IsTreeAt (plan_of events) life.tree
-  pub disk : IsDiskAt rules (past_of events life) life.disk
+  pub tree : IsTreeAt (waits_of events).plan (waits_of events).tree life.tree
+  pub disk : IsDiskAt rules (past_of events life) (waits_of events).disk life.disk
   pub session : IfSome life.session (IsOpened rules)
-  pub stopping : calls_set life ≡ stop_of events
-  pub polls : life.polls ≡ polls_of events
-  pub stops : life.stops ≡ stops_of events
+  pub stopping : stop_set life ≡ (pending events).stop
+  pub polls : life.polls ≡ (counts_of events).polls
+  pub stops : life.stops ≡ (counts_of events).stops
   pub reached : EndsUndisturbed events → (Large rules (history_of life.tree) → ⊥) → ReachesAll rules (history_of life.tree) life.disk
 
 abbrev pub course_of : Life → Course
-course_of life = record { history = history_of life.tree; has_session = is_some life.session }
+course_of life = record { history = history_of life.tree; disk = life.disk; has_session = is_some life.session }
 
 -- no script has more events
 abbrev pub AreFew : List Event → Type 0

@@ -1,69 +1,81 @@
 -- What a script says of its events, whatever the world did. The newest event comes first, as in histories.
 use Rattle.std.specs.Prelude.{◌≡◌, ℕ, ◌+◌, nat_le, List, [], ◌∷◌, ◌++◌, Bool, true, false, ◌&&◌, Option, None, Some}
 use Rattle.lifetimes.specs.declared.event.Event.{Event}
-use Rattle.lifetimes.specs.declared.event.Event.TheVariants.{World, During, Poll, Stop, Reopen}
+use Rattle.lifetimes.specs.declared.event.Event.TheVariants.{World, During, Poll, Stop, FailDisk, FailTree, Reopen}
 use Rattle.mem_world.specs.WorldSteps.{event_of}
 use Rattle.outside.specs.World.{Event as WorldEvent}
 
--- the steps that wait behind these events, each with the number of calls before it: those since the last poll or opening
-abbrev pub plan_of : List Event → List (ℕ × WorldEvent)
-plan_of [] = []
-plan_of (World _ ∷ before) = plan_of before
-plan_of (During calls step ∷ before) = plan_of before ++ (calls, event_of step) ∷ []
-plan_of (Poll ∷ before) = []
-plan_of (Stop _ _ ∷ before) = plan_of before
-plan_of (Reopen ∷ before) = []
+-- ---- what waits for the next poll or opening
 
--- the calls of the stop that is set behind these events: of those since the last poll or opening, the last one's
-abbrev pub stop_of : List Event → Option ℕ
-stop_of [] = None
-stop_of (World _ ∷ before) = stop_of before
-stop_of (During _ _ ∷ before) = stop_of before
-stop_of (Poll ∷ before) = None
-stop_of (Stop calls _ ∷ before) = Some calls
-stop_of (Reopen ∷ before) = None
+-- so many calls pass, and of what is left then the outcome picks an image
+pub record Halt : Type 0 where
+  pub calls : ℕ
+  pub outcome : ℕ
 
-abbrev pub polls_of : List Event → ℕ
-polls_of [] = 0
-polls_of (World _ ∷ before) = polls_of before
-polls_of (During _ _ ∷ before) = polls_of before
-polls_of (Poll ∷ before) = polls_of before + 1
-polls_of (Stop _ _ ∷ before) = polls_of before
-polls_of (Reopen ∷ before) = polls_of before
+pub record Pending : Type 0 where
+  -- steps of others, each with the number of calls before it
+  pub plan : List (ℕ × WorldEvent)
+  pub stop : Option Halt
+  -- the numbers of the calls on the disk, and of those on the tree, that are to fail
+  pub disk_fails : List ℕ
+  pub tree_fails : List ℕ
+
+abbrev pub nothing_pending : Pending
+nothing_pending = record { plan = []; stop = None; disk_fails = []; tree_fails = [] }
+
+-- Polls and openings reach what waits, or drop it. Of two stops the later counts.
+abbrev pub pending_after : Event → Pending → Pending
+pending_after (World _) waits = waits
+pending_after (During calls step) waits = record waits { plan = waits.plan ++ (calls, event_of step) ∷ [] }
+pending_after Poll waits = nothing_pending
+pending_after (Stop calls outcome) waits = record waits { stop = Some (record { calls = calls; outcome = outcome }) }
+pending_after (FailDisk call) waits = record waits { disk_fails = waits.disk_fails ++ call ∷ [] }
+pending_after (FailTree call) waits = record waits { tree_fails = waits.tree_fails ++ call ∷ [] }
+pending_after Reopen waits = nothing_pending
+
+abbrev pub pending : List Event → Pending
+pending [] = nothing_pending
+pending (event ∷ before) = pending_after event (pending before)
+
+-- ---- what is counted
+
+pub record Counts : Type 0 where
+  pub polls : ℕ
+  -- polls and openings that a stop ended
+  pub stops : ℕ
+  -- each poll was stopped before its fourth call
+  pub early : Bool
 
 -- one, where a stop is set
-abbrev pub stops_by : Option ℕ → ℕ
+abbrev pub stops_by : Option Halt → ℕ
 stops_by None = 0
 stops_by (Some _) = 1
 
--- how many polls and openings a stop ended
-abbrev pub stops_of : List Event → ℕ
-stops_of [] = 0
-stops_of (World _ ∷ before) = stops_of before
-stops_of (During _ _ ∷ before) = stops_of before
-stops_of (Poll ∷ before) = stops_of before + stops_by (stop_of before)
-stops_of (Stop _ _ ∷ before) = stops_of before
-stops_of (Reopen ∷ before) = stops_of before + stops_by (stop_of before)
-
 -- a stop is set, before the fourth call
-abbrev pub is_early : Option ℕ → Bool
+abbrev pub is_early : Option Halt → Bool
 is_early None = false
-is_early (Some calls) = nat_le calls 3
+is_early (Some halt) = nat_le halt.calls 3
 
--- each poll was stopped before its fourth call
-abbrev pub are_early : List Event → Bool
-are_early [] = true
-are_early (World _ ∷ before) = are_early before
-are_early (During _ _ ∷ before) = are_early before
-are_early (Poll ∷ before) = are_early before && is_early (stop_of before)
-are_early (Stop _ _ ∷ before) = are_early before
-are_early (Reopen ∷ before) = are_early before
+abbrev pub counts_after : Event → Pending → Counts → Counts
+counts_after (World _) waits counts = counts
+counts_after (During _ _) waits counts = counts
+counts_after Poll waits counts = record { polls = counts.polls + 1; stops = counts.stops + stops_by waits.stop; early = counts.early && is_early waits.stop }
+counts_after (Stop _ _) waits counts = counts
+counts_after (FailDisk _) waits counts = counts
+counts_after (FailTree _) waits counts = counts
+counts_after Reopen waits counts = record counts { stops = counts.stops + stops_by waits.stop }
 
--- The last event is a poll, which no stop ended, and for which no step was planned.
+abbrev pub counts_of : List Event → Counts
+counts_of [] = record { polls = 0; stops = 0; early = true }
+counts_of (event ∷ before) = counts_after event (pending before) (counts_of before)
+
+-- The last event is a poll for which nothing waited.
 abbrev pub EndsUndisturbed : List Event → Type 0
 EndsUndisturbed [] = ⊥
 EndsUndisturbed (World _ ∷ before) = ⊥
 EndsUndisturbed (During _ _ ∷ before) = ⊥
-EndsUndisturbed (Poll ∷ before) = (stop_of before ≡ None) × (plan_of before ≡ [])
+EndsUndisturbed (Poll ∷ before) = pending before ≡ nothing_pending
 EndsUndisturbed (Stop _ _ ∷ before) = ⊥
+EndsUndisturbed (FailDisk _ ∷ before) = ⊥
+EndsUndisturbed (FailTree _ ∷ before) = ⊥
 EndsUndisturbed (Reopen ∷ before) = ⊥

@@ -1,11 +1,10 @@
 -- Histories whose files a poll takes whole.
 use Rattle.std.specs.Prelude.{◌≡◌, ℕ, ◌≤◌, ◌<◌, false, List, [], ◌∷◌, length, Some}
 use Rattle.checkpoint_journal.specs.JournalOf.{HasCheckpoint}
-use Rattle.checkpoint_store.specs.declared.Checkpoint.{Checkpoint as Saved}
+use Rattle.checkpoint_store.specs.declared.Checkpoint.{Checkpoint}
 use Rattle.outside.specs.Image.{Image}
 use Rattle.outside.specs.World.{create, append, rename, remove, look, miss, unlisted, History, bytes}
 use Rattle.outside.specs.declared.disk.DiskFile.{DiskFile}
-use Rattle.poll_core.specs.Checkpoints.{rows_of}
 use Rattle.standing.specs.Limits.{row_limit, most_taken, is_compressed}
 use Rattle.standing.specs.Moments.{IsNamed}
 use Rattle.standing.specs.Owner.{IsOwner}
@@ -47,6 +46,6 @@ AreWhole rules history rows = (path : List ℕ) (file : ℕ) → Includes rules 
 
 -- The image has a checkpoint, and by its rows every such file is.
 pub record IsReachedIn (rules : Rules) (history : History) (image : Image DiskFile) : Type 0 where
-  pub checkpoint : Saved
+  pub checkpoint : Checkpoint
   pub has : HasCheckpoint (Some checkpoint) image
-  pub whole : AreWhole rules history (rows_of checkpoint.rows)
+  pub whole : AreWhole rules history checkpoint.rows

@@ -15,6 +15,12 @@ pub enum Event {
     /// It ends with what a crash then leaves, of which `outcome` picks one image, and with no session, also where it made
     /// fewer calls. Of two stops before one such event the later counts.
     Stop { calls: u32, outcome: u32 },
+    /// In the next poll or opening the call on the disk with this number fails, where 1 is the first. One that isn't reached is
+    /// dropped. Where the poll or the opening ends by it there is no session, and the script goes on.
+    FailDisk { call: u32 },
+    /// In the next poll the call on the tree with this number fails, where 1 is the first. One that isn't reached is dropped, and
+    /// an opening reaches none.
+    FailTree { call: u32 },
     /// A session is opened on what the disk has. There must be none.
     Reopen,
 }

@@ -1,9 +1,10 @@
 //! What the definitions imply, for those who play scripts. The functions do nothing; their clauses are the laws.
-ghost use Rattle.std.specs.Prelude.{◌≡◌, ℕ, Bool, List, [], length};
-ghost use Rattle.checkpoint_store.specs.declared.TheConstants.{OUTPUT_LIMIT};
+ghost use Rattle.std.specs.Prelude.{◌≡◌, ◌<◌, ℕ, Bool, List, [], length};
+ghost use Rattle.checkpoint_store.specs.Limits.{output_limit};
 ghost use Rattle.lifetimes.specs.Course.{GoesBy};
 ghost use Rattle.lifetimes.specs.Large.{Large};
 ghost use Rattle.lifetimes.specs.Small.{AreWhole, IsSmall};
+ghost use Rattle.outside.specs.Count.{last_count};
 ghost use Rattle.outside.specs.Lawful.{IsLawful};
 ghost use Rattle.outside.specs.World.{World};
 ghost use Rattle.poll_core.specs.IsSession.{IsSession};
@@ -20,11 +21,11 @@ ghost use Rattle.standing.specs.Rules.{Rules};
 ghost use Rattle.standing.specs.Stands.{Stands};
 ghost use Rattle.standing.specs.Sums.{AreSums, Sums};
 
-/// A poll over which no call failed, and in which no other process did a step, takes all files of a small history as a whole.
+/// A poll in which no call failed, and in which no other process did a step, takes all files of a small history as a whole.
 pub fn a_small_history_is_taken_whole()
     ensures { (rules : Rules) (first : Bool) (stretch : Stretch) (looks : List Look) (before after : Checkpoint)
         (added : List Mark) (pass : Pass rules first stretch looks before after added) (sums : Sums) (output : List ℕ)
-        → AreRules rules → stretch.faults_before ≡ 0 → stretch.faults_after ≡ 0 → Apart rules.front_size stretch.new
+        → AreRules rules → stretch.faults_after ≡ stretch.faults_before → stretch.faults_before < last_count → Apart rules.front_size stretch.new
         → IsLawful stretch.new → GoesBy [] stretch.old stretch.new
         → Stands rules stretch.old before.rows before.next_id output
         → AreSums rules first stretch looks before after added pass sums → IsSmall stretch.new
@@ -34,7 +35,7 @@ pub fn a_small_history_is_taken_whole()
 /// Where files can be told apart, the output of a session gets longer than 2^40 bytes only by the lines of a large history.
 pub fn only_a_large_history_fills_an_output()
     ensures { (session : Session) (full : ℕ) (old new : World) (output : List ℕ) → IsSession session
-        → AreRules (rules_of_session session) → limit_of session ≡ OUTPUT_LIMIT → Overflows session full old new
+        → AreRules (rules_of_session session) → limit_of session ≡ output_limit → Overflows session full old new
         → Apart (rules_of_session session).front_size new.history
         → Stands (rules_of_session session) old.history (checkpoint_of_session session).rows
         (checkpoint_of_session session).next_id output

@@ -2,6 +2,8 @@
 ghost use Rattle.std.specs.Prelude.{◌≡◌, ◌<◌, ℕ, List, [], ◌∷◌, length, Option, Some, None, IfOk, IfErr, IfSome, OnOk};
 ghost use Rattle.lifetimes.specs.Life.{AreFew, CameTo, Cant, IsLifeAt, IsReadyLife, course_of};
 ghost use Rattle.lifetimes.specs.declared.event.Event.{Event};
+ghost use Rattle.mem_world.specs.MemDisk.{seen_of};
+ghost use Rattle.outside.specs.declared.disk.DiskFile.{DiskFile};
 ghost use Rattle.poll_core.specs.MadeOf.{HasRules};
 ghost use Rattle.standing.specs.AreRules.{AreRules};
 ghost use Rattle.standing.specs.Rules.{Rules};
@@ -32,6 +34,7 @@ impl Life {
         ensures ready { IfOk result IsReadyLife }
         ensures begins { IfOk result (λ life. (rules : Rules) → AreRules rules → IsLifeAt rules [] life) }
         ensures tree { IfOk result (λ life. (course_of life).history ≡ []) }
+        ensures disk { IfOk result (λ life. (file : DiskFile) → seen_of life.disk file ≡ []) }
         ensures session { IfOk result (λ life. life.session ≡ None) }
     {
         Ok(Life {
@@ -74,6 +77,14 @@ impl Life {
             }
             Event::Stop { calls, outcome } => {
                 self.stop(*calls, *outcome);
+                Ok(())
+            }
+            Event::FailDisk { call } => {
+                self.fail_disk(alloc, *call)?;
+                Ok(())
+            }
+            Event::FailTree { call } => {
+                self.fail_tree(alloc, *call)?;
                 Ok(())
             }
             Event::Reopen => {
@@ -139,6 +150,28 @@ impl Life {
         self.stopping = Some(Stopping { calls, outcome });
     }
 
+    fn fail_disk(&mut self, alloc: Global, call: u32) -> Result<(), ScriptFault>
+        requires { IsReadyLife self.old }
+        ensures ready { OnOk result (IsReadyLife self.new) }
+        ensures came { OnOk result ((rules : Rules) (events : List Event) → IsLifeAt rules events self.old
+            → CameTo rules events (Event.FailDisk call) self.old self.new) }
+        ensures memory { IfErr result (λ fault. fault ≡ ScriptFault.Memory) }
+    {
+        self.disk.fail(alloc, call)?;
+        Ok(())
+    }
+
+    fn fail_tree(&mut self, alloc: Global, call: u32) -> Result<(), ScriptFault>
+        requires { IsReadyLife self.old }
+        ensures ready { OnOk result (IsReadyLife self.new) }
+        ensures came { OnOk result ((rules : Rules) (events : List Event) → IsLifeAt rules events self.old
+            → CameTo rules events (Event.FailTree call) self.old self.new) }
+        ensures memory { IfErr result (λ fault. fault ≡ ScriptFault.Memory) }
+    {
+        self.tree.fail(alloc, call)?;
+        Ok(())
+    }
+
     fn poll(&mut self, alloc: Global, at: usize) -> Result<(), ScriptFault>
         requires { IsReadyLife self.old }
         ensures ready { OnOk result (IsReadyLife self.new) }
@@ -170,7 +203,7 @@ impl Life {
         }
     }
 
-    // The steps that wait are dropped.
+    // The steps and the failures of the tree that wait are dropped.
     fn reopen(&mut self, alloc: Global, settings: &[u8], at: usize) -> Result<(), ScriptFault>
         requires { IsReadyLife self.old }
         ensures ready { OnOk result (IsReadyLife self.new) }
@@ -185,7 +218,8 @@ impl Life {
         self.tree.clear_plans();
         match self.stopping.take() {
             None => {
-                self.session = Some(open(alloc, &mut self.disk, settings)?);
+                let opened = open(alloc, &mut self.disk, settings)?;
+                self.session = opened;
                 Ok(())
             }
             Some(stopping) => {

@@ -1,10 +1,10 @@
 // Polls in a script.
-ghost use Rattle.std.specs.Prelude.{◌≡◌, ℕ, List, Some, false, IfOk, IfErr, IfSome, OnOk};
+ghost use Rattle.std.specs.Prelude.{◌≡◌, Some, false, IfOk, IfErr, IfSome, OnOk};
 ghost use Rattle.lifetimes.specs.Answered.{next_of};
 ghost use Rattle.lifetimes.specs.Ended.{history_of};
-ghost use Rattle.lifetimes.specs.Past.{GoesOn, IsDiskAt, IsReady, IsTreeAt, IsTreePolled, MayPoll, Past, polled};
+ghost use Rattle.lifetimes.specs.Past.{GoesOn, IsDiskAt, IsReady, IsTreeAt, IsTreePolled, MayPoll, Past, Waits, dropped, polled};
 ghost use Rattle.lifetimes.specs.Script.{is_early};
-ghost use Rattle.outside.specs.World.{Event};
+ghost use Rattle.lifetimes.specs.Stopped.{IsStopped, halt_of};
 ghost use Rattle.standing.specs.Rules.{Rules};
 
 use crate::ScriptFault;
@@ -14,7 +14,7 @@ use mem_world::{MemDisk, MemTree};
 use poll_core::{PollFault, Session, Summary};
 use std::alloc::Global;
 
-// The next session, or none where the poll is refused. The steps that the poll didn't reach are dropped.
+// The next session, or none where the poll is refused. The steps and the failures that the poll didn't reach are dropped.
 pub(crate) fn poll_through(
     alloc: Global,
     tree: &mut MemTree,
@@ -23,17 +23,18 @@ pub(crate) fn poll_through(
 ) -> Result<Option<Session>, ScriptFault>
     requires { IsReady session disk.old }
     ensures ready { IfOk result (λ next. IfSome next (λ session. IsReady session disk.new)) }
-    ensures tree { (plan : List (ℕ × Event)) → IsTreeAt plan tree.old → IsTreePolled plan tree.old tree.new }
-    ensures disk { OnOk result ((rules : Rules) (plan : List (ℕ × Event)) (past : Past) → MayPoll rules plan past session tree.old disk.old
-        → IsDiskAt rules (polled past (history_of tree.new) false) disk.new) }
-    ensures goes_on { IfOk result (λ next. (rules : Rules) (plan : List (ℕ × Event)) (past : Past)
-        → MayPoll rules plan past session tree.old disk.old → GoesOn rules plan (history_of tree.new) disk.new next) }
+    ensures tree { (waits : Waits) → IsTreeAt waits.plan waits.tree tree.old → IsTreePolled waits tree.old tree.new }
+    ensures disk { OnOk result ((rules : Rules) (waits : Waits) (past : Past) → MayPoll rules waits past session tree.old disk.old
+        → IsDiskAt rules (polled past (history_of tree.new) false) (dropped waits.disk) disk.new) }
+    ensures goes_on { IfOk result (λ next. (rules : Rules) (waits : Waits) (past : Past)
+        → MayPoll rules waits past session tree.old disk.old → GoesOn rules waits (history_of tree.new) disk.new next) }
     ensures memory { IfErr result (λ fault. fault ≡ ScriptFault.Memory) }
 {
     let polled = session.poll(alloc, tree, disk);
     tree_keeps_its_terms(tree);
     disk_keeps_its_terms(disk);
     tree.clear_plans();
+    disk.clear_plans();
     next_of(polled)
 }
 
@@ -46,9 +47,10 @@ pub(crate) fn poll_stopped(
     stopping: Stopping,
 ) -> Result<(), ScriptFault>
     requires { IsReady session disk.old }
-    ensures tree { (plan : List (ℕ × Event)) → IsTreeAt plan tree.old → IsTreePolled plan tree.old tree.new }
-    ensures disk { OnOk result ((rules : Rules) (plan : List (ℕ × Event)) (past : Past) → MayPoll rules plan past session tree.old disk.old
-        → IsDiskAt rules (polled past (history_of tree.new) (is_early (Some stopping.calls))) disk.new) }
+    ensures tree { (waits : Waits) → IsTreeAt waits.plan waits.tree tree.old → IsTreePolled waits tree.old tree.new }
+    ensures disk { OnOk result ((rules : Rules) (waits : Waits) (past : Past) → MayPoll rules waits past session tree.old disk.old
+        → IsDiskAt rules (polled past (history_of tree.new) (is_early (Some (halt_of stopping)))) (dropped waits.disk) disk.new) }
+    ensures stopped { OnOk result (IsStopped (halt_of stopping) disk.old disk.new) }
     ensures memory { IfErr result (λ fault. fault ≡ ScriptFault.Memory) }
 {
     disk.fuse(stopping.calls);

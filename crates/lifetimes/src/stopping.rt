@@ -1,6 +1,6 @@
 // Stops, and what a crash makes of a disk.
 ghost use Rattle.std.specs.Prelude.{◌≡◌, OnOk};
-ghost use Rattle.lifetimes.specs.Past.{IsDiskAt, LeavesAt, Past};
+ghost use Rattle.lifetimes.specs.Past.{Failures, IsDiskAt, LeavesAt, Past, dropped};
 ghost use Rattle.mem_world.specs.CrashOutcome.{left_by, tear_of};
 ghost use Rattle.mem_world.specs.DiskLog.{calls_of};
 ghost use Rattle.mem_world.specs.MemDisk.{history_of, seen_of};
@@ -20,7 +20,7 @@ pub(crate) struct Stopping {
 
 // The disk becomes what a crash leaves of it.
 pub(crate) fn crash(alloc: Global, disk: &mut MemDisk, outcome: u32) -> Result<(), AllocError>
-    ensures left { OnOk result ((rules : Rules) (past : Past) → LeavesAt rules past disk.old → IsDiskAt rules past disk.new) }
+    ensures left { OnOk result ((rules : Rules) (past : Past) (failures : Failures) → LeavesAt rules past disk.old → IsDiskAt rules past (dropped failures) disk.new) }
     ensures outcome { OnOk result ((file : DiskFile) → seen_of disk.new file ≡ left_by (tear_of outcome file) (calls_of file (history_of disk.old))) }
 {
     let empty = MemDisk::new(alloc)?;

@@ -8,6 +8,8 @@ mod TreePacing
 mod TreeFails
 mod TreeMoves
 mod TreeHanding
+pub mod TreeTelling
+mod TreeCutting
 mod TreeFolders
 mod TreeListings
 mod StreamTaking

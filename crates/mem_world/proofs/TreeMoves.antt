@@ -1,5 +1,5 @@
 -- What a call of the tree adds to the history.
-use Rattle.std.proofs.Common.{◌≡◌, ℕ, List, [], ◌∷◌, ◌++◌, Bool, true, false, length, max, Result, Ok, Err, refl, sym, ap, subst, ◌∙◌}
+use Rattle.std.proofs.Common.{◌≡◌, ℕ, List, [], ◌∷◌, Bool, true, false, length, max, Result, Ok, Err, refl, sym, ap, subst}
 use Rattle.std.specs.Prelude.{if◌then◌else◌, None, Some}
 use Rattle.outside.specs.Closing.{Closes}
 use Rattle.outside.specs.Content.{Gives}
@@ -57,9 +57,10 @@ pub record Keeps (old new : TreeState) : Type 0 where
   pub widest : new.widest ≡ old.widest
   pub plan : new.plan ≡ old.plan
   pub bound : bound_of new ≡ bound_of old
+  pub told : new.told ≡ old.told
 
 stays_keeps : (own : List Event) (fails : Bool) (old new : TreeState) → Stays own fails old new → Keeps old new
-stays_keeps own fails old new stays = record { taken = stays.taken; widest = stays.widest; plan = stays.called.plan; bound = stays.called.bound }
+stays_keeps own fails old new stays = record { taken = stays.taken; widest = stays.widest; plan = stays.called.plan; bound = stays.called.bound; told = stays.called.told }
 
 pub lists_world : (folder : List ℕ) (result : Result Listed CallFault) (old new : TreeState) → ListCalls folder result old new → Lists folder result old.world new.world
 lists_world folder (Ok (Items items unnamed)) old new calls = record { handles = calls.3.handles; history = (calls.1, at_called [] (IsListing folder items.items) false old new calls.3.called calls.2) }
@@ -105,7 +106,7 @@ opens_cause path (Err Failed) old new calls = calls.1.called.faults.1
 opens_cause path (Err Memory) old new calls = calls.called.faults
 
 pub opens_keeps : (path : List ℕ) (result : Result Opened CallFault) (old new : TreeState) → OpenFileCalls path result old new → Keeps old new
-opens_keeps path (Ok (File handle size)) old new calls = record { taken = calls.1.taken; widest = calls.1.widest; plan = calls.1.called.plan; bound = calls.1.called.bound }
+opens_keeps path (Ok (File handle size)) old new calls = record { taken = calls.1.taken; widest = calls.1.widest; plan = calls.1.called.plan; bound = calls.1.called.bound; told = calls.1.called.told }
 opens_keeps path (Ok Gone) old new calls = stays_keeps [] false old new calls.2
 opens_keeps path (Ok NotAFile) old new calls = stays_keeps [] false old new calls.2
 opens_keeps path (Err Failed) old new calls = stays_keeps (miss path ∷ []) true old new calls.1
@@ -128,9 +129,9 @@ module _ (handle offset : ℕ) (buffer : List ℕ) where
   reads_taken (Err _) old new calls = calls.1.taken
 
   -- what a read keeps, and how wide it was
-  pub reads_widest : (result : Result ℕ one.Failed) (old new : TreeState) → ReadAtCalls handle offset buffer result old new → (new.widest ≡ max old.widest (length buffer)) × (new.plan ≡ old.plan) × (bound_of new ≡ bound_of old)
-  reads_widest (Ok count) old new calls = (calls.2.widest, calls.2.called.plan, calls.2.called.bound)
-  reads_widest (Err _) old new calls = (calls.1.widest, calls.1.called.plan, calls.1.called.bound)
+  pub reads_widest : (result : Result ℕ one.Failed) (old new : TreeState) → ReadAtCalls handle offset buffer result old new → (new.widest ≡ max old.widest (length buffer)) × (new.plan ≡ old.plan) × (bound_of new ≡ bound_of old) × (new.told ≡ old.told)
+  reads_widest (Ok count) old new calls = (calls.2.widest, calls.2.called.plan, calls.2.called.bound, calls.2.called.told)
+  reads_widest (Err _) old new calls = (calls.1.widest, calls.1.called.plan, calls.1.called.bound, calls.1.called.told)
 
 pub closes_world : (handle : ℕ) (old new : TreeState) → CloseCalls handle old new → Closes handle old.world new.world
 closes_world handle old new calls = record { handles = calls.handles; history = moves_called false old new calls.called }

@@ -1,8 +1,9 @@
 -- The contents of files, by their places.
-use Rattle.std.proofs.Common.{◌≡◌, ℕ, suc, ◌+◌, ◌<◌, ◌≤◌, List, [], ◌∷◌, ◌++◌, length, get_or, set, Bool, true, false, cond, ◌==◌, refl, sym, ap, subst, ◌∙◌, arith, drop, eq-eqb}
+use Rattle.std.proofs.Common.{◌≡◌, ℕ, suc, ◌+◌, ◌<◌, ◌≤◌, List, [], ◌∷◌, ◌++◌, length, get_or, set, take, Bool, true, false, cond, ◌==◌, refl, sym, ap, subst, ◌∙◌, arith, drop, eq-eqb}
 use Rattle.std.specs.Prelude.{if◌then◌else◌}
 use Rattle.std.proofs.lemmas.Bool.Decides.{nat_tests}
 use Rattle.std.proofs.lemmas.List.{append-nil, at_drop_more, get_or_default}
+use Rattle.std.proofs.Math.Seq.{take-nil}
 use Rattle.mem_world.specs.declared.tree.contents.Content.{Content}
 use Rattle.mem_world.specs.TreeContents.{kept_of, bytes_in, room_at, place_in}
 
@@ -167,3 +168,17 @@ nothing_taken more old false none = omega arith
 
 pub read_again : (cs : List Content) (at : ℕ) (d : Content) → at < length cs → get_or cs at d ≡ get_or cs at (get_or cs at d)
 read_again cs at d within = get_or_default cs at d (get_or cs at d) within
+
+abbrev CutsIf : ℕ → Bool → List ℕ → List ℕ → Type 0
+CutsIf size t old new = new ≡ (if t then take size old else old)
+
+pub cut_bytes : (cs : List Content) (file at size : ℕ) (old new : Content) → at ≡ place_in cs file → at < length cs → old ≡ get_or cs at old → new.file ≡ old.file → new.bytes.items ≡ take size old.bytes.items → (other : ℕ) → bytes_in (set cs at new) other ≡ (if file == other then take size (bytes_in cs other) else bytes_in cs other)
+cut_bytes cs file at size old new here within read same cut =
+    changed_by [] (λ c. c.bytes.items) (CutsIf size) cs file at old new here within read same cut (λ x. refl)
+
+pub nothing_cut : (cs : List Content) (file size : ℕ) → length cs ≤ place_in cs file → (other : ℕ) → bytes_in cs other ≡ (if file == other then take size (bytes_in cs other) else bytes_in cs other)
+nothing_cut cs file size past other =
+    let P : Bool → Type 0 = λ t. (file == other) ≡ t → bytes_in cs other ≡ cond t (take size (bytes_in cs other)) (bytes_in cs other) in
+    let yes : P true = λ same. let none : bytes_in cs other ≡ [] = ap (bytes_in cs) (sym (same_number file other same)) ∙ bytes_missing cs file past in none ∙ sym (take-nil size) ∙ ap (take size) (sym none) in
+    let all : P (file == other) = elim (file == other) as P [ true ↦ yes | false ↦ λ _. refl ] in
+    all refl

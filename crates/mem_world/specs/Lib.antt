@@ -13,6 +13,7 @@ pub mod TreeFailing
 pub mod TreeHandles
 pub mod TreeTold
 pub mod TreeCalls
+pub mod TreeSpoiled
 pub mod MemTree
 pub mod TreeListing
 pub mod DiskFailures

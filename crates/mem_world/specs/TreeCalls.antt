@@ -39,6 +39,7 @@ pub record Called (own : List Event) (fails : Bool) (old new : TreeState) : Type
   pub failing : new.failing ≡ one_later old.failing
   pub faults : HasCounted fails old.faults new.faults
   pub bound : bound_of new ≡ bound_of old
+  pub told : new.told ≡ old.told
 
 -- nothing else was done
 pub record Stays (own : List Event) (fails : Bool) (old new : TreeState) : Type 0 where

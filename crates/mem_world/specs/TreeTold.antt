@@ -1,10 +1,13 @@
 -- What a tree in memory tells.
-use Rattle.std.specs.Prelude.{ℕ, ◌+◌, List, [], ◌∷◌, ◌++◌, length}
+use Rattle.std.specs.Prelude.{ℕ, ◌+◌, List, [], ◌∷◌, ◌++◌, ◌≤◌, length, Bool, true, false, if◌then◌else◌, Option, None, Some}
 use Rattle.outside.specs.World.{Event, World}
-use Rattle.outside.specs.Plan.{Plan}
+use Rattle.outside.specs.Lawful.{IsLawful, TellsLawful}
+use Rattle.outside.specs.Plan.{Plan, Follows, HasFollowed}
 use Rattle.mem_world.specs.TreePlan.{Pairs}
 
 pub record TreeState : Type 0 where
+  -- whether the tree tells its world and its plan: it does until a file is spoiled
+  pub told : Bool
   pub world : World
   -- the steps that are still to be played, each with the number of calls before it, in the order in which they came
   pub waiting : Pairs
@@ -23,9 +26,18 @@ pub record TreeState : Type 0 where
 abbrev pub bound_of : TreeState → ℕ
 bound_of tree = tree.faults + tree.spare
 
+-- the world, where it is told
+abbrev pub told_world : TreeState → Option World
+told_world tree = if tree.told then Some tree.world else None
+
+-- the plan, where it is told
+abbrev pub told_plan : TreeState → Option Plan
+told_plan tree = if tree.told then Some tree.plan else None
+
 -- an empty world, of which nothing is planned
 abbrev pub empty_tree : TreeState
 empty_tree = record {
+  told = true;
   world = record { history = []; handles = [] };
   waiting = [];
   plan = record { steps = []; since = 0 };
@@ -51,3 +63,10 @@ with_failure tree call = record tree { spare = tree.spare + 1; failing = tree.fa
 -- nothing is planned
 abbrev pub unplanned : TreeState → TreeState
 unplanned tree = record (planned_anew tree tree.world.history []) { spare = 0; failing = [] }
+
+-- what is told keeps the laws of a tree
+pub tells_lawful : (tree : TreeState) → IsLawful tree.world.history → TellsLawful (told_world tree)
+tells_lawful tree lawful = elim tree.told as (λ t. TellsLawful (if t then Some tree.world else None)) [ true ↦ lawful | false ↦ tt ]
+
+pub tells_followed : (tree : TreeState) → (tree.plan.since ≤ length tree.world.history) × Follows tree.plan tree.world.history → HasFollowed (told_plan tree) (told_world tree)
+tells_followed tree followed = elim tree.told as (λ t. HasFollowed (if t then Some tree.plan else None) (if t then Some tree.world else None)) [ true ↦ followed | false ↦ tt ]

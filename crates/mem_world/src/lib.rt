@@ -6,7 +6,7 @@
 //! A [`MemTree`] is a world of log files that moves: each [`WorldStep`] is played by hand, or is scheduled and then
 //! played between two calls of the agent. It tells its whole history: [`MemTree::play`] takes exactly the steps that are
 //! lawful after that history, and the history grows by exactly the events that were played or that the agent's calls
-//! made.
+//! made. [`MemTree::spoil`] alone does what no process of the world may, and then the tree tells its history no more.
 //!
 //! What reads give of a [`MemDisk`] and what a crash may leave of it are told by its log: between two syncs of a file
 //! each written range, and the part past the old end, may hold any bytes, and a cut leaves the old or the new length.

@@ -1,11 +1,12 @@
 // The world of log files in memory.
-ghost use Rattle.std.specs.Prelude.{◌≡◌, ◌≤◌, ◌<◌, ◌↔◌, ◌+◌, ◌∷◌, ◌++◌, [], All, false, Err, length, IfOk, OnOk, OnErr, IsTrue};
+ghost use Rattle.std.specs.Prelude.{◌≡◌, ◌≤◌, ◌<◌, ◌↔◌, ◌+◌, ◌∷◌, ◌++◌, ◌==◌, [], ℕ, All, false, Err, length, take, if◌then◌else◌, IfOk, OnOk, OnErr, IsTrue};
 ghost use Rattle.std.proofs.Props.{props};
 ghost use Rattle.outside.specs.Lawful.{is_lawful, IsLawful, IsLawful-prop};
+ghost use Rattle.outside.specs.World.{bytes, names};
 ghost use Rattle.mem_world.specs.TreeHandles.{handles_of};
 ghost use Rattle.mem_world.specs.TreePlanned.{IsFollowed};
 
-use crate::world::{StepFault, WorldStep};
+use crate::world::{FileName, StepFault, WorldStep};
 use failures::Failures;
 use handles::Handles;
 use planned::Planned;
@@ -22,9 +23,11 @@ mod paths;
 mod planned;
 mod read;
 mod schedule;
+mod shorten;
 mod stored;
 
-/// A world of log files in memory. It tells its history, its plan and the bound of its count of faults.
+/// A world of log files in memory. It tells its history, its plan and the bound of its count of faults; once a file of it
+/// is spoiled, it tells neither its history nor its plan.
 ///
 /// Each call of [`Tree`](outside::Tree) begins with the steps that are due: those after which as many calls were to
 /// come as have come. They are played in the order in which they were handed in, and one that isn't lawful then is
@@ -37,6 +40,8 @@ pub struct MemTree {
     next: u64,
     taken: u64,
     widest: u64,
+    // No file was spoiled.
+    told: bool,
     ghost lawful: { IsLawful planned.history } by { IsLawful-prop planned.history },
     ghost followed: { IsFollowed planned } by { Prim.hlevel props },
     ghost counted: { failures.count ≤ 18446744073709551615 },
@@ -53,6 +58,7 @@ impl Drop for MemTree {
             next: _,
             taken: _,
             widest: _,
+            told: _,
         } = self;
     }
 }
@@ -60,6 +66,7 @@ impl Drop for MemTree {
 impl MemTree {
     ghost use Rattle.mem_world.specs.MemTree.{state_of};
     ghost use Rattle.mem_world.specs.TreeTold.{empty_tree, planned_anew, with_failure, unplanned, bound_of};
+    ghost use Rattle.mem_world.specs.TreeSpoiled.{spoiled};
     ghost use Rattle.mem_world.specs.WorldSteps.{event_of};
 
     /// An empty world with no faults.
@@ -75,6 +82,7 @@ impl MemTree {
             next: 0,
             taken: 0,
             widest: 0,
+            told: true,
         })
     }
 
@@ -121,6 +129,24 @@ impl MemTree {
         self.planned.clear();
         self.planned.keeps_plan();
         self.failures.clear();
+    }
+
+    /// Cuts a file to so many bytes, as no process of the world may, and sets the plan anew. From then on the tree tells
+    /// neither its history nor its plan. A file that is no longer than that, and one that isn't there, is left alone.
+    pub fn spoil(&mut self, file: FileName, size: usize)
+        ensures short { length (bytes (state_of self.old).world.history file.0) ≤ size → state_of self.new ≡ state_of self.old }
+        ensures long { size < length (bytes (state_of self.old).world.history file.0)
+            → state_of self.new ≡ spoiled file.0 size (state_of self.old) }
+        ensures bytes { (other : ℕ) → bytes (state_of self.new).world.history other
+            ≡ (if file.0 == other then take size (bytes (state_of self.old).world.history other) else bytes (state_of self.old).world.history other) }
+        ensures names { names (state_of self.new).world.history ≡ names (state_of self.old).world.history }
+    {
+        if self.planned.world().bytes(file.0).len() <= size {
+            return;
+        }
+        self.planned.cut(file.0, size);
+        self.planned.keeps_plan();
+        self.told = false;
     }
 
     /// The length of the history.

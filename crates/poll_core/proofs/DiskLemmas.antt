@@ -5,7 +5,7 @@ use Rattle.std.specs.Prelude.{◌⊎◌}
 use Rattle.checkpoint_journal.proofs.JournalLaws.{journal_cut, journal_of_slots}
 use Rattle.checkpoint_journal.specs.JournalOf.{log_of, HasJournal}
 use Rattle.checkpoint_journal.specs.declared.journal.Journal.{Journal}
-use Rattle.checkpoint_store.specs.declared.Checkpoint.{Checkpoint as Saved}
+use Rattle.checkpoint_store.specs.declared.Checkpoint.{Checkpoint}
 use Rattle.outside.specs.Crash.{Passes, IsDurable}
 use Rattle.outside.specs.Image.{Image, AtFile, IsCut, MayCut, Same}
 use Rattle.outside.specs.Images.{Images}
@@ -14,7 +14,7 @@ use Rattle.outside.specs.declared.disk.DiskFile.TheVariants.{Settings, Output, S
 use Rattle.poll_core.proofs.ImageLemmas.{no_journal}
 use Rattle.poll_core.specs.Remembers.{HasMemory, EndsWithMemory, IsLeftBy}
 use Rattle.poll_core.specs.Reopens.{KeepsLogs, Reopens, TrimsSlots}
-use Rattle.poll_core.specs.SessionParts.{store_checkpoint, journal_of_session, kept_of}
+use Rattle.poll_core.specs.SessionParts.{checkpoint_of_session, journal_of_session, kept_of}
 use Rattle.poll_core.specs.Settled.{IsSettled}
 use Rattle.poll_core.specs.StandsOn.{StandsOn}
 use Rattle.poll_core.specs.declared.session.Session.{Session}
@@ -52,17 +52,17 @@ all_same file old new here others other = elim (which file other) [
 
 -- ---- what a session remembers, in other images
 
-pub memory_moved : (journal : Option Journal) (checkpoint : Saved) (old new : Image DiskFile) → new SlotA ≡ old SlotA → new SlotB ≡ old SlotB → HasMemory journal checkpoint old → HasMemory journal checkpoint new
+pub memory_moved : (journal : Option Journal) (checkpoint : Checkpoint) (old new : Image DiskFile) → new SlotA ≡ old SlotA → new SlotB ≡ old SlotB → HasMemory journal checkpoint old → HasMemory journal checkpoint new
 memory_moved None checkpoint old new first second memory = (same_choice old new first second ∙ memory.0, memory.1)
 memory_moved (Some journal) checkpoint old new first second memory = journal_of_slots old new journal checkpoint first second memory
 
-pub ends_moved : (journal : Option Journal) (checkpoint : Saved) (old new : Image DiskFile) → new SlotA ≡ old SlotA → new SlotB ≡ old SlotB → EndsWithMemory journal checkpoint old → EndsWithMemory journal checkpoint new
+pub ends_moved : (journal : Option Journal) (checkpoint : Checkpoint) (old new : Image DiskFile) → new SlotA ≡ old SlotA → new SlotB ≡ old SlotB → EndsWithMemory journal checkpoint old → EndsWithMemory journal checkpoint new
 ends_moved None checkpoint old new first second memory = (same_choice old new first second ∙ memory.0, memory.1)
 ends_moved (Some journal) checkpoint old new first second memory =
     let same : new journal.slot.file ≡ old journal.slot.file = elim (chosen_file old journal.slot memory.journal_is.log_is.slot) [ inl is ↦ rw is first | inr is ↦ rw is second ] in
     record { journal_is = journal_of_slots old new journal checkpoint first second memory.journal_is; ends = ap length same ∙ memory.ends }
 
-pub ends_goes_on : (journal : Option Journal) (checkpoint : Saved) (image : Image DiskFile) → EndsWithMemory journal checkpoint image → HasMemory journal checkpoint image
+pub ends_goes_on : (journal : Option Journal) (checkpoint : Checkpoint) (image : Image DiskFile) → EndsWithMemory journal checkpoint image → HasMemory journal checkpoint image
 ends_goes_on None checkpoint image memory = memory
 ends_goes_on (Some journal) checkpoint image memory = memory.journal_is
 
@@ -74,7 +74,7 @@ logs_of_slots old new first second = record {
   log_is = λ log base records has. log_of_slots old new log base records first second has;
 }
 
-logs_of_cut : (old new : Image DiskFile) (journal : Journal) (checkpoint : Saved) → HasJournal journal checkpoint old → AtFile journal.slot.file (IsCut journal.end) old new → KeepsLogs old new
+logs_of_cut : (old new : Image DiskFile) (journal : Journal) (checkpoint : Checkpoint) → HasJournal journal checkpoint old → AtFile journal.slot.file (IsCut journal.end) old new → KeepsLogs old new
 logs_of_cut old new journal checkpoint has at = record {
   no_slot = λ none. absurd (no_journal old journal checkpoint none has);
   log_is = λ log base records have.
@@ -83,10 +83,10 @@ logs_of_cut old new journal checkpoint has at = record {
       log_cut old new log base records have here;
 }
 
-not_slot : (image : Image DiskFile) (journal : Journal) (checkpoint : Saved) (file : DiskFile) → HasJournal journal checkpoint image → file ≢ SlotA → file ≢ SlotB → file ≢ journal.slot.file
+not_slot : (image : Image DiskFile) (journal : Journal) (checkpoint : Checkpoint) (file : DiskFile) → HasJournal journal checkpoint image → file ≢ SlotA → file ≢ SlotB → file ≢ journal.slot.file
 not_slot image journal checkpoint file has not_first not_second same = elim (chosen_file image journal.slot has.log_is.slot) [ inl is ↦ not_first (same ∙ is) | inr is ↦ not_second (same ∙ is) ]
 
-trims_cut : (old new : Image DiskFile) (journal : Journal) (checkpoint : Saved) → HasJournal journal checkpoint old → AtFile journal.slot.file (MayCut journal.end) old new → TrimsSlots checkpoint.output_length old new
+trims_cut : (old new : Image DiskFile) (journal : Journal) (checkpoint : Checkpoint) → HasJournal journal checkpoint old → AtFile journal.slot.file (MayCut journal.end) old new → TrimsSlots checkpoint.output_length old new
 trims_cut old new journal checkpoint has at = record {
   settings = at.others Settings (not_slot old journal checkpoint Settings has (λ same. cc) (λ same. cc));
   output = at.others Output (not_slot old journal checkpoint Output has (λ same. cc) (λ same. cc));
@@ -98,7 +98,7 @@ trims_cut old new journal checkpoint has at = record {
 }
 
 -- nothing stands behind no journal
-trims_none : (image : Image DiskFile) (checkpoint : Saved) → HasMemory None checkpoint image → TrimsSlots checkpoint.output_length image image
+trims_none : (image : Image DiskFile) (checkpoint : Checkpoint) → HasMemory None checkpoint image → TrimsSlots checkpoint.output_length image image
 trims_none image checkpoint memory = record {
   settings = refl;
   output = refl;
@@ -106,21 +106,21 @@ trims_none image checkpoint memory = record {
   keeps = (None, memory.0, memory.1.output);
 }
 
-pub trims_idle : (journal : Option Journal) (checkpoint : Saved) (old new : Image DiskFile) → journal ≡ None → HasMemory journal checkpoint old → new ≡ old → TrimsSlots checkpoint.output_length old new
+pub trims_idle : (journal : Option Journal) (checkpoint : Checkpoint) (old new : Image DiskFile) → journal ≡ None → HasMemory journal checkpoint old → new ≡ old → TrimsSlots checkpoint.output_length old new
 trims_idle journal checkpoint old new none memory same =
     let at_none : HasMemory None checkpoint old = subst (λ j. HasMemory j checkpoint old) none memory in
     let P : Image DiskFile → Type 0 = λ image. TrimsSlots checkpoint.output_length old image in
     subst P (sym same) (trims_none old checkpoint at_none)
 
-pub trims_step : (journal : Option Journal) (some : Journal) (checkpoint : Saved) (old new : Image DiskFile) → journal ≡ Some some → HasMemory journal checkpoint old → AtFile some.slot.file (MayCut some.end) old new → TrimsSlots checkpoint.output_length old new
+pub trims_step : (journal : Option Journal) (some : Journal) (checkpoint : Checkpoint) (old new : Image DiskFile) → journal ≡ Some some → HasMemory journal checkpoint old → AtFile some.slot.file (MayCut some.end) old new → TrimsSlots checkpoint.output_length old new
 trims_step journal some checkpoint old new is memory at =
     trims_cut old new some checkpoint (subst (λ j. HasMemory j checkpoint old) is memory) at
 
-pub ends_step : (journal : Option Journal) (some : Journal) (checkpoint : Saved) (old new : Image DiskFile) → journal ≡ Some some → HasMemory journal checkpoint old → AtFile some.slot.file (IsCut some.end) old new → EndsWithMemory journal checkpoint new
+pub ends_step : (journal : Option Journal) (some : Journal) (checkpoint : Checkpoint) (old new : Image DiskFile) → journal ≡ Some some → HasMemory journal checkpoint old → AtFile some.slot.file (IsCut some.end) old new → EndsWithMemory journal checkpoint new
 ends_step journal some checkpoint old new is memory at =
     subst (λ j. EndsWithMemory j checkpoint new) (sym is) (journal_cut old new some checkpoint (subst (λ j. HasMemory j checkpoint old) is memory) at)
 
-pub ends_idle : (journal : Option Journal) (checkpoint : Saved) (old new : Image DiskFile) → journal ≡ None → HasMemory journal checkpoint old → new ≡ old → EndsWithMemory journal checkpoint new
+pub ends_idle : (journal : Option Journal) (checkpoint : Checkpoint) (old new : Image DiskFile) → journal ≡ None → HasMemory journal checkpoint old → new ≡ old → EndsWithMemory journal checkpoint new
 ends_idle journal checkpoint old new none memory same =
     let at_none : HasMemory None checkpoint old = subst (λ j. HasMemory j checkpoint old) none memory in
     let P : Image DiskFile → Type 0 = λ image. EndsWithMemory None checkpoint image in
@@ -189,7 +189,7 @@ module _ {D : Type 0} {images : Images DiskFile D} where
         ];
   }
 
-  pub memory_left : (journal : Option Journal) (checkpoint : Saved) {disk : D} → IsSettled images disk → (image : Image DiskFile) → images.may_leave disk image → HasMemory journal checkpoint (images.seen disk) → HasMemory journal checkpoint image
+  pub memory_left : (journal : Option Journal) (checkpoint : Checkpoint) {disk : D} → IsSettled images disk → (image : Image DiskFile) → images.may_leave disk image → HasMemory journal checkpoint (images.seen disk) → HasMemory journal checkpoint image
   memory_left journal checkpoint {disk} settled image left memory =
       memory_moved journal checkpoint (images.seen disk) image (settled.each image left SlotA (λ same. cc)) (settled.each image left SlotB (λ same. cc)) memory
 
@@ -202,15 +202,15 @@ module _ {D : Type 0} {images : Images DiskFile D} where
       each = λ image left.
           let by = left_by image left in
           record {
-            memory = ends_moved (journal_of_session session) (store_checkpoint session) (images.seen disk) image (settled.each image left SlotA (λ same. cc)) (settled.each image left SlotB (λ same. cc)) by.memory;
+            memory = ends_moved (journal_of_session session) (checkpoint_of_session session) (images.seen disk) image (settled.each image left SlotA (λ same. cc)) (settled.each image left SlotB (λ same. cc)) by.memory;
             output = ap length (settled.each image left Output (λ same. cc)) ∙ by.output;
           };
     };
   }
 
-pub left_by_cut : (session : Session) (old new : Image DiskFile) → EndsWithMemory (journal_of_session session) (store_checkpoint session) old → kept_of session ≤ length (old Output) → AtFile Output (IsCut (kept_of session)) old new → IsLeftBy session new
+pub left_by_cut : (session : Session) (old new : Image DiskFile) → EndsWithMemory (journal_of_session session) (checkpoint_of_session session) old → kept_of session ≤ length (old Output) → AtFile Output (IsCut (kept_of session)) old new → IsLeftBy session new
 left_by_cut session old new memory enough at = record {
-  memory = ends_moved (journal_of_session session) (store_checkpoint session) old new (at.others SlotA (λ same. cc)) (at.others SlotB (λ same. cc)) memory;
+  memory = ends_moved (journal_of_session session) (checkpoint_of_session session) old new (at.others SlotA (λ same. cc)) (at.others SlotB (λ same. cc)) memory;
   output = ap length at.here ∙ length-take-le (kept_of session) (old Output) enough;
 }
 

@@ -5,12 +5,10 @@ use Rattle.std.specs.Prelude.{◌⊎◌}
 use Rattle.checkpoint_journal.proofs.JournalLaws.{one_said, bad_no_journal, bad_slot}
 use Rattle.checkpoint_journal.specs.JournalOf.{log_of, HasJournal, HasCheckpoint, IsBadAt}
 use Rattle.checkpoint_journal.specs.declared.journal.Journal.{Journal}
-use Rattle.checkpoint_store.specs.declared.Checkpoint.{Checkpoint as Saved}
 use Rattle.outside.specs.Image.{Image}
 use Rattle.outside.specs.World.{History}
 use Rattle.outside.specs.declared.disk.DiskFile.{DiskFile}
 use Rattle.outside.specs.declared.disk.DiskFile.TheVariants.{Output}
-use Rattle.poll_core.specs.Checkpoints.{standing_checkpoint}
 use Rattle.poll_core.specs.Found.{IsFound}
 use Rattle.poll_core.specs.Reopens.{KeepsLogs, Keeps, kept_by, Reopens}
 use Rattle.poll_core.specs.Sequence.{HasSequence, no_slot, of_log}
@@ -27,21 +25,20 @@ use Rattle.standing.specs.Standing.{Found, nothing, damaged, found, kept, Sound,
 pub no_log : (image : Image DiskFile) (log : Log) (base : List ℕ) (records : List (List ℕ)) → chosen_slot image ≡ None → HasLog log base records image → ⊥
 no_log image log base records none has = let some = has.slot in cc
 
-pub no_journal : (image : Image DiskFile) (journal : Journal) (checkpoint : Saved) → chosen_slot image ≡ None → HasJournal journal checkpoint image → ⊥
+pub no_journal : (image : Image DiskFile) (journal : Journal) (checkpoint : Checkpoint) → chosen_slot image ≡ None → HasJournal journal checkpoint image → ⊥
 no_journal image journal checkpoint none has = no_log image (log_of journal) has.base has.records none has.log_is
 
 pub one_found : (image : Image DiskFile) (one other : Found) → IsFound image one → IsFound image other → one ≡ other
 one_found image nothing nothing has have = refl
 one_found image nothing damaged has have = absurd (bad_slot image have.0 have.1 has)
-one_found image nothing (found checkpoint) has have = absurd (no_journal image have.1.0 have.0 has have.1.1)
+one_found image nothing (found checkpoint) has have = absurd (no_journal image have.0 checkpoint has have.1)
 one_found image damaged nothing has have = absurd (bad_slot image has.0 has.1 have)
 one_found image damaged damaged has have = refl
-one_found image damaged (found checkpoint) has have = absurd (bad_no_journal image has.0 have.1.0 have.0 has.1 have.1.1)
-one_found image (found checkpoint) nothing has have = absurd (no_journal image has.1.0 has.0 have has.1.1)
-one_found image (found checkpoint) damaged has have = absurd (bad_no_journal image have.0 has.1.0 has.0 have.1 has.1.1)
+one_found image damaged (found checkpoint) has have = absurd (bad_no_journal image has.0 have.0 checkpoint has.1 have.1)
+one_found image (found checkpoint) nothing has have = absurd (no_journal image has.0 checkpoint have has.1)
+one_found image (found checkpoint) damaged has have = absurd (bad_no_journal image have.0 has.0 checkpoint have.1 has.1)
 one_found image (found checkpoint) (found other) has have =
-    let same : have.0 ≡ has.0 = one_said image has.1.0 have.1.0 has.0 have.0 has.1.1 have.1.1 in
-    ap (λ (c : Checkpoint). found c) (sym has.2 ∙ ap standing_checkpoint (sym same) ∙ have.2)
+    ap (λ (c : Checkpoint). found c) (sym (one_said image has.0 have.0 checkpoint other has.1 have.1))
 
 pub one_sequence : (image : Image DiskFile) (one other : ℕ) → HasSequence image one → HasSequence image other → one ≡ other
 one_sequence image one other (no_slot none) (no_slot none_too) = refl
@@ -53,7 +50,7 @@ one_sequence image one other (of_log log base records has) (of_log twin twin_bas
 -- ---- what goes with the log
 
 module _ {old new : Image DiskFile} (keeps : KeepsLogs old new) where
-  pub journal_kept : (journal : Journal) (checkpoint : Saved) → HasJournal journal checkpoint old → HasJournal journal checkpoint new
+  pub journal_kept : (journal : Journal) (checkpoint : Checkpoint) → HasJournal journal checkpoint old → HasJournal journal checkpoint new
   journal_kept journal checkpoint has = record {
     base = has.base;
     records = has.records;
@@ -62,7 +59,7 @@ module _ {old new : Image DiskFile} (keeps : KeepsLogs old new) where
     says = has.says;
   }
 
-  pub checkpoint_kept : (checkpoint : Option Saved) → HasCheckpoint checkpoint old → HasCheckpoint checkpoint new
+  pub checkpoint_kept : (checkpoint : Option Checkpoint) → HasCheckpoint checkpoint old → HasCheckpoint checkpoint new
   checkpoint_kept None has = keeps.no_slot has
   checkpoint_kept (Some checkpoint) has = (has.0, journal_kept has.0 checkpoint has.1)
 
@@ -78,7 +75,7 @@ module _ {old new : Image DiskFile} (keeps : KeepsLogs old new) where
   pub found_kept : (there : Found) → IsFound old there → IsFound new there
   found_kept nothing has = keeps.no_slot has
   found_kept damaged has = (has.0, bad_kept has.0 has.1)
-  found_kept (found checkpoint) has = (has.0, checkpoint_kept (Some has.0) has.1, has.2)
+  found_kept (found checkpoint) has = checkpoint_kept (Some checkpoint) has
 
   pub sequence_kept : (sequence : ℕ) → HasSequence old sequence → HasSequence new sequence
   sequence_kept sequence (no_slot none) = no_slot (keeps.no_slot none)
@@ -86,19 +83,19 @@ module _ {old new : Image DiskFile} (keeps : KeepsLogs old new) where
 
 -- ---- the output
 
-pub keeps_one : (image : Image DiskFile) (size : ℕ) (saved : Saved) → Keeps size image → HasCheckpoint (Some saved) image → size ≡ saved.output_length
+pub keeps_one : (image : Image DiskFile) (size : ℕ) (saved : Checkpoint) → Keeps size image → HasCheckpoint (Some saved) image → size ≡ saved.output_length
 keeps_one image size saved keeps has = by keeps.0 keeps.1 keeps.2
   where
-    by : (checkpoint : Option Saved) → HasCheckpoint checkpoint image → size ≡ kept_by checkpoint → size ≡ saved.output_length
+    by : (checkpoint : Option Checkpoint) → HasCheckpoint checkpoint image → size ≡ kept_by checkpoint → size ≡ saved.output_length
     by None none is = absurd (no_journal image has.0 saved none has.1)
-    by (Some other) have is = is ∙ ap (λ (c : Saved). c.output_length) (one_said image has.0 have.0 saved other has.1 have.1)
+    by (Some other) have is = is ∙ ap (λ (c : Checkpoint). c.output_length) (one_said image has.0 have.0 saved other has.1 have.1)
 
 -- the output is what it was, or what the checkpoint keeps of it
 pub output_of : (old new : Image DiskFile) (checkpoint : Checkpoint) → Reopens old new → IsFound old (found checkpoint)
     → (new Output ≡ old Output) ⊎ (new Output ≡ take checkpoint.output_length (old Output))
 output_of old new checkpoint reopens has = elim reopens.output [
   | inl same ↦ inl same
-  | inr cut ↦ (let size = keeps_one old cut.0 has.0 cut.1 has.1 ∙ ap (λ (c : Checkpoint). c.output_length) has.2 in inr (cut.2 ∙ ap (λ n. take n (old Output)) size))
+  | inr cut ↦ inr (cut.2 ∙ ap (λ n. take n (old Output)) (keeps_one old cut.0 checkpoint cut.1 has))
 ]
 
 take_twice : (n : ℕ) (file : List ℕ) → take n (take n file) ≡ take n file

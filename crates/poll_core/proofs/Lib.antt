@@ -1,4 +1,4 @@
-pub mod ViewLemmas
+pub mod RowLemmas
 pub mod DifferLemmas
 pub mod ImageLemmas
 pub mod RuleLemmas
@@ -25,3 +25,4 @@ pub mod TakenLemmas
 pub mod PutLemmas
 pub mod SaveLemmas
 pub mod PassLemmas
+pub mod StoodLemmas

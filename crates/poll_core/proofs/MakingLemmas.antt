@@ -6,7 +6,7 @@ use Rattle.checkpoint_journal.specs.JournalOf.{FoundIn, HasJournal, IsBadAt}
 use Rattle.checkpoint_journal.specs.declared.fault.JournalFault.{JournalFault}
 use Rattle.checkpoint_journal.specs.declared.fault.JournalFault.TheVariants as journal
 use Rattle.checkpoint_journal.specs.declared.journal.Journal.{Journal}
-use Rattle.checkpoint_store.specs.declared.Checkpoint.{Checkpoint as Saved}
+use Rattle.checkpoint_store.specs.declared.Checkpoint.{Checkpoint}
 use Rattle.outside.specs.Image.{Image}
 use Rattle.outside.specs.declared.disk.DiskFile.{DiskFile}
 use Rattle.outside.specs.declared.disk.DiskFile.TheVariants.{Output}
@@ -18,7 +18,7 @@ use Rattle.poll_core.specs.Making.{IsOfFound, IsRejected}
 use Rattle.poll_core.specs.OpenCause.{IsOfContents, journal_refusal}
 use Rattle.poll_core.specs.OpenFaults.{IsRefused, no_reading, other_settings, foreign_state, short_output}
 use Rattle.poll_core.specs.Remembers.{HasMemory, GoesOnFrom}
-use Rattle.poll_core.specs.SessionParts.{store_checkpoint, journal_of_session, rules_of_session, kept_of}
+use Rattle.poll_core.specs.SessionParts.{checkpoint_of_session, journal_of_session, rules_of_session, kept_of}
 use Rattle.poll_core.specs.declared.fault.OpenFault.{OpenFault}
 use Rattle.poll_core.specs.declared.fault.OpenFault.TheVariants.{Settings, Build, Disk, CheckpointBad, SettingsChanged, OutputShort, Memory}
 use Rattle.poll_core.specs.declared.session.Session.{Session}
@@ -39,7 +39,7 @@ short_text text said is = by (nat_lt 1048576 (length text)) refl is
 
 -- ---- refusals
 
-pub rejected_refused : (text : List ℕ) (pipeline : Pipeline) (image : Image DiskFile) (found : Option (Journal × Saved)) (fault : OpenFault)
+pub rejected_refused : (text : List ℕ) (pipeline : Pipeline) (image : Image DiskFile) (found : Option (Journal × Checkpoint)) (fault : OpenFault)
     → IsMadeOf text pipeline → FoundIn found image → IsRejected text (rules_of text pipeline) found fault → IsOfContents fault → IsRefused text image fault
 rejected_refused text pipeline image None fault made has rejected of_contents = absurd (subst IsOfContents rejected of_contents)
 rejected_refused text pipeline image (Some found) (Settings _) made has rejected of_contents = absurd rejected
@@ -65,24 +65,24 @@ journal_refused text image journal.Memory bad of_contents = absurd of_contents
 
 -- ---- what the session remembers
 
-memory_of : (session : Session) (image : Image DiskFile) (found : Option (Journal × Saved)) → IsOfFound found session → FoundIn found image → HasMemory (journal_of_session session) (store_checkpoint session) image
-memory_of session image None is has = subst (λ j. HasMemory j (store_checkpoint session) image) (sym is.0) (has, is.1)
+memory_of : (session : Session) (image : Image DiskFile) (found : Option (Journal × Checkpoint)) → IsOfFound found session → FoundIn found image → HasMemory (journal_of_session session) (checkpoint_of_session session) image
+memory_of session image None is has = subst (λ j. HasMemory j (checkpoint_of_session session) image) (sym is.0) (has, is.1)
 memory_of session image (Some found) is has =
-    let here : HasJournal found.0 (store_checkpoint session) image = subst (λ (c : Saved). HasJournal found.0 c image) (sym is.1) has in
-    subst (λ j. HasMemory j (store_checkpoint session) image) (sym is.0) here
+    let here : HasJournal found.0 (checkpoint_of_session session) image = subst (λ (c : Checkpoint). HasJournal found.0 c image) (sym is.1) has in
+    subst (λ j. HasMemory j (checkpoint_of_session session) image) (sym is.0) here
 
-pub goes_on_from : (session : Session) (image : Image DiskFile) (found : Option (Journal × Saved)) (size : ℕ) → IsOfFound found session → FoundIn found image → size ≡ length (image Output) → kept_of session ≤ size → GoesOnFrom session image
+pub goes_on_from : (session : Session) (image : Image DiskFile) (found : Option (Journal × Checkpoint)) (size : ℕ) → IsOfFound found session → FoundIn found image → size ≡ length (image Output) → kept_of session ≤ size → GoesOnFrom session image
 goes_on_from session image found size is has size_is enough = record {
   memory = memory_of session image found is has;
   long_enough = omega (arith, enough, size_is);
 }
 
-pub short_refused : (text : List ℕ) (session : Session) (image : Image DiskFile) (found : Option (Journal × Saved)) (size : ℕ) → IsSession session → session.settings ≡ text → IsOfFound found session → FoundIn found image → size ≡ length (image Output) → size < kept_of session → IsRefused text image (OutputShort (kept_of session) size)
+pub short_refused : (text : List ℕ) (session : Session) (image : Image DiskFile) (found : Option (Journal × Checkpoint)) (size : ℕ) → IsSession session → session.settings ≡ text → IsOfFound found session → FoundIn found image → size ≡ length (image Output) → size < kept_of session → IsRefused text image (OutputShort (kept_of session) size)
 short_refused text session image None size is settings_are of_found has size_is short = absurd (omega (arith, short, of_found.1.output))
 short_refused text session image (Some found) size is settings_are of_found has size_is short =
     short_output (kept_of session) size (record {
-      checkpoint = store_checkpoint session;
-      of_text = record { has = (found.0, subst (λ (c : Saved). HasJournal found.0 c image) (sym of_found.1) has); settings = settings_are };
+      checkpoint = checkpoint_of_session session;
+      of_text = record { has = (found.0, subst (λ (c : Checkpoint). HasJournal found.0 c image) (sym of_found.1) has); settings = settings_are };
       rules = rules_of_session session;
       rules_are = subst (λ t. (pipeline : Pipeline) × IsMadeOf t pipeline × (rules_of_session session ≡ rules_of t pipeline)) settings_are (session.pipeline, is.made, refl);
       states = is.states;

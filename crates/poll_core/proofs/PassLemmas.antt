@@ -9,8 +9,8 @@ use Rattle.file_pass.specs.declared.fault.PassFault.{PassFault}
 use Rattle.file_pass.specs.declared.fault.PassFault.TheVariants as pass
 use Rattle.file_pass.specs.declared.setup.Setup.{Setup}
 use Rattle.file_pass.specs.declared.taking.Taking.{Taking}
-use Rattle.file_tracker.specs.declared.row.Row.{Row as SavedRow}
-use Rattle.file_tracker.specs.declared.tracker.TheConstants.{ROW_LIMIT}
+use Rattle.file_tracker.specs.declared.row.Row.{Row}
+use Rattle.file_tracker.specs.Limits.{row_limit}
 use Rattle.glob_match.specs.Pattern.{Pattern}
 use Rattle.outside.specs.TreeMeaning.{TreeMeaning}
 use Rattle.poll_core.specs.Begun.{IsBegun}
@@ -22,10 +22,10 @@ use Rattle.standing.specs.Rules.{Includes}
 use Rattle.tree_walk.specs.Walked.{Finds}
 use Rattle.tree_walk.specs.declared.walk.Walk.{Walk}
 
-pub begun_sane : (setup : Setup) (rows : List SavedRow) (kept : ℕ) (taking : Taking) → IsBegun rows kept taking → AreSaneRows (rules_in setup) kept rows → length rows ≤ ROW_LIMIT → kept ≤ setup.limit → IsSaneTaking setup taking
+pub begun_sane : (setup : Setup) (rows : List Row) (kept : ℕ) (taking : Taking) → IsBegun rows kept taking → AreSaneRows (rules_in setup) kept rows → length rows ≤ row_limit → kept ≤ setup.limit → IsSaneTaking setup taking
 begun_sane setup rows kept taking begun sane few within = record {
   rows = subst (λ (end : ℕ). AreSaneRows (rules_in setup) end taking.tracker) (sym begun.end_is)
-      (subst (λ (r : List SavedRow). AreSaneRows (rules_in setup) kept r) (sym begun.rows_are) sane);
+      (subst (λ (r : List Row). AreSaneRows (rules_in setup) kept r) (sym begun.rows_are) sane);
   few = omega (arith, few, ap length begun.rows_are);
   flags = begun.flags ∙ sym (ap length begun.rows_are);
   end_within = omega (arith, within, begun.end_is);

@@ -3,13 +3,13 @@ use Rattle.std.proofs.Common.{◌≡◌, ◌⊎◌, ℕ, ◌+◌, List, [], ◌�
 use Rattle.std.specs.Prelude.{IsTrue}
 use Rattle.std.proofs.lemmas.List.{length-append}
 use Rattle.checkpoint_journal.specs.declared.journal.Journal.{Journal}
-use Rattle.checkpoint_store.specs.declared.Checkpoint.{Checkpoint as Saved}
+use Rattle.checkpoint_store.specs.declared.Checkpoint.{Checkpoint}
 use Rattle.file_pass.specs.DiskTerms.{Appends, KeepsDisk, NoFewer}
 use Rattle.file_pass.specs.Full.{lines_text}
 use Rattle.outside.proofs.Passing.{passes_by, passes_then}
 use Rattle.outside.specs.Crash.{Passes}
 use Rattle.outside.specs.DiskMeaning.{DiskMeaning}
-use Rattle.outside.specs.Image.{AtFile, Image, KeepsFront, Same}
+use Rattle.outside.specs.Image.{AtFile, Image, KeepsFront}
 use Rattle.outside.specs.Images.{Images}
 use Rattle.outside.specs.declared.disk.DiskFile.{DiskFile}
 use Rattle.outside.specs.declared.disk.DiskFile.TheVariants.{Settings, Output, SlotA, SlotB}
@@ -17,7 +17,7 @@ use Rattle.poll_core.proofs.DiskLemmas.{ends_goes_on, ends_moved}
 use Rattle.poll_core.specs.Next.{DifferInOutput, IsSavedIn, KeepsFiles, KeepsMemory, Saves}
 use Rattle.poll_core.specs.Polled.{Stays, Steps}
 use Rattle.poll_core.specs.Remembers.{EndsWithMemory, HasMemory, IsLeftBy}
-use Rattle.poll_core.specs.SessionParts.{store_checkpoint, journal_of_session, kept_of}
+use Rattle.poll_core.specs.SessionParts.{checkpoint_of_session, journal_of_session, kept_of}
 use Rattle.poll_core.specs.StandsOn.{StandsOn}
 use Rattle.poll_core.specs.declared.session.Session.{Session}
 use Rattle.slot_store.specs.Committed.{LeavesOne}
@@ -47,8 +47,8 @@ passes_both a b join = record {
 stays_at : (session : Session) (old new : Image DiskFile) → IsLeftBy session old → AtFile Output (KeepsFront (kept_of session)) old new → Stays session old new
 stays_at session old new left at = record {
   settings = at.others Settings (λ same. cc);
-  memory = ends_goes_on (journal_of_session session) (store_checkpoint session) new
-      (ends_moved (journal_of_session session) (store_checkpoint session) old new (at.others SlotA (λ same. cc)) (at.others SlotB (λ same. cc)) left.memory);
+  memory = ends_goes_on (journal_of_session session) (checkpoint_of_session session) new
+      (ends_moved (journal_of_session session) (checkpoint_of_session session) old new (at.others SlotA (λ same. cc)) (at.others SlotB (λ same. cc)) left.memory);
   front = at.here;
 }
 
@@ -68,10 +68,10 @@ module _ {D : Type 0} (meaning : DiskMeaning D) (session : Session) (disk mid : 
       let past = front_kept.now_left image left in
       record { old = past.0; left = past.1; by = stands.each.each past.0 past.1; at = past.2 }
 
-  pub mid_ends : (image : Image DiskFile) → meaning.images.may_leave mid image → EndsWithMemory (journal_of_session session) (store_checkpoint session) image
+  pub mid_ends : (image : Image DiskFile) → meaning.images.may_leave mid image → EndsWithMemory (journal_of_session session) (checkpoint_of_session session) image
   mid_ends image left =
       let from = from_left image left in
-      ends_moved (journal_of_session session) (store_checkpoint session) from.old image (from.at.others SlotA (λ same. cc)) (from.at.others SlotB (λ same. cc)) from.by.memory
+      ends_moved (journal_of_session session) (checkpoint_of_session session) from.old image (from.at.others SlotA (λ same. cc)) (from.at.others SlotB (λ same. cc)) from.by.memory
 
   pub mid_differs : (one other : Image DiskFile) → meaning.images.may_leave mid one → meaning.images.may_leave mid other → DifferInOutput one other
   mid_differs one other left other_left =
@@ -106,27 +106,27 @@ module _ {D : Type 0} (meaning : DiskMeaning D) (session : Session) (disk mid : 
         ap length (seen_mid tells) ∙ length-append (meaning.images.seen disk Output) (lines_text added) ∙ ap (λ (n : ℕ). n + length (lines_text added)) by.output ∙ sym appends.end_is
 
     -- an image after the pass, or one that keeping it left
-    abbrev MaySave : Saved → Image DiskFile → Image DiskFile → Type 0
+    abbrev MaySave : Checkpoint → Image DiskFile → Image DiskFile → Type 0
     MaySave saved old new = AtFile Output (KeepsFront (kept_of session)) old new
         ⊎ ((middle : Image DiskFile) × AtFile Output (KeepsFront (kept_of session)) old middle × Saves (journal_of_session session) saved (meaning.images.seen mid Output) middle new)
 
-    middle_memory : (old middle : Image DiskFile) → IsLeftBy session old → AtFile Output (KeepsFront (kept_of session)) old middle → HasMemory (journal_of_session session) (store_checkpoint session) middle
+    middle_memory : (old middle : Image DiskFile) → IsLeftBy session old → AtFile Output (KeepsFront (kept_of session)) old middle → HasMemory (journal_of_session session) (checkpoint_of_session session) middle
     middle_memory old middle by at = (stays_at session old middle by at).memory
 
-    kept_on : (old middle new : Image DiskFile) → IsLeftBy session old → AtFile Output (KeepsFront (kept_of session)) old middle → KeepsFiles middle new → HasMemory (journal_of_session session) (store_checkpoint session) new → Stays session old new
+    kept_on : (old middle new : Image DiskFile) → IsLeftBy session old → AtFile Output (KeepsFront (kept_of session)) old middle → KeepsFiles middle new → HasMemory (journal_of_session session) (checkpoint_of_session session) new → Stays session old new
     kept_on old middle new by at files memory = record {
       settings = files.settings ∙ at.others Settings (λ same. cc);
       memory = memory;
       front = subst (λ (bytes : List ℕ). KeepsFront (kept_of session) (old Output) bytes) (sym files.output) at.here;
     }
 
-    pub steps_pass : (saved : Saved) (after : D) → Passes meaning.images (Saves (journal_of_session session) saved (meaning.images.seen mid Output)) mid after → Passes meaning.images (Steps session saved added) disk after
+    pub steps_pass : (saved : Checkpoint) (after : D) → Passes meaning.images (Saves (journal_of_session session) saved (meaning.images.seen mid Output)) mid after → Passes meaning.images (Steps session saved added) disk after
     steps_pass saved after saves =
         let whole : Passes meaning.images (MaySave saved) disk after = passes_then front_kept saves (λ x y at. inl at) (λ x y z at step. inr (y, at, step)) in
         passes_by whole (λ x z left may. elim may [
           | inl at ↦ inl (stays_at session x z (stands.each.each x left) at)
           | inr m ↦ elim m.2.choice [
-            | inl same ↦ inl (kept_on x m.0 z (stands.each.each x left) m.1 m.2.files (same (store_checkpoint session) (middle_memory x m.0 (stands.each.each x left) m.1)))
+            | inl same ↦ inl (kept_on x m.0 z (stands.each.each x left) m.1 m.2.files (same (checkpoint_of_session session) (middle_memory x m.0 (stands.each.each x left) m.1)))
             | inr next ↦ inr (record {
               settings = m.2.files.settings ∙ m.1.others Settings (λ same. cc);
               memory = next.0;
@@ -137,13 +137,13 @@ module _ {D : Type 0} (meaning : DiskMeaning D) (session : Session) (disk mid : 
 
     -- no file but the slots changed, and the memory is the session's
     abbrev KeepsBoth : Image DiskFile → Image DiskFile → Type 0
-    KeepsBoth old new = KeepsFiles old new × HasMemory (journal_of_session session) (store_checkpoint session) new
+    KeepsBoth old new = KeepsFiles old new × HasMemory (journal_of_session session) (checkpoint_of_session session) new
 
-    pub early_pass : (saved : Saved) (after : D) → Passes meaning.images (Saves (journal_of_session session) saved (meaning.images.seen mid Output)) mid after → Passes meaning.images (KeepsMemory (journal_of_session session)) mid after → Passes meaning.images (Stays session) disk after
+    pub early_pass : (saved : Checkpoint) (after : D) → Passes meaning.images (Saves (journal_of_session session) saved (meaning.images.seen mid Output)) mid after → Passes meaning.images (KeepsMemory (journal_of_session session)) mid after → Passes meaning.images (Stays session) disk after
     early_pass saved after saves keeps_memory =
         let both : Passes meaning.images KeepsBoth mid after = passes_both keeps_memory saves (λ x y z left memory left_too step.
         let from = from_left x left in
-        (step.files, memory (store_checkpoint session) (middle_memory from.old x from.by from.at))) in
+        (step.files, memory (checkpoint_of_session session) (middle_memory from.old x from.by from.at))) in
         let whole : Passes meaning.images (λ x z. AtFile Output (KeepsFront (kept_of session)) x z ⊎ ((y : Image DiskFile) × AtFile Output (KeepsFront (kept_of session)) x y × KeepsBoth y z)) disk after =
         passes_then front_kept both (λ x y at. inl at) (λ x y z at step. inr (y, at, step)) in
         passes_by whole (λ x z left may. elim may [
@@ -154,20 +154,20 @@ module _ {D : Type 0} (meaning : DiskMeaning D) (session : Session) (disk mid : 
     -- what was saved stands beside as many bytes of output
     pub saved_stands : (next : Session) (journal : Journal) (after : D) → journal_of_session next ≡ Some journal → kept_of next ≡ end → LeavesOne meaning.images after
         → ((image : Image DiskFile) → meaning.images.may_leave after image → IsTrue (meaning.images.tells disk))
-        → EachLeft meaning.images after (IsSavedIn journal (store_checkpoint next) (meaning.images.seen mid Output)) → StandsOn meaning.images next after
+        → EachLeft meaning.images after (IsSavedIn journal (checkpoint_of_session next) (meaning.images.seen mid Output)) → StandsOn meaning.images next after
     saved_stands next journal after is kept_is one tells each = record {
       one = one;
       each = record {
         each = λ image left.
             let saved = each.each image left in
             record {
-              memory = subst (λ (j : Option Journal). EndsWithMemory j (store_checkpoint next) image) (sym is) saved.ends;
+              memory = subst (λ (j : Option Journal). EndsWithMemory j (checkpoint_of_session next) image) (sym is) saved.ends;
               output = ap length saved.output_is ∙ seen_size (tells image left) ∙ sym kept_is;
             };
       };
     }
 
-    none_added : end ≡ kept_of session → lines_text added ≡ []
+    pub none_added : end ≡ kept_of session → lines_text added ≡ []
     none_added same = sym (none_of (lines_text added) (omega (arith, same, appends.end_is)))
       where
         none_of : (bytes : List ℕ) → length bytes ≡ 0 → [] ≡ bytes
@@ -175,25 +175,18 @@ module _ {D : Type 0} (meaning : DiskMeaning D) (session : Session) (disk mid : 
         none_of (byte ∷ bytes) is = absurd (omega (arith, is))
 
     -- where nothing was added, the same stands
-    pub left_stands : (next : Session) → end ≡ kept_of session → journal_of_session next ≡ journal_of_session session → store_checkpoint next ≡ store_checkpoint session → StandsOn meaning.images next mid
+    pub left_stands : (next : Session) → end ≡ kept_of session → journal_of_session next ≡ journal_of_session session → checkpoint_of_session next ≡ checkpoint_of_session session → StandsOn meaning.images next mid
     left_stands next same journal_is checkpoint_is =
-        let still : Passes meaning.images Same disk mid = appends.idle (none_added same) in
-        record {
-          one = record {
-            same = λ one another left another_left file differs.
-                let first = still.now_left one left in
-                let second = still.now_left another another_left in
-                ap (λ (image : Image DiskFile). image file) first.2 ∙ stands.one.same first.0 second.0 first.1 second.1 file differs ∙ sym (ap (λ (image : Image DiskFile). image file) second.2);
-          };
+        subst (λ (d : D). StandsOn meaning.images next d) (sym (appends.idle (none_added same)))
+        (record {
+          one = stands.one;
           each = record {
             each = λ image left.
-                let past = still.now_left image left in
-                let by = stands.each.each past.0 past.1 in
-                let moved : IsLeftBy session image = subst (λ (i : Image DiskFile). IsLeftBy session i) (sym past.2) by in
+                let by = stands.each.each image left in
                 record {
-                  memory = subst (λ (j : Option Journal). EndsWithMemory j (store_checkpoint next) image) (sym journal_is)
-                      (subst (λ (c : Saved). EndsWithMemory (journal_of_session session) c image) (sym checkpoint_is) moved.memory);
-                  output = moved.output ∙ sym (ap (λ (c : Saved). c.output_length) checkpoint_is);
+                  memory = subst (λ (j : Option Journal). EndsWithMemory j (checkpoint_of_session next) image) (sym journal_is)
+                      (subst (λ (c : Checkpoint). EndsWithMemory (journal_of_session session) c image) (sym checkpoint_is) by.memory);
+                  output = by.output ∙ sym (ap (λ (c : Checkpoint). c.output_length) checkpoint_is);
                 };
           };
-        }
+        })

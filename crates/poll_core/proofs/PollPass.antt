@@ -1,21 +1,20 @@
 -- A walk, and a pass over the paths that it found, are a pass of the rules, and the numbers are those of its looks.
 use Rattle.std.proofs.Common.{◌≡◌, ◌⊎◌, ℕ, ◌+◌, ◌≤◌, List, [], ◌∷◌, ◌++◌, length, map, Bool, refl, sym, ap, ◌∙◌, arith, inl, inr}
 use Rattle.std.specs.Prelude.{Contains, min}
-use Rattle.checkpoint_store.specs.declared.Checkpoint.{Checkpoint as Saved}
 use Rattle.file_pass.proofs.Turned.{looks_ascend, none_left_out}
 use Rattle.file_pass.specs.AllTaken.{AllTaken}
 use Rattle.file_pass.specs.Gain.{Counted, Gain}
 use Rattle.file_pass.specs.Turns.{looks_of, misses_of, gone_of}
 use Rattle.file_pass.specs.declared.taking.Taking.{Taking}
-use Rattle.file_tracker.specs.declared.row.Row.{Row as SavedRow}
+use Rattle.file_tracker.specs.declared.row.Row.{Row}
 use Rattle.outside.specs.Count.{raised}
 use Rattle.outside.specs.Lawful.{IsLawful}
 use Rattle.outside.specs.Seen.{looked, missed}
 use Rattle.outside.specs.World.{History, World, names}
 use Rattle.outside.specs.declared.tree.Kind.TheVariants.{File, Folder}
 use Rattle.poll_core.proofs.GoneLemmas.{Texts, WasLost, gone_differ, gone_there, lost_few}
+use Rattle.poll_core.proofs.SessionLemmas.{checkpoint_with}
 use Rattle.poll_core.specs.Begun.{no_counts}
-use Rattle.poll_core.specs.Checkpoints.{standing_checkpoint}
 use Rattle.poll_core.specs.Polled.{stretch_of}
 use Rattle.poll_core.specs.Summed.{IsDeep, IsSummaryOf, HasDeepFolder, sums_of}
 use Rattle.poll_core.specs.declared.summary.Summary.{Summary}
@@ -48,11 +47,7 @@ later_named old mid new path file later throughout = λ moment after before. thr
 hidden : (misses unlisteds : Texts) (path : List ℕ) → IsHidden unlisteds path → WasHidden misses unlisteds path
 hidden misses unlisteds path is = inr is
 
--- what a session of these rows begins or ends with
-abbrev pub saved_as : List ℕ → ℕ → List SavedRow → Saved
-saved_as settings output rows = record { settings = settings; output_length = output; next_id = length rows + 1; rows = rows }
-
-module _ (rules : Rules) (first : Bool) (paths deep : Texts) (fails unnamed : ℕ) (before after : List SavedRow) (gain : Gain) (added : List Mark) (old mid new : World) (found : FindsIn rules.include rules.exclude paths deep fails unnamed old mid) (taken : AllTaken rules first paths before after gain added mid new) (sorted : Ascends paths) where
+module _ (rules : Rules) (first : Bool) (paths deep : Texts) (fails unnamed : ℕ) (before after : List Row) (gain : Gain) (added : List Mark) (old mid new : World) (found : FindsIn rules.include rules.exclude paths deep fails unnamed old mid) (taken : AllTaken rules first paths before after gain added mid new) (sorted : Ascends paths) where
   walked : IsLater old.history mid.history
   walked = found.calls.later
 
@@ -80,7 +75,7 @@ module _ (rules : Rules) (first : Bool) (paths deep : Texts) (fails unnamed : �
 
   -- the pass, with the paths that met faults
   pub record Joined (settings : List ℕ) (kept end count count_after : ℕ) : Type 0 where
-    pub pass : Pass rules first (stretch_of old.history new.history count count_after) (looks_of taken.turns) (standing_checkpoint (saved_as settings kept before)) (standing_checkpoint (saved_as settings end after)) added
+    pub pass : Pass rules first (stretch_of old.history new.history count count_after) (looks_of taken.turns) (checkpoint_with settings kept before) (checkpoint_with settings end after) added
     pub misses_are : pass.misses ≡ misses_of taken.turns
     pub unlisteds_are : pass.unlisteds ≡ found.unlisteds
 
@@ -128,7 +123,7 @@ module _ (rules : Rules) (first : Bool) (paths deep : Texts) (fails unnamed : �
 
   pub summed : (walk : Walk) (taking : Taking) (summary : Summary) (settings : List ℕ) (kept count count_after : ℕ) (join : Joined settings kept taking.end count count_after)
       → IsLawful new.history → Counted no_counts gain taking.counts → IsSummaryOf walk taking summary → walk.failed ≡ min (fails + unnamed) 4294967295 → gain.lines ≡ length added
-      → AreSums rules first (stretch_of old.history new.history count count_after) (looks_of taken.turns) (standing_checkpoint (saved_as settings kept before)) (standing_checkpoint (saved_as settings taking.end after)) added join.pass (sums_of summary)
+      → AreSums rules first (stretch_of old.history new.history count count_after) (looks_of taken.turns) (checkpoint_with settings kept before) (checkpoint_with settings taking.end after) added join.pass (sums_of summary)
   summed walk taking summary settings kept count count_after join lawful counted is failed lines = record {
     files = omega (arith, is.files, counted.files, taken.gains.files);
     lines = omega (arith, is.lines, counted.lines, lines);

@@ -8,7 +8,7 @@ use Rattle.file_pass.specs.Turns.{looks_of}
 use Rattle.file_pass.specs.declared.counts.Counts.{Counts}
 use Rattle.file_pass.specs.declared.setup.Setup.{Setup}
 use Rattle.file_pass.specs.declared.taking.Taking.{Taking}
-use Rattle.file_tracker.specs.declared.row.Row.{Row as SavedRow}
+use Rattle.file_tracker.specs.declared.row.Row.{Row}
 use Rattle.outside.specs.Count.{raised}
 use Rattle.outside.specs.DiskMeaning.{DiskMeaning}
 use Rattle.outside.specs.Lawful.{IsLawful, TellsLawful}
@@ -96,7 +96,7 @@ module _ {T D : Type 0} (trees : TreeMeaning T) (disks : DiskMeaning D) (session
 
   took_by : Told (AllTaken (rules_of_session session) (is_first session) walk.paths.items session.tracker taking.tracker passed.takes.gain passed.takes.takes.added) (trees.world passed.between) (trees.world tree_after)
   took_by =
-      subst (λ (rows : List SavedRow). Told (AllTaken (rules_of_session session) (is_first session) walk.paths.items rows taking.tracker passed.takes.gain passed.takes.takes.added) (trees.world passed.between) (trees.world tree_after)) passed.is_begun.rows_are
+      subst (λ (rows : List Row). Told (AllTaken (rules_of_session session) (is_first session) walk.paths.items rows taking.tracker passed.takes.gain passed.takes.takes.added) (trees.world passed.between) (trees.world tree_after)) passed.is_begun.rows_are
       (subst (λ (first : Bool). Told (AllTaken (rules_of_session session) first walk.paths.items passed.begun.tracker taking.tracker passed.takes.gain passed.takes.takes.added) (trees.world passed.between) (trees.world tree_after)) first_is
       (subst (λ (rules : Rules). Told (AllTaken rules setup.first walk.paths.items passed.begun.tracker taking.tracker passed.takes.gain passed.takes.takes.added) (trees.world passed.between) (trees.world tree_after)) rules_are passed.takes.takes.world))
 

@@ -4,6 +4,7 @@ use Rattle.std.specs.Option.{is_none, is_some}
 use Rattle.std.specs.Prelude.{IfSome, IsTrue, max, not}
 use Rattle.checkpoint_journal.specs.declared.journal.Journal.{Journal}
 use Rattle.checkpoint_store.specs.Rules.{IsCheckpoint}
+use Rattle.checkpoint_store.specs.declared.Checkpoint.{Checkpoint}
 use Rattle.file_pass.specs.DiskTerms.{Appends, KeepsDisk}
 use Rattle.file_pass.specs.Full.{lines_text}
 use Rattle.file_pass.specs.declared.setup.Setup.{Setup}
@@ -15,16 +16,17 @@ use Rattle.outside.specs.Lawful.{TellsLawful}
 use Rattle.outside.specs.TreeMeaning.{TreeMeaning}
 use Rattle.outside.specs.declared.disk.DiskFile.{DiskFile}
 use Rattle.outside.specs.declared.disk.DiskFile.TheVariants.{Output}
-use Rattle.poll_core.proofs.PollDisk.{early_pass, fewer_then, left_stands, mid_differs, mid_ends, saved_stands, steps_pass}
+use Rattle.poll_core.proofs.PollDisk.{early_pass, fewer_then, left_stands, mid_differs, mid_ends, none_added, saved_stands, steps_pass}
 use Rattle.poll_core.proofs.PollLines.{within_own}
-use Rattle.poll_core.proofs.PollRows.{IsSetUp, next_differ, next_fits, next_lawful, next_savable, next_stand, next_states, same_rows}
+use Rattle.poll_core.proofs.PollRows.{IsSetUp, next_differ, next_fits, next_lawful, next_named, next_savable, next_stand, next_states, none_flagged, same_rows}
 use Rattle.poll_core.proofs.PollTold.{end_by, is_pass, is_summed, lines_by, rose_by}
+use Rattle.poll_core.specs.Begun.{IsQuiet}
 use Rattle.poll_core.specs.IsSession.{IsSession, IsShort}
 use Rattle.poll_core.specs.Kept.{Keeps}
 use Rattle.poll_core.specs.Next.{Costs, DifferInOutput, IsSavable, KeepsMemory, Saves}
 use Rattle.poll_core.specs.Passed.{Passed}
-use Rattle.poll_core.specs.Polled.{ComesAfter, HasCost, MayGain, Polled, Stays, is_first}
-use Rattle.poll_core.specs.SessionParts.{store_checkpoint, rules_of_session, journal_of_session, kept_of, limit_of}
+use Rattle.poll_core.specs.Polled.{ChangesNothing, ComesAfter, HasCost, HasNextJournal, HasToKeep, LeavesAll, MayGain, Polled, Stays, is_first}
+use Rattle.poll_core.specs.SessionParts.{checkpoint_of_session, rules_of_session, journal_of_session, kept_of, limit_of}
 use Rattle.poll_core.specs.StandsOn.{StandsOn}
 use Rattle.poll_core.specs.Summed.{IsSummaryOf}
 use Rattle.poll_core.specs.Taken.{taken_change, taken_checkpoint}
@@ -92,9 +94,12 @@ module _ {T D : Type 0} (trees : TreeMeaning T) (disks : DiskMeaning D) (session
   cost : (disk_after : D) → Costs (journal_of_session session) (taken_checkpoint session.settings taking) (taken_change taking).rows (disks.written mid) (disks.written disk_after) → HasCost disks session (taken_checkpoint session.settings taking) disk disk_after
   cost disk_after costs = record {
     rows = (taken_change taking).rows;
-    ascend = (next_fits session is setup by passed.begun taking passed.is_begun passed.sane passed.flags grown).rows;
-    each = next_stand session is setup by passed.begun taking passed.is_begun passed.sane passed.flags grown;
-    differ = next_differ session is setup by passed.begun taking passed.is_begun passed.sane passed.flags grown;
+    changed = record {
+      ascend = (next_fits session is setup by passed.begun taking passed.is_begun passed.sane passed.flags grown).rows;
+      each = next_stand session is setup by passed.begun taking passed.is_begun passed.sane passed.flags grown;
+      differ = next_differ session is setup by passed.begun taking passed.is_begun passed.sane passed.flags grown;
+      no_other = next_named session is setup by passed.begun taking passed.is_begun passed.sane passed.flags grown;
+    };
     costs = subst (λ (before : Option ℕ). Costs (journal_of_session session) (taken_checkpoint session.settings taking) (taken_change taking).rows before (disks.written disk_after)) keeps.written costs;
   }
 
@@ -121,16 +126,52 @@ module _ {T D : Type 0} (trees : TreeMeaning T) (disks : DiskMeaning D) (session
     early text disk_after saves keeps_memory fewer =
         early_pass disks session disk mid stands keeps told shown passed.takes.takes.added taking.end appends (taken_checkpoint text taking) disk_after saves (keeps_memory (fewer_then disks session disk mid stands keeps (disks.done disk_after) fewer))
 
+    -- where nothing is to be kept, the next checkpoint is the session's, and the reverse
+    left_same : (journal : Option Journal) → IsQuiet (journal_of_session session) session.kept taking → checkpoint_of_session (next_of session taking journal) ≡ checkpoint_of_session session
+    left_same journal quiet =
+        let rows = same_rows session is setup by passed.begun taking passed.is_begun passed.sane passed.flags grown quiet.none_flagged in
+        λ i. record { settings = session.settings; output_length = quiet.end_is i; next_id = length (rows i) + 1; rows = rows i }
+
+    quiet_then : ChangesNothing session (taken_checkpoint session.settings taking) → IsQuiet (journal_of_session session) session.kept taking
+    quiet_then nothing = record {
+      stood = λ is. (let never : true ≡ false = sym (ap (λ (j : Option Journal). is_none j) is) ∙ nothing.not_first in cc);
+      end_is = ap (λ (c : Checkpoint). c.output_length) nothing.same;
+      none_flagged = none_flagged session is setup by passed.begun taking passed.is_begun passed.sane passed.flags grown (ap (λ (c : Checkpoint). c.rows) nothing.same);
+    }
+
+    pub has_to_keep : (IsQuiet (journal_of_session session) session.kept taking → ⊥) → HasToKeep trees session tree tree_after
+    has_to_keep loud = record {
+      after = taken_checkpoint session.settings taking;
+      added = passed.takes.takes.added;
+      comes = comes;
+      pass = is_pass trees disks session setup walk taking tree tree_after disk mid by.rules first_is passed;
+      changes = λ nothing. loud (quiet_then nothing);
+    }
+
+    next_journal : (journal : Option Journal) (disk_after : D) → Keeps disks.images session.settings taking session.kept (journal_of_session session) journal mid disk_after
+        → (ChangesNothing session (checkpoint_of_session (next_of session taking journal)) → ⊥) → HasNextJournal session (next_of session taking journal) (taken_change taking).rows
+    next_journal journal disk_after kept changes = elim kept [
+      | inl left ↦ absurd (changes (record { not_first = stood (journal_of_session session) left.quiet.stood; same = left_same journal left.quiet }))
+      | inr put ↦ (put.0, put.1, put.2.next_is)
+    ]
+
+    next_quiet : (journal : Option Journal) (disk_after : D) → Keeps disks.images session.settings taking session.kept (journal_of_session session) journal mid disk_after
+        → ChangesNothing session (checkpoint_of_session (next_of session taking journal)) → LeavesAll session (next_of session taking journal) disk disk_after
+    next_quiet journal disk_after kept nothing = elim kept [
+      | inl left ↦ record {
+        journal = left.same;
+        still = left.still ∙ appends.idle (none_added disks session disk mid stands keeps told shown passed.takes.takes.added taking.end appends left.quiet.end_is);
+      }
+      | inr put ↦ absurd (put.3 (quiet_then nothing))
+    ]
+
     -- the session that goes on stands on the disk
     next_stands : (journal : Option Journal) (disk_after : D) → ((image : Image DiskFile) → disks.images.may_leave disk_after image → IsTrue (disks.images.tells disk))
         → Keeps disks.images session.settings taking session.kept (journal_of_session session) journal mid disk_after → StandsOn disks.images (next_of session taking journal) disk_after
     next_stands journal disk_after tells kept = elim kept [
       | inl left ↦
-          (let rows = same_rows session is setup by passed.begun taking passed.is_begun passed.sane passed.flags grown left.quiet.none_flagged in
-          let same : store_checkpoint (next_of session taking journal) ≡ store_checkpoint session =
-          λ i. record { settings = session.settings; output_length = left.quiet.end_is i; next_id = length (rows i) + 1; rows = rows i } in
           subst (λ (d : D). StandsOn disks.images (next_of session taking journal) d) (sym left.still)
-          (left_stands disks session disk mid stands keeps told shown passed.takes.takes.added taking.end appends (next_of session taking journal) left.quiet.end_is left.same same))
+          (left_stands disks session disk mid stands keeps told shown passed.takes.takes.added taking.end appends (next_of session taking journal) left.quiet.end_is left.same (left_same journal left.quiet))
       | inr put ↦ saved_stands disks session disk mid stands keeps told shown passed.takes.takes.added taking.end appends (next_of session taking journal) put.0 disk_after put.1 refl put.2.one tells put.2.each
     ]
 
@@ -160,6 +201,7 @@ module _ {T D : Type 0} (trees : TreeMeaning T) (disks : DiskMeaning D) (session
         → Keeps disks.images text taking session.kept (journal_of_session session) journal mid disk_after
         → Costs (journal_of_session session) (taken_checkpoint text taking) (taken_change taking).rows (disks.written mid) (disks.written disk_after)
         → Polled trees disks session (next_of session taking journal) summary tree tree_after disk disk_after
+    unfolding cost
     polled text is_text journal disk_after summary tells lawful sums kept costs = record {
       rules = refl;
       limit = refl;
@@ -172,5 +214,7 @@ module _ {T D : Type 0} (trees : TreeMeaning T) (disks : DiskMeaning D) (session
       pass = is_summed trees disks session setup walk taking tree tree_after disk mid by.rules first_is passed summary sums lawful;
       stands = next_stands journal disk_after tells (own_kept text is_text journal disk_after kept);
       cost = cost disk_after (subst (λ (t : List ℕ). Costs (journal_of_session session) (taken_checkpoint t taking) (taken_change taking).rows (disks.written mid) (disks.written disk_after)) is_text costs);
+      kept = next_journal journal disk_after (own_kept text is_text journal disk_after kept);
+      quiet = next_quiet journal disk_after (own_kept text is_text journal disk_after kept);
       not_worn = λ worn. elim (own_kept text is_text journal disk_after kept) [ inl left ↦ left.same | inr put ↦ absurd (put.2.not_worn worn) ];
     }

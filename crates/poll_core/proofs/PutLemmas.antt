@@ -1,5 +1,6 @@
 -- What a change that is put behind, and a checkpoint that is put beside, make of a disk.
 use Rattle.std.proofs.Common.{◌≡◌, ◌≢◌, ℕ, ◌+◌, ◌^◌, ◌≤◌, List, length, Option, Some, None, Result, Ok, Err, OnOk, refl, sym, ap, ◌∙◌, subst, inl, inr, arith}
+use Rattle.std.proofs.lemmas.Option.{same_Some}
 use Rattle.std.specs.Prelude.{IfOk}
 use Rattle.checkpoint_journal.proofs.CostLemmas.{change_cost}
 use Rattle.checkpoint_journal.proofs.ShortLemmas.{checkpoint_short}
@@ -7,10 +8,11 @@ use Rattle.checkpoint_journal.specs.JournalOf.{EndsWith}
 use Rattle.checkpoint_journal.specs.Written.{Awaits, appended, GainsChange, Appends, written_file, started, StandsIn, KeepsOld, Rewrites}
 use Rattle.checkpoint_journal.specs.declared.journal.Journal.{Journal}
 use Rattle.checkpoint_store.specs.Rules.{IsCheckpoint}
-use Rattle.checkpoint_store.specs.Spelling.{change_spelling}
+use Rattle.checkpoint_store.specs.Spelling.{change_spelling, checkpoint_spelling}
 use Rattle.checkpoint_store.specs.declared.Change.{Change}
-use Rattle.checkpoint_store.specs.declared.Checkpoint.{Checkpoint as Saved}
+use Rattle.checkpoint_store.specs.declared.Checkpoint.{Checkpoint}
 use Rattle.file_pass.specs.declared.taking.Taking.{Taking}
+use Rattle.file_tracker.specs.declared.row.Row.{Row}
 use Rattle.outside.proofs.Passing.{passes_by, passes_weaker}
 use Rattle.outside.specs.Crash.{Passes}
 use Rattle.outside.specs.DiskCalls.{written_after}
@@ -20,7 +22,7 @@ use Rattle.outside.specs.declared.disk.DiskFile.{DiskFile}
 use Rattle.outside.specs.declared.disk.DiskFile.TheVariants.{Settings, Output, SlotA, SlotB}
 use Rattle.poll_core.proofs.TakenLemmas.{change_within}
 use Rattle.poll_core.specs.IsSession.{IsShort}
-use Rattle.poll_core.specs.Next.{IsNext, IsSavable, KeepsFiles, KeepsMemory, Puts, WrittenAtMost, cost_of_rows, sequence_after}
+use Rattle.poll_core.specs.Next.{Costs, IsDue, IsNext, IsSavable, KeepsFiles, KeepsMemory, Puts, WrittenAtMost, cost_of_rows, sequence_after}
 use Rattle.poll_core.specs.Taken.{taken_change, taken_checkpoint}
 use Rattle.slot_store.specs.ChosenSlot.{IsSlotFile}
 use Rattle.slot_store.specs.Committed.{KeepsOthers, other_file}
@@ -72,7 +74,7 @@ gained : (journal : Journal) (settings : List ℕ) (taking : Taking) (old new : 
     → EndsWith (appended journal (taken_change taking)) (taken_checkpoint settings taking) new
 gained journal settings taking old new savable gains =
     let next = appended journal (taken_change taking) in
-    subst (λ (c : Saved). EndsWith next c new) (sym savable.makes) (gains savable.before savable.ends.journal_is savable.fits)
+    subst (λ (c : Checkpoint). EndsWith next c new) (sym savable.makes) (gains savable.before savable.ends.journal_is savable.fits)
 
 put_of_append : (journal : Journal) (settings : List ℕ) (taking : Taking) (old new : Image DiskFile) → IsSlotFile journal.slot.file → IsSavable (Some journal) settings taking old → Appends journal (taken_change taking) old new
     → Puts (Some journal) (taken_checkpoint settings taking) old new
@@ -84,8 +86,13 @@ put_of_append journal settings taking old new is savable appends = record {
   ];
 }
 
-pub behind_next : (journal : Journal) (change : Change) → IsShort journal → IsNext (Some journal) (appended journal change)
-behind_next journal change short = record { short = record { file = short.file; base = short.base }; sequence = refl }
+pub behind_next : (journal : Journal) (after : Checkpoint) (change : Change) → IsShort journal → (IsDue (Some journal) after → ⊥) → IsNext (Some journal) after change (appended journal change)
+behind_next journal after change short not_due = record {
+  short = record { file = short.file; base = short.base };
+  sequence = refl;
+  anew = λ due. absurd (not_due due);
+  goes_on = λ own is _. ap (λ (j : Journal). appended j change) (same_Some journal own is);
+}
 
 -- the change that is put, and its place
 pub record IsBehind (journal : Journal) (taking : Taking) (change : Change) : Type 0 where
@@ -130,11 +137,11 @@ keeps_memory : (journal : Option Journal) (old new : Image DiskFile) → KeepsOl
 keeps_memory None old new keeps before memory = (keeps, memory.1)
 keeps_memory (Some journal) old new keeps before memory = keeps before memory
 
-started_sequence : (journal : Option Journal) (after : Saved) → (started journal after).sequence ≡ sequence_after journal
+started_sequence : (journal : Option Journal) (after : Checkpoint) → (started journal after).sequence ≡ sequence_after journal
 started_sequence None after = refl
 started_sequence (Some journal) after = refl
 
-put_of_rewrite : (journal : Option Journal) (after : Saved) (old new : Image DiskFile) → Rewrites journal after old new → Puts journal after old new
+put_of_rewrite : (journal : Option Journal) (after : Checkpoint) (old new : Image DiskFile) → Rewrites journal after old new → Puts journal after old new
 put_of_rewrite journal after old new rewrites = record {
   files = files_kept (written_file journal) old new (written_is_slot journal) rewrites.others;
   choice = elim rewrites.choice [
@@ -143,18 +150,20 @@ put_of_rewrite journal after old new rewrites = record {
   ];
 }
 
-beside_next : (journal : Option Journal) (after : Saved) → IsCheckpoint after → IsNext journal (started journal after)
-beside_next journal after lawful = record {
+beside_next : (journal : Option Journal) (after : Checkpoint) (change : Change) → IsCheckpoint after → IsDue journal after → IsNext journal after change (started journal after)
+beside_next journal after change lawful due = record {
   short = record { file = written_is_slot journal; base = checkpoint_short after lawful };
   sequence = started_sequence journal after;
+  anew = λ _. refl;
+  goes_on = λ own is not_due. absurd (not_due due);
 }
 
 -- the journal that the checkpoint is put beside, and that checkpoint
-pub record IsBeside (journal before : Option Journal) (after checkpoint : Saved) : Type 0 where
+pub record IsBeside (journal before : Option Journal) (after checkpoint : Checkpoint) : Type 0 where
   pub before_is : before ≡ journal
   pub checkpoint_is : checkpoint ≡ after
 
-module _ {D : Type 0} {images : Images DiskFile D} (journal before : Option Journal) (after checkpoint : Saved) (beside : IsBeside journal before after checkpoint) where
+module _ {D : Type 0} {images : Images DiskFile D} (journal before : Option Journal) (after checkpoint : Checkpoint) (beside : IsBeside journal before after checkpoint) where
   pub each_stands : {old : D} (settings : List ℕ) (taking : Taking) → EachLeft images old (IsSavable journal settings taking) → EachLeft images old (StandsIn before)
   each_stands {old} settings taking savable =
       subst (λ (j : Option Journal). EachLeft images old (StandsIn j)) (sym beside.before_is)
@@ -163,7 +172,7 @@ module _ {D : Type 0} {images : Images DiskFile D} (journal before : Option Jour
   pub beside_crash : {old new : D} → Passes images (Rewrites before checkpoint) old new → Passes images (Puts journal after) old new
   beside_crash passes = passes_weaker passes (λ first second step.
       put_of_rewrite journal after first second
-      (subst (λ (c : Saved). Rewrites journal c first second) beside.checkpoint_is
+      (subst (λ (c : Checkpoint). Rewrites journal c first second) beside.checkpoint_is
       (subst (λ (j : Option Journal). Rewrites j checkpoint first second) beside.before_is step)))
 
   pub beside_early : {old new : D} → Passes images (KeepsOld before) old new → Passes images (KeepsMemory journal) old new
@@ -171,14 +180,14 @@ module _ {D : Type 0} {images : Images DiskFile D} (journal before : Option Jour
       keeps_memory journal first second (subst (λ (j : Option Journal). KeepsOld j first second) beside.before_is step))
 
   pub beside_put : {new : D} → EachLeft images new (EndsWith (started before checkpoint) checkpoint) → EachLeft images new (EndsWith (started before checkpoint) after)
-  beside_put {new} ends = subst (λ (c : Saved). EachLeft images new (EndsWith (started before checkpoint) c)) beside.checkpoint_is ends
+  beside_put {new} ends = subst (λ (c : Checkpoint). EachLeft images new (EndsWith (started before checkpoint) c)) beside.checkpoint_is ends
 
-pub beside_is_next : (journal before : Option Journal) (after checkpoint : Saved) → IsBeside journal before after checkpoint → IsCheckpoint after → IsNext journal (started before checkpoint)
-beside_is_next journal before after checkpoint beside lawful =
-    subst (λ (c : Saved). IsNext journal (started before c)) (sym beside.checkpoint_is)
-    (subst (λ (j : Option Journal). IsNext journal (started j after)) (sym beside.before_is) (beside_next journal after lawful))
+pub beside_is_next : (journal before : Option Journal) (after checkpoint : Checkpoint) (change : Change) → IsBeside journal before after checkpoint → IsCheckpoint after → IsDue journal after → IsNext journal after change (started before checkpoint)
+beside_is_next journal before after checkpoint change beside lawful due =
+    subst (λ (c : Checkpoint). IsNext journal after change (started before c)) (sym beside.checkpoint_is)
+    (subst (λ (j : Option Journal). IsNext journal after change (started j after)) (sym beside.before_is) (beside_next journal after change lawful due))
 
-pub puts_same : (journal : Option Journal) (after : Saved) (old new : Image DiskFile) → new ≡ old → Puts journal after old new
+pub puts_same : (journal : Option Journal) (after : Checkpoint) (old new : Image DiskFile) → new ≡ old → Puts journal after old new
 puts_same journal after old new same =
     let P : Image DiskFile → Type 0 = λ image. Puts journal after old image in
     subst P (sym same) (record { files = files_same old; choice = inl (λ before memory. memory) })
@@ -190,6 +199,13 @@ costs_none most None None same = tt
 costs_none most None (Some _) same = cc
 costs_none most (Some _) None same = cc
 costs_none most (Some before) (Some after) same = let equal : after ≡ before = cc in omega arith
+
+-- nothing was written
+pub costs_nothing : (journal : Option Journal) (after : Checkpoint) (rows : List Row) (before spent : Option ℕ) → spent ≡ before → Costs journal after rows before spent
+costs_nothing journal after rows before spent same = record {
+  anew = λ _. costs_none (length (checkpoint_spelling after) + 18) before spent same;
+  goes_on = λ _. costs_none (cost_of_rows rows) before spent same;
+}
 
 raised_most : (size most : ℕ) (before : Option ℕ) (file : DiskFile) → size ≤ most → WrittenAtMost most before (written_after file size before)
 raised_most size most None Settings within = tt

@@ -2,7 +2,6 @@
 use Rattle.std.proofs.Common.{◌≡◌, ℕ, ◌+◌, ◌≤◌, List, [], ◌∷◌, ◌++◌, length, take, Option, Some, None, refl, sym, ap, subst, ◌∙◌, arith, inl, inr}
 use Rattle.std.proofs.lemmas.List.{take_all, length-append}
 use Rattle.checkpoint_journal.specs.declared.journal.Journal.{Journal}
-use Rattle.checkpoint_store.specs.declared.Checkpoint.{Checkpoint as Saved}
 use Rattle.file_pass.specs.Full.{lines_text}
 use Rattle.file_pass.specs.TreeTerms.{GoesLater}
 use Rattle.outside.proofs.Tearing.{keeps_front_take}
@@ -14,11 +13,10 @@ use Rattle.outside.specs.declared.disk.DiskFile.{DiskFile}
 use Rattle.outside.specs.declared.disk.DiskFile.TheVariants.{Output}
 use Rattle.poll_core.proofs.ImageLemmas.{one_found}
 use Rattle.poll_core.proofs.SessionLemmas.{left_goes_on, begins_with}
-use Rattle.poll_core.specs.Checkpoints.{standing_checkpoint}
 use Rattle.poll_core.specs.Found.{IsFound}
 use Rattle.poll_core.specs.Polled.{ComesAfter, Gains, IsPass, IsStanding, Stays, Steps, TreeCounts, is_first, stretch_of}
 use Rattle.poll_core.specs.Remembers.{HasMemory, EndsWithMemory, IsLeftBy}
-use Rattle.poll_core.specs.SessionParts.{store_checkpoint, checkpoint_of_session, rules_of_session, journal_of_session, kept_of}
+use Rattle.poll_core.specs.SessionParts.{checkpoint_of_session, rules_of_session, journal_of_session, kept_of}
 use Rattle.poll_core.specs.declared.session.Session.{Session}
 use Rattle.poll_core.specs.Since.{KeepsStandingSince}
 use Rattle.slot_store.specs.Synced.{EachLeft}
@@ -52,20 +50,19 @@ moved rules history checkpoint file other long same stands = record {
   stands = subst (Stands rules history checkpoint.rows checkpoint.next_id) (sym same) stands.stands;
 }
 
-stays_by : (rules : Rules) → AreRules rules → (journal : Option Journal) (saved : Saved) (before after : History) (old new : Image DiskFile) → IsLater before after
+stays_by : (rules : Rules) → AreRules rules → (journal : Option Journal) (saved : Checkpoint) (before after : History) (old new : Image DiskFile) → IsLater before after
     → EndsWithMemory journal saved old → length (old Output) ≡ saved.output_length → HasMemory journal saved new → KeepsFront saved.output_length (old Output) (new Output)
     → IsStanding rules before old → IsStanding rules after new
 stays_by rules laws None saved before after old new later ends size memory front stood = record { there = nothing; found = memory.0; stands = tt }
 stays_by rules laws (Some journal) saved before after old new later ends size memory front stood =
-    let checkpoint = standing_checkpoint saved in
-    let was : IsFound old (found checkpoint) = (saved, (journal, ends.journal_is), refl) in
-    let same : stood.there ≡ found checkpoint = one_found old stood.there (found checkpoint) stood.found was in
-    let stands : Standing rules before (found checkpoint) (old Output) = subst (λ (there : Found). Standing rules before there (old Output)) same stood.stands in
-    let later_stands : Standing rules after (found checkpoint) (old Output) = standing_lasts rules laws before after (found checkpoint) (old Output) later stands in
+    let was : IsFound old (found saved) = (journal, ends.journal_is) in
+    let same : stood.there ≡ found saved = one_found old stood.there (found saved) stood.found was in
+    let stands : Standing rules before (found saved) (old Output) = subst (λ (there : Found). Standing rules before there (old Output)) same stood.stands in
+    let later_stands : Standing rules after (found saved) (old Output) = standing_lasts rules laws before after (found saved) (old Output) later stands in
     record {
-      there = found checkpoint;
-      found = (saved, (journal, memory), refl);
-      stands = moved rules after checkpoint (old Output) (new Output) (omega (arith, front.no_shorter, size)) (keeps_front_take saved.output_length (old Output) (new Output) (omega (arith, size)) front) later_stands;
+      there = found saved;
+      found = (journal, memory);
+      stands = moved rules after saved (old Output) (new Output) (omega (arith, front.no_shorter, size)) (keeps_front_take saved.output_length (old Output) (new Output) (omega (arith, size)) front) later_stands;
     }
 
 none_of : (bytes : List ℕ) → length bytes ≡ 0 → [] ≡ bytes
@@ -85,26 +82,26 @@ module _ (session : Session) (laws : AreRules (rules_of_session session)) (befor
 
   stays_stands : (old new : Image DiskFile) → IsLater before after → IsLeftBy session old → Stays session old new → IsStanding rules before old → IsStanding rules after new
   stays_stands old new later left stays stood =
-      stays_by rules laws (journal_of_session session) (store_checkpoint session) before after old new later left.memory left.output stays.memory stays.front stood
+      stays_by rules laws (journal_of_session session) (checkpoint_of_session session) before after old new later left.memory left.output stays.memory stays.front stood
 
-  gains_stands : (next : Saved) (added : List Mark) (looks : List Look) (count count_after : ℕ) (old new : Image DiskFile)
-      → Pass rules (is_first session) (stretch_of before after count count_after) looks (checkpoint_of_session session) (standing_checkpoint next) added
+  gains_stands : (next : Checkpoint) (added : List Mark) (looks : List Look) (count count_after : ℕ) (old new : Image DiskFile)
+      → Pass rules (is_first session) (stretch_of before after count count_after) looks (checkpoint_of_session session) next added
       → ComesAfter session next added → Apart rules.front_size after → IsLeftBy session old → Gains session next added old new → IsStanding rules before old → IsStanding rules after new
   gains_stands next added looks count count_after old new pass comes apart left gains stood =
       let begins = begins_with session old stood.there (left_goes_on session old left) stood.found in
       let stretch : Stretch = stretch_of before after count count_after in
-      let passed : Pass rules (is_first session) stretch looks (checkpoint_of rules stood.there) (standing_checkpoint next) added =
-      subst (λ (c : Checkpoint). Pass rules (is_first session) stretch looks c (standing_checkpoint next) added) (sym begins) pass in
+      let passed : Pass rules (is_first session) stretch looks (checkpoint_of rules stood.there) next added =
+      subst (λ (c : Checkpoint). Pass rules (is_first session) stretch looks c next added) (sym begins) pass in
       let whole : kept stood.there (old Output) ≡ old Output = kept_whole rules stood.there (checkpoint_of_session session) before (old Output) begins left.output stood.stands in
       let size : length (new Output) ≡ kept_of session + length (lines_text added) = ap length gains.output ∙ length-append (old Output) (lines_text added) ∙ ap (λ (n : ℕ). n + length (lines_text added)) left.output in
-      let lengthens : Lengthens rules (kept stood.there (old Output)) (standing_checkpoint next) added (new Output) = record {
+      let lengthens : Lengthens rules (kept stood.there (old Output)) next added (new Output) = record {
         long_enough = omega (arith, size, comes.output_length);
         longer = take_all next.output_length (new Output) (omega (arith, size, comes.output_length)) ∙ gains.output ∙ ap (λ (bytes : List ℕ). bytes ++ lines_text added) (sym whole);
       } in
       record {
-        there = found (standing_checkpoint next);
-        found = (next, (gains.memory.0, gains.memory.1), refl);
-        stands = pass_keeps_standing rules laws (is_first session) stretch looks stood.there (standing_checkpoint next) added (old Output) (new Output) passed lengthens apart stood.stands;
+        there = found next;
+        found = (gains.memory.0, gains.memory.1);
+        stands = pass_keeps_standing rules laws (is_first session) stretch looks stood.there next added (old Output) (new Output) passed lengthens apart stood.stands;
       }
 
 -- ---- every image
@@ -127,7 +124,7 @@ module _ {D : Type 0} (images : Images DiskFile D) (disk disk_after : D) (counts
   stands_still (Some old) (Some new) later passes = λ apart from early stood.
       all_stand (Stays session) old.history new.history later passes (λ x y left stays. stays_stands session laws old.history new.history x y later left stays) from early stood
 
-  pub stands_on : (next : Saved) (added : List Mark) (count count_after : TreeCounts) (old new : Option World) → Told GoesLater old new → ComesAfter session next added → Told (IsPass session next added count count_after) old new
+  pub stands_on : (next : Checkpoint) (added : List Mark) (count count_after : TreeCounts) (old new : Option World) → Told GoesLater old new → ComesAfter session next added → Told (IsPass session next added count count_after) old new
       → Passes images (Steps session next added) disk disk_after → Told (KeepsStandingSince images (rules_of_session session) disk disk_after) old new
   stands_on next added count count_after None None later comes pass passes = tt
   stands_on next added count count_after None (Some new) later comes pass passes = absurd later

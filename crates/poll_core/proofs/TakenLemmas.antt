@@ -12,7 +12,7 @@ use Rattle.checkpoint_journal.proofs.CostLemmas.{change_long}
 use Rattle.checkpoint_journal.proofs.ShortLemmas.{checkpoint_short}
 use Rattle.checkpoint_store.specs.Rules.{IsCheckpoint, KeepsRules, KeepRules}
 use Rattle.checkpoint_store.specs.Spelling.{row_spelling, rows_spelling, change_spelling, checkpoint_spelling}
-use Rattle.checkpoint_store.specs.declared.Checkpoint.{Checkpoint as Saved}
+use Rattle.checkpoint_store.specs.declared.Checkpoint.{Checkpoint}
 use Rattle.file_pass.specs.declared.taking.Taking.{Taking}
 use Rattle.file_tracker.specs.declared.row.Row.{Row}
 use Rattle.poll_core.specs.Taken.{flagged, taken_change, taken_checkpoint}
@@ -59,7 +59,7 @@ flagged_less flags rows place flag not_set flag_is = rw add-one (flagged_without
 bytes_long : (bytes : List ℕ) → length (bytes_spelling bytes) ≡ 4 + length bytes
 bytes_long bytes = omega (arith, length-append (to_be_bytes w32 (length bytes)) bytes, wide32.size (length bytes))
 
-pub checkpoint_long : (checkpoint : Saved) → length (checkpoint_spelling checkpoint) ≡ 21 + length checkpoint.settings + length (flat_map row_spelling checkpoint.rows)
+pub checkpoint_long : (checkpoint : Checkpoint) → length (checkpoint_spelling checkpoint) ≡ 21 + length checkpoint.settings + length (flat_map row_spelling checkpoint.rows)
 checkpoint_long checkpoint =
     let rows = rows_spelling checkpoint.rows in
     let next = to_be_bytes w32 checkpoint.next_id ++ rows in

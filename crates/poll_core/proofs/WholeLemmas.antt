@@ -2,14 +2,13 @@
 use Rattle.std.proofs.Common.{◌≡◌, ℕ, ◌<◌, List, [], ◌∷◌, length, refl, sym, ap, ◌∙◌, arith, inl, inr}
 use Rattle.std.specs.Prelude.{Contains}
 use Rattle.std.proofs.lemmas.Bool.{cases_lt}
-use Rattle.checkpoint_store.specs.declared.Checkpoint.{Checkpoint as Saved}
+use Rattle.checkpoint_store.specs.declared.Checkpoint.{Checkpoint}
 use Rattle.file_pass.proofs.Listing.{contains_none}
 use Rattle.outside.specs.Lawful.{IsLawful}
 use Rattle.outside.specs.Path.{components, relative}
 use Rattle.outside.specs.World.{History, Names, World, file_at}
 use Rattle.poll_core.specs.Polled.{IsSummed, TreeCounts, is_first, stretch_of}
 use Rattle.poll_core.specs.SessionParts.{checkpoint_of_session, rules_of_session}
-use Rattle.poll_core.specs.Checkpoints.{standing_checkpoint}
 use Rattle.poll_core.specs.Summed.{TellsAll, sums_of}
 use Rattle.poll_core.specs.declared.session.Session.{Session}
 use Rattle.poll_core.specs.declared.summary.Summary.{Summary}
@@ -32,7 +31,7 @@ throughout : (old new : History) (path : List ℕ) (file : ℕ) → KeepsNames o
 throughout old new path file keeps later named = λ moment after before.
     ap (λ (ns : Names). file_at ns path) (keeps moment after before ∙ sym (keeps new later (record { events = []; goes_on = refl }))) ∙ named
 
-module _ (session : Session) (next : Saved) (added : List Mark) (summary : Summary) (count count_after : TreeCounts) (old new : World) (summed : IsSummed session next added summary count count_after old new) (tells : TellsAll summary) where
+module _ (session : Session) (next : Checkpoint) (added : List Mark) (summary : Summary) (count count_after : TreeCounts) (old new : World) (summed : IsSummed session next added summary count count_after old new) (tells : TellsAll summary) where
   no_folder : length summed.deep ≡ 0
   no_folder = omega (arith, summed.deep_is, tells.deep)
 
@@ -58,7 +57,7 @@ module _ (session : Session) (next : Saved) (added : List Mark) (summary : Summa
   pub all_reached : (output : List ℕ) (path : List ℕ) (file : ℕ) → AreRules (rules_of_session session) → IsLater old.history new.history → Apart (rules_of_session session).front_size new.history → IsLawful new.history → KeepsNames old.history new.history
       → Stands (rules_of_session session) old.history (checkpoint_of_session session).rows (checkpoint_of_session session).next_id output
       → Includes (rules_of_session session) path → IsNamed new.history path file
-      → (here : Look) × Contains summed.looks here × (here.file ≡ file) × (0 < size here → IsReached (rules_of_session session) new.history (standing_checkpoint next).rows here)
+      → (here : Look) × Contains summed.looks here × (here.file ≡ file) × (0 < size here → IsReached (rules_of_session session) new.history next.rows here)
   all_reached output path file laws later apart lawful keeps stands included named =
-      complete_pass (rules_of_session session) laws (is_first session) (stretch_of old.history new.history count.faults count_after.faults) summed.looks (checkpoint_of_session session) (standing_checkpoint next) added summed.pass output (sums_of summary) path file
+      complete_pass (rules_of_session session) laws (is_first session) (stretch_of old.history new.history count.faults count_after.faults) summed.looks (checkpoint_of_session session) next added summed.pass output (sums_of summary) path file
       apart lawful keeps stands summed.sums tells.none included (reachable path file included (throughout old.history new.history path file keeps later named)) named

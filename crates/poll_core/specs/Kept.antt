@@ -8,7 +8,7 @@ use Rattle.outside.specs.declared.disk.DiskFile.{DiskFile}
 use Rattle.outside.specs.declared.disk.DiskFile.TheVariants.{Output}
 use Rattle.poll_core.specs.Begun.{IsQuiet}
 use Rattle.poll_core.specs.Next.{IsNext, IsSavedIn}
-use Rattle.poll_core.specs.Taken.{taken_checkpoint}
+use Rattle.poll_core.specs.Taken.{taken_change, taken_checkpoint}
 use Rattle.slot_store.specs.Committed.{LeavesOne}
 use Rattle.slot_store.specs.Synced.{EachLeft}
 
@@ -16,7 +16,7 @@ use Rattle.slot_store.specs.Synced.{EachLeft}
 pub record IsSaved {D : Type 0} (images : Images DiskFile D) (settings : List ℕ) (taking : Taking) (journal : Option Journal) (next : Journal) (old new : D) : Type 0 where
   pub each : EachLeft images new (IsSavedIn next (taken_checkpoint settings taking) (images.seen old Output))
   pub one : LeavesOne images new
-  pub next_is : IsNext journal next
+  pub next_is : IsNext journal (taken_checkpoint settings taking) (taken_change taking) next
   pub not_worn : IsWorn journal → ⊥
 
 -- There was nothing to write, and nothing was.
@@ -27,4 +27,4 @@ pub record IsLeft {D : Type 0} (journal after : Option Journal) (kept : ℕ) (ta
 
 abbrev pub Keeps : {D : Type 0} → Images DiskFile D → List ℕ → Taking → ℕ → Option Journal → Option Journal → D → D → Type 0
 Keeps images settings taking kept journal after old new = IsLeft journal after kept taking old new
-    ⊎ ((next : Journal) × (after ≡ Some next) × IsSaved images settings taking journal next old new)
+    ⊎ ((next : Journal) × (after ≡ Some next) × IsSaved images settings taking journal next old new × (IsQuiet journal kept taking → ⊥))

@@ -1,6 +1,4 @@
-pub mod Checkpoints
 pub mod MadeOf
-pub mod States
 pub mod SessionParts
 pub mod Differs
 pub mod Found
@@ -23,5 +21,5 @@ pub mod Overflows
 pub mod Begun
 pub mod Passed
 pub mod Kept
-pub mod KeepsPlan
+pub mod LeavesTree
 pub mod Since

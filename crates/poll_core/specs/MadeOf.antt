@@ -3,6 +3,7 @@ use Rattle.std.specs.Prelude.{◌≡◌, ℕ, List, Ok}
 use Rattle.pipeline.specs.AsRules.{rules_of}
 use Rattle.pipeline.specs.Globs.{ArePatterns}
 use Rattle.pipeline.specs.Parts.{settings_of, network}
+use Rattle.pipeline.specs.Splitters.{HasPattern}
 use Rattle.pipeline.specs.Wired.{IsNetwork}
 use Rattle.pipeline.specs.declared.Pipeline.{Pipeline}
 use Rattle.settings_text.specs.Grammar.{settings}
@@ -14,6 +15,7 @@ pub record IsMadeOf (text : List ℕ) (pipeline : Pipeline) : Type 0 where
   pub network_is : IsNetwork (settings_of pipeline).operators (network pipeline)
   pub include : ArePatterns (settings_of pipeline).include pipeline.include.items
   pub exclude : ArePatterns (settings_of pipeline).exclude pipeline.exclude.items
+  pub multiline : HasPattern (settings_of pipeline).multiline
 
 -- These are the rules of the settings that this text says.
 abbrev pub HasRules : List ℕ → Rules → Type 0

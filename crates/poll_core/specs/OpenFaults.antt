@@ -1,23 +1,21 @@
 -- Why a session isn't opened.
 use Rattle.std.specs.Prelude.{◌≡◌, ◌≢◌, ℕ, ◌<◌, ◌≤◌, false, List, length, Ok, Err, Some, ⊤}
 use Rattle.checkpoint_journal.specs.JournalOf.{HasCheckpoint, IsBadAt}
-use Rattle.checkpoint_store.specs.declared.Checkpoint.{Checkpoint as Saved}
+use Rattle.checkpoint_store.specs.declared.Checkpoint.{Checkpoint}
 use Rattle.outside.specs.Image.{Image}
 use Rattle.outside.specs.declared.disk.DiskFile.{DiskFile}
 use Rattle.outside.specs.declared.disk.DiskFile.TheVariants.{Output}
 use Rattle.pipeline.specs.BuildFaults.{IsBuildFault}
 use Rattle.pipeline.specs.declared.fault.BuildFault.{BuildFault}
 use Rattle.pipeline.specs.declared.fault.BuildFault.TheVariants as build
-use Rattle.poll_core.specs.Checkpoints.{rows_of}
 use Rattle.poll_core.specs.Differs.{DiffersAt}
 use Rattle.poll_core.specs.MadeOf.{HasRules}
-use Rattle.poll_core.specs.States.{KeepStates}
 use Rattle.poll_core.specs.declared.fault.OpenFault.{OpenFault}
 use Rattle.poll_core.specs.declared.fault.OpenFault.TheVariants.{Settings as RefusesSettings, Build, CheckpointBad, SettingsChanged, OutputShort, Memory}
 use Rattle.settings_text.specs.Grammar.{settings}
 use Rattle.settings_text.specs.declared.fault.SettingsFault.TheVariants as text_fault
 use Rattle.settings_text.specs.declared.settings.Settings.{Settings}
-use Rattle.standing.specs.Rows.{Row, IsRowAt}
+use Rattle.standing.specs.Rows.{Row, IsRowAt, KeepStates}
 use Rattle.standing.specs.Rules.{Rules}
 
 -- ---- of the settings
@@ -38,13 +36,13 @@ IsSettingsRefusal text fault = (rules : Rules) × HasRules text rules
 -- ---- of what stands on the disk
 
 -- the image's checkpoint is of the settings of this text
-pub record IsOfText (text : List ℕ) (image : Image DiskFile) (checkpoint : Saved) : Type 0 where
+pub record IsOfText (text : List ℕ) (image : Image DiskFile) (checkpoint : Checkpoint) : Type 0 where
   pub has : HasCheckpoint (Some checkpoint) image
   pub settings : checkpoint.settings ≡ text
 
 -- the image's checkpoint is of another text, and this is the first place at which they differ
 pub record HasOtherSettings (text : List ℕ) (image : Image DiskFile) (at : ℕ) : Type 0 where
-  pub checkpoint : Saved
+  pub checkpoint : Checkpoint
   pub has : HasCheckpoint (Some checkpoint) image
   pub differ : DiffersAt checkpoint.settings text at
 
@@ -58,15 +56,15 @@ pub record IsLeastForeign (rules : Rules) (rows : List Row) (id : ℕ) : Type 0 
   pub least : (other_place : ℕ) (other : Row) → IsRowAt rows other_place other → rules.is_state other.state ≡ false → id ≤ other.id
 
 pub record HasForeignState (text : List ℕ) (image : Image DiskFile) (id : ℕ) : Type 0 where
-  pub checkpoint : Saved
+  pub checkpoint : Checkpoint
   pub of_text : IsOfText text image checkpoint
   pub rules : Rules
   pub rules_are : HasRules text rules
-  pub foreign : IsLeastForeign rules (rows_of checkpoint.rows) id
+  pub foreign : IsLeastForeign rules checkpoint.rows id
 
 -- the output has so many bytes, fewer than the checkpoint keeps
 pub record HasShortOutput (text : List ℕ) (image : Image DiskFile) (kept size : ℕ) : Type 0 where
-  pub checkpoint : Saved
+  pub checkpoint : Checkpoint
   pub of_text : IsOfText text image checkpoint
   pub rules : Rules
   pub rules_are : HasRules text rules

@@ -2,12 +2,14 @@
 use Rattle.std.specs.Prelude.{◌≡◌, ◌≢◌, ◌⊎◌, ℕ, ◌+◌, ◌-◌, ◌≤◌, All, Bool, false, Contains, List, [], ◌++◌, length, Some, slice_get}
 use Rattle.std.specs.Option.{is_none}
 use Rattle.checkpoint_journal.specs.Written.{IsWorn}
-use Rattle.checkpoint_store.specs.Fits.{Ascend}
+use Rattle.checkpoint_store.specs.Fits.{Ascend, HasId}
 use Rattle.checkpoint_store.specs.Rules.{IsCheckpoint}
-use Rattle.checkpoint_store.specs.declared.Checkpoint.{Checkpoint as Saved}
+use Rattle.checkpoint_journal.specs.declared.journal.Journal.{Journal}
+use Rattle.checkpoint_store.specs.declared.Change.{Change}
+use Rattle.checkpoint_store.specs.declared.Checkpoint.{Checkpoint}
 use Rattle.file_pass.specs.Cost.{cost_of}
 use Rattle.file_pass.specs.Full.{lines_text}
-use Rattle.file_tracker.specs.declared.row.Row.{Row as SavedRow}
+use Rattle.file_tracker.specs.declared.row.Row.{Row}
 use Rattle.outside.specs.Count.{raised, last_count}
 use Rattle.outside.specs.Crash.{Passes}
 use Rattle.outside.specs.DiskMeaning.{DiskMeaning}
@@ -16,13 +18,11 @@ use Rattle.outside.specs.TreeMeaning.{TreeMeaning}
 use Rattle.outside.specs.World.{History, World, Told}
 use Rattle.outside.specs.declared.disk.DiskFile.{DiskFile}
 use Rattle.outside.specs.declared.disk.DiskFile.TheVariants.{Settings, Output}
-use Rattle.poll_core.specs.Checkpoints.{standing_checkpoint}
 use Rattle.poll_core.specs.Found.{IsFound}
-use Rattle.poll_core.specs.Next.{HasNext, Costs}
+use Rattle.poll_core.specs.Next.{HasNext, Costs, IsNext}
 use Rattle.poll_core.specs.Remembers.{HasMemory}
-use Rattle.poll_core.specs.SessionParts.{store_checkpoint, checkpoint_of_session, rules_of_session, journal_of_session, kept_of, limit_of}
+use Rattle.poll_core.specs.SessionParts.{checkpoint_of_session, rules_of_session, journal_of_session, kept_of, limit_of}
 use Rattle.poll_core.specs.StandsOn.{StandsOn}
-use Rattle.poll_core.specs.States.{KeepStates}
 use Rattle.poll_core.specs.Summed.{IsDeep, HasDeepFolder, sums_of}
 use Rattle.poll_core.specs.declared.session.Session.{Session}
 use Rattle.poll_core.specs.declared.summary.Summary.{Summary}
@@ -30,6 +30,7 @@ use Rattle.standing.specs.Look.{Look}
 use Rattle.standing.specs.Marks.{Mark}
 use Rattle.standing.specs.Moments.{NamesThroughout}
 use Rattle.standing.specs.Pass.{Pass, Stretch, IsReachable, WasHidden, start_at}
+use Rattle.standing.specs.Rows.{KeepStates}
 use Rattle.standing.specs.Rules.{Rules, Includes}
 use Rattle.standing.specs.Standing.{Found, Sound, Standing}
 use Rattle.standing.specs.Sums.{AreSums, capped}
@@ -58,20 +59,20 @@ abbrev pub ReadsAtMost : Session → List Look → TreeCounts → TreeCounts →
 ReadsAtMost session looks before after = after.taken ≤ before.taken + cost_of (rules_of_session session) (is_first session) looks (start_at (checkpoint_of_session session))
 
 -- There are looks with which the checkpoint became this one, and added these lines.
-pub record IsPass (session : Session) (after : Saved) (added : List Mark) (counts counts_after : TreeCounts) (old new : World) : Type 0 where
+pub record IsPass (session : Session) (after : Checkpoint) (added : List Mark) (counts counts_after : TreeCounts) (old new : World) : Type 0 where
   pub looks : List Look
   pub pass : Pass (rules_of_session session) (is_first session) (stretch_of old.history new.history counts.faults counts_after.faults) looks
-      (checkpoint_of_session session) (standing_checkpoint after) added
+      (checkpoint_of_session session) after added
   pub read : ReadsAtMost session looks counts counts_after
 
 -- Besides, the numbers of the summary are theirs, and `deep` counts the folders that were met and lie too deep.
-pub record IsSummed (session : Session) (after : Saved) (added : List Mark) (summary : Summary) (counts counts_after : TreeCounts) (old new : World) : Type 0 where
+pub record IsSummed (session : Session) (after : Checkpoint) (added : List Mark) (summary : Summary) (counts counts_after : TreeCounts) (old new : World) : Type 0 where
   pub looks : List Look
   pub pass : Pass (rules_of_session session) (is_first session) (stretch_of old.history new.history counts.faults counts_after.faults) looks
-      (checkpoint_of_session session) (standing_checkpoint after) added
+      (checkpoint_of_session session) after added
   pub read : ReadsAtMost session looks counts counts_after
   pub sums : AreSums (rules_of_session session) (is_first session) (stretch_of old.history new.history counts.faults counts_after.faults) looks
-      (checkpoint_of_session session) (standing_checkpoint after) added pass (sums_of summary)
+      (checkpoint_of_session session) after added pass (sums_of summary)
   pub deep : List (List ℕ)
   pub deep_once : Ascends deep
   pub deep_is : summary.deep ≡ capped (length deep)
@@ -85,38 +86,61 @@ pub record IsSummed (session : Session) (after : Saved) (added : List Mark) (sum
 -- The checkpoint is the session's, and what is kept of the output stands as it was.
 pub record Stays (session : Session) (old new : Image DiskFile) : Type 0 where
   pub settings : new Settings ≡ old Settings
-  pub memory : HasMemory (journal_of_session session) (store_checkpoint session) new
+  pub memory : HasMemory (journal_of_session session) (checkpoint_of_session session) new
   pub front : KeepsFront (kept_of session) (old Output) (new Output)
 
 -- The checkpoint is the next one, and the output has these lines behind what it had.
-pub record Gains (session : Session) (after : Saved) (added : List Mark) (old new : Image DiskFile) : Type 0 where
+pub record Gains (session : Session) (after : Checkpoint) (added : List Mark) (old new : Image DiskFile) : Type 0 where
   pub settings : new Settings ≡ old Settings
   pub memory : HasNext (journal_of_session session) after new
   pub output : new Output ≡ old Output ++ lines_text added
 
-abbrev pub Steps : Session → Saved → List Mark → Image DiskFile → Image DiskFile → Type 0
+abbrev pub Steps : Session → Checkpoint → List Mark → Image DiskFile → Image DiskFile → Type 0
 Steps session after added old new = Stays session old new ⊎ Gains session after added old new
 
 -- The checkpoint is of the same settings, fits behind the session's with these lines, and is within the limits.
-pub record ComesAfter (session : Session) (after : Saved) (added : List Mark) : Type 0 where
+pub record ComesAfter (session : Session) (after : Checkpoint) (added : List Mark) : Type 0 where
   pub settings : after.settings ≡ session.settings
   pub output_length : after.output_length ≡ kept_of session + length (lines_text added)
   pub within : added ≢ [] → after.output_length ≤ limit_of session
   pub lawful : IsCheckpoint after
   pub states : KeepStates (rules_of_session session) after.rows
 
--- What was written to the slots: these rows, by ascending id, as the next checkpoint has them and the session hadn't, or
--- all of it, where that was due.
-pub record HasCost {D : Type 0} (meaning : DiskMeaning D) (session : Session) (after : Saved) (disk disk_after : D) : Type 0 where
-  pub rows : List SavedRow
+-- A checkpoint stood, and nothing of it changed.
+pub record ChangesNothing (session : Session) (after : Checkpoint) : Type 0 where
+  pub not_first : is_first session ≡ false
+  pub same : after ≡ checkpoint_of_session session
+
+-- These are exactly the rows that the next checkpoint has and the session hadn't, by ascending id.
+pub record AreChanged (session : Session) (after : Checkpoint) (rows : List Row) : Type 0 where
   pub ascend : Ascend after.output_length 1 (after.next_id - 1) rows
-  pub each : All (λ (row : SavedRow). slice_get after.rows (row.id - 1) ≡ Some row) rows
-  pub differ : All (λ (row : SavedRow). slice_get (store_checkpoint session).rows (row.id - 1) ≢ Some row) rows
+  pub each : All (λ (row : Row). slice_get after.rows (row.id - 1) ≡ Some row) rows
+  pub differ : All (λ (row : Row). slice_get (checkpoint_of_session session).rows (row.id - 1) ≢ Some row) rows
+  pub no_other : (place : ℕ) (row : Row) → slice_get after.rows place ≡ Some row → slice_get (checkpoint_of_session session).rows place ≢ Some row → HasId rows row.id
+
+-- What was written to the slots: these rows or, where that was due, the whole checkpoint.
+pub record HasCost {D : Type 0} (meaning : DiskMeaning D) (session : Session) (after : Checkpoint) (disk disk_after : D) : Type 0 where
+  pub rows : List Row
+  pub changed : AreChanged session after rows
   pub costs : Costs (journal_of_session session) after rows (meaning.written disk) (meaning.written disk_after)
+
+-- the change to this checkpoint by these rows
+abbrev pub change_to : Checkpoint → List Row → Change
+change_to after rows = record { output_length = after.output_length; next_id = after.next_id; rows = rows }
+
+-- The session that goes on has the journal that comes next.
+abbrev pub HasNextJournal : Session → Session → List Row → Type 0
+HasNextJournal session next rows =
+    (journal : Journal) × (journal_of_session next ≡ Some journal) × IsNext (journal_of_session session) (checkpoint_of_session next) (change_to (checkpoint_of_session next) rows) journal
+
+-- Nothing was done to the disk, and the journal stays.
+pub record LeavesAll {D : Type 0} (session next : Session) (disk disk_after : D) : Type 0 where
+  pub journal : journal_of_session next ≡ journal_of_session session
+  pub still : disk_after ≡ disk
 
 -- A crash may leave the next checkpoint, which is that of a pass.
 pub record MayGain {T D : Type 0} (trees : TreeMeaning T) (disks : DiskMeaning D) (session : Session) (tree tree_after : T) (disk disk_after : D) : Type 0 where
-  pub after : Saved
+  pub after : Checkpoint
   pub added : List Mark
   pub comes : ComesAfter session after added
   pub pass : Told (IsPass session after added (counts_of trees tree) (counts_of trees tree_after)) (trees.world tree) (trees.world tree_after)
@@ -137,15 +161,26 @@ pub record Polled {T D : Type 0} (trees : TreeMeaning T) (disks : DiskMeaning D)
   pub limit : limit_of next ≡ limit_of session
   pub not_first : is_first next ≡ false
   pub added : List Mark
-  pub comes : ComesAfter session (store_checkpoint next) added
+  pub comes : ComesAfter session (checkpoint_of_session next) added
   pub lines : summary.lines ≡ length added
   pub output : summary.output ≡ kept_of next
   pub failed : RoseBy trees summary.failed tree tree_after
-  pub pass : Told (IsSummed session (store_checkpoint next) added summary (counts_of trees tree) (counts_of trees tree_after)) (trees.world tree) (trees.world tree_after)
+  pub pass : Told (IsSummed session (checkpoint_of_session next) added summary (counts_of trees tree) (counts_of trees tree_after)) (trees.world tree) (trees.world tree_after)
   pub stands : StandsOn disks.images next disk_after
-  pub cost : HasCost disks session (store_checkpoint next) disk disk_after
+  pub cost : HasCost disks session (checkpoint_of_session next) disk disk_after
+  -- What changed was kept, and where nothing changed, nothing was done.
+  pub kept : (ChangesNothing session (checkpoint_of_session next) → ⊥) → HasNextJournal session next cost.rows
+  pub quiet : ChangesNothing session (checkpoint_of_session next) → LeavesAll session next disk disk_after
   -- A session without a sequence number left wrote nothing.
   pub not_worn : IsWorn (journal_of_session session) → journal_of_session next ≡ journal_of_session session
+
+-- A pass came to its end, and what it leaves is to be kept.
+pub record HasToKeep {T : Type 0} (trees : TreeMeaning T) (session : Session) (tree tree_after : T) : Type 0 where
+  pub after : Checkpoint
+  pub added : List Mark
+  pub comes : ComesAfter session after added
+  pub pass : Told (IsPass session after added (counts_of trees tree) (counts_of trees tree_after)) (trees.world tree) (trees.world tree_after)
+  pub changes : ChangesNothing session after → ⊥
 
 -- ---- what stands
 

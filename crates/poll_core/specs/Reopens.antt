@@ -1,7 +1,7 @@
 -- What opening makes of an image: it loses at most what stands behind the journal and behind what is kept of the output.
 use Rattle.std.specs.Prelude.{◌≡◌, ◌⊎◌, ℕ, List, take, Option, Some, None}
 use Rattle.checkpoint_journal.specs.JournalOf.{HasCheckpoint}
-use Rattle.checkpoint_store.specs.declared.Checkpoint.{Checkpoint as Saved}
+use Rattle.checkpoint_store.specs.declared.Checkpoint.{Checkpoint}
 use Rattle.outside.specs.Image.{Image}
 use Rattle.outside.specs.declared.disk.DiskFile.{DiskFile}
 use Rattle.outside.specs.declared.disk.DiskFile.TheVariants.{Settings, Output}
@@ -15,13 +15,13 @@ pub record KeepsLogs (old new : Image DiskFile) : Type 0 where
   pub log_is : (log : Log) (base : List ℕ) (records : List (List ℕ)) → HasLog log base records old → HasLog log base records new
 
 -- how much of the output is kept
-abbrev pub kept_by : Option Saved → ℕ
+abbrev pub kept_by : Option Checkpoint → ℕ
 kept_by None = 0
 kept_by (Some checkpoint) = checkpoint.output_length
 
 -- So many bytes of the output are kept by the image's checkpoint, or none where it has none.
 abbrev pub Keeps : ℕ → Image DiskFile → Type 0
-Keeps size image = (checkpoint : Option Saved) × HasCheckpoint checkpoint image × (size ≡ kept_by checkpoint)
+Keeps size image = (checkpoint : Option Checkpoint) × HasCheckpoint checkpoint image × (size ≡ kept_by checkpoint)
 
 -- The output is what is kept of it.
 abbrev pub IsCutToKept : Image DiskFile → List ℕ → Type 0

@@ -1,19 +1,14 @@
 -- What a session remembers.
 use Rattle.std.specs.Prelude.{ℕ, ◌+◌, Option, length}
 use Rattle.checkpoint_journal.specs.declared.journal.Journal.{Journal}
-use Rattle.checkpoint_store.specs.declared.Checkpoint.{Checkpoint as Saved}
 use Rattle.pipeline.specs.AsRules.{rules_of}
-use Rattle.poll_core.specs.Checkpoints.{standing_checkpoint}
 use Rattle.poll_core.specs.declared.session.Session.{Session}
 use Rattle.standing.specs.Rows.{Checkpoint}
 use Rattle.standing.specs.Rules.{Rules}
 
 -- the checkpoint that it is to find on its disk; ids count from 1
-abbrev pub store_checkpoint : Session → Saved
-store_checkpoint session = record { settings = session.settings; output_length = session.kept; next_id = length session.tracker + 1; rows = session.tracker }
-
 abbrev pub checkpoint_of_session : Session → Checkpoint
-checkpoint_of_session session = standing_checkpoint (store_checkpoint session)
+checkpoint_of_session session = record { settings = session.settings; output_length = session.kept; next_id = length session.tracker + 1; rows = session.tracker }
 
 abbrev pub rules_of_session : Session → Rules
 rules_of_session session = rules_of session.settings session.pipeline

@@ -1,12 +1,12 @@
 -- What a pass leaves, as a checkpoint and as a change.
 use Rattle.std.specs.Prelude.{ℕ, ◌+◌, List, [], ◌∷◌, length, Bool, true, false}
 use Rattle.checkpoint_store.specs.declared.Change.{Change}
-use Rattle.checkpoint_store.specs.declared.Checkpoint.{Checkpoint as Saved}
+use Rattle.checkpoint_store.specs.declared.Checkpoint.{Checkpoint}
 use Rattle.file_pass.specs.declared.taking.Taking.{Taking}
 use Rattle.file_tracker.specs.declared.row.Row.{Row}
 
 -- ids count from 1
-abbrev pub taken_checkpoint : List ℕ → Taking → Saved
+abbrev pub taken_checkpoint : List ℕ → Taking → Checkpoint
 taken_checkpoint settings taking = record { settings = settings; output_length = taking.end; next_id = length taking.tracker + 1; rows = taking.tracker }
 
 -- the rows whose flag is set

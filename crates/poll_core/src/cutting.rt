@@ -6,7 +6,7 @@ ghost use Rattle.outside.specs.Image.{AtFile, IsCut, MayCut};
 ghost use Rattle.poll_core.specs.Calls.{CutsAndSyncs};
 ghost use Rattle.poll_core.specs.Remembers.{EndsWithMemory, GoesOnFrom};
 ghost use Rattle.poll_core.specs.Reopens.{Reopens, TrimsSlots};
-ghost use Rattle.poll_core.specs.SessionParts.{store_checkpoint, journal_of_session, kept_of};
+ghost use Rattle.poll_core.specs.SessionParts.{checkpoint_of_session, journal_of_session, kept_of};
 ghost use Rattle.poll_core.specs.Settled.{IsSettled};
 ghost use Rattle.poll_core.specs.StandsOn.{StandsOn};
 ghost use Rattle.slot_store.specs.OnlyRead.{OnlyRead};
@@ -39,7 +39,7 @@ impl Session {
         requires goes_on { IsTrue (D.meaning.images.tells disk.old) → GoesOnFrom self.now (D.meaning.images.seen disk.old) }
         ensures settled { OnOk result (IsSettled D.meaning.images disk.new) }
         ensures ends { OnOk result (IsTrue (D.meaning.images.tells disk.old)
-            → EndsWithMemory (journal_of_session self.now) (store_checkpoint self.now) (D.meaning.images.seen disk.new)) }
+            → EndsWithMemory (journal_of_session self.now) (checkpoint_of_session self.now) (D.meaning.images.seen disk.new)) }
         ensures crash { Passes D.meaning.images (TrimsSlots (kept_of self.now)) disk.old disk.new }
         ensures seen { IsTrue (D.meaning.images.tells disk.old)
             → TrimsSlots (kept_of self.now) (D.meaning.images.seen disk.old) (D.meaning.images.seen disk.new) }

@@ -10,7 +10,6 @@ ghost use Rattle.outside.specs.World.{History, World};
 ghost use Rattle.outside.specs.declared.disk.DiskFile.{DiskFile};
 ghost use Rattle.pipeline.specs.AsRules.{rules_of};
 ghost use Rattle.pipeline.specs.declared.Pipeline.{Pipeline};
-ghost use Rattle.poll_core.specs.Checkpoints.{standing_checkpoint};
 ghost use Rattle.poll_core.specs.Differs.{DiffersAt};
 ghost use Rattle.poll_core.specs.Found.{IsFound};
 ghost use Rattle.poll_core.specs.IsSession.{IsSession};
@@ -150,5 +149,5 @@ pub fn a_complete_poll_reaches_all()
         (checkpoint_of_session session).next_id output
         → Includes (rules_of_session session) path → IsNamed new.history path file
         → (here : Look) × Contains summed.looks here × (here.file ≡ file)
-        × (0 < size here → IsReached (rules_of_session session) new.history (standing_checkpoint next).rows here) }
+        × (0 < size here → IsReached (rules_of_session session) new.history next.rows here) }
 {}

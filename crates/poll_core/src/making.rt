@@ -1,16 +1,15 @@
 // A session of a checkpoint that was found.
 ghost use Rattle.std.specs.Prelude.{◌≡◌, ℕ, ◌≤◌, List, length, IfOk, IfErr, IfSome, IfNone, OnOk};
 ghost use Rattle.checkpoint_store.specs.Rules.{IsCheckpoint};
-ghost use Rattle.checkpoint_store.specs.declared.TheConstants.{OUTPUT_LIMIT};
-ghost use Rattle.file_tracker.specs.declared.tracker.TheConstants.{ROW_LIMIT};
+ghost use Rattle.checkpoint_store.specs.Limits.{output_limit};
+ghost use Rattle.file_tracker.specs.Limits.{row_limit};
 ghost use Rattle.pipeline.specs.AsRules.{rules_of};
-ghost use Rattle.poll_core.specs.Checkpoints.{rows_of};
 ghost use Rattle.poll_core.specs.Differs.{DiffersAt};
 ghost use Rattle.poll_core.specs.IsSession.{IsSession, IsShort};
 ghost use Rattle.poll_core.specs.MadeOf.{IsMadeOf};
 ghost use Rattle.poll_core.specs.OpenFaults.{IsLeastForeign};
-ghost use Rattle.poll_core.specs.Making.{IsOfFound, IsUnfit, IsRejected, AreInOrder};
-ghost use Rattle.poll_core.specs.States.{KeepStates};
+ghost use Rattle.poll_core.specs.Making.{IsOfFound, IsUnfit, IsRejected};
+ghost use Rattle.standing.specs.Rows.{KeepStates, AreInOrder};
 
 use crate::{OpenFault, Session};
 use checkpoint_journal::Journal;
@@ -31,7 +30,7 @@ impl Session {
         found: Option<(Journal, Checkpoint)>,
     ) -> Result<Session, OpenFault>
         requires made { IsMadeOf settings.now pipeline }
-        requires limit { limit ≤ OUTPUT_LIMIT }
+        requires limit { limit ≤ output_limit }
         requires lawful { IfSome found (λ found. IsCheckpoint found.1) }
         requires short { IfSome found (λ found. IsShort found.0) }
         ensures session { IfOk result IsSession }
@@ -114,7 +113,7 @@ fn first_foreign(
 ) -> Result<Option<u64>, AllocError>
     requires { AreInOrder rows.now }
     ensures fine { IfOk result (λ found. IfNone found ((text : List ℕ) → KeepStates (rules_of text pipeline.now) rows.now)) }
-    ensures foreign { IfOk result (λ found. IfSome found (λ id. (text : List ℕ) → IsLeastForeign (rules_of text pipeline.now) (rows_of rows.now) id)) }
+    ensures foreign { IfOk result (λ found. IfSome found (λ id. (text : List ℕ) → IsLeastForeign (rules_of text pipeline.now) rows.now id)) }
 {
     for row in rows {
         if !has_state(alloc, pipeline, row)? {
@@ -145,7 +144,7 @@ fn is_state(alloc: Global, pipeline: &Pipeline, row: &Row, bytes: &[u8]) -> Resu
 
 // A tracker with these rows.
 fn tracker_of(alloc: Global, rows: Rows) -> Result<Tracker, AllocError>
-    requires { length rows ≤ ROW_LIMIT }
+    requires { length rows ≤ row_limit }
     ensures { IfOk result (λ tracker. tracker ≡ rows) }
 {
     let mut tracker = Tracker::new(alloc);

@@ -1,6 +1,6 @@
 // Sessions of what a disk has.
 ghost use Rattle.std.specs.Prelude.{◌≡◌, ℕ, ◌≤◌, IsTrue, IfOk, IfErr, OnOk};
-ghost use Rattle.checkpoint_store.specs.declared.TheConstants.{OUTPUT_LIMIT};
+ghost use Rattle.checkpoint_store.specs.Limits.{output_limit};
 ghost use Rattle.outside.specs.Count.{HasCause};
 ghost use Rattle.outside.specs.Crash.{Passes, IsDurable};
 ghost use Rattle.outside.specs.Image.{Same};
@@ -35,7 +35,7 @@ impl Session {
         settings: &[u8],
         limit: u64,
     ) -> Result<Session, OpenFault>
-        requires { limit ≤ OUTPUT_LIMIT }
+        requires { limit ≤ output_limit }
         ensures session { IfOk result IsSession }
         ensures settings { IfOk result (λ session. session.settings ≡ settings.now) }
         ensures limit { IfOk result (λ session. session.limit ≡ limit) }
@@ -71,7 +71,7 @@ impl Session {
         limit: u64,
     ) -> Result<Session, OpenFault>
         requires made { IsMadeOf settings.now pipeline }
-        requires limit { limit ≤ OUTPUT_LIMIT }
+        requires limit { limit ≤ output_limit }
         ensures session { IfOk result IsSession }
         ensures settings { IfOk result (λ session. session.settings ≡ settings.now) }
         ensures limit { IfOk result (λ session. session.limit ≡ limit) }

@@ -5,18 +5,18 @@ ghost use Rattle.file_pass.specs.DiskTerms.{KeepsDisk};
 ghost use Rattle.file_pass.specs.Fed.{rules_in};
 ghost use Rattle.file_pass.specs.PassCause.{HasPassCause};
 ghost use Rattle.file_pass.specs.Sane.{AreSaneRows};
-ghost use Rattle.file_tracker.specs.declared.tracker.TheConstants.{ROW_LIMIT};
+ghost use Rattle.file_tracker.specs.Limits.{row_limit};
 ghost use Rattle.outside.specs.Crash.{Passes};
 ghost use Rattle.outside.specs.World.{Told};
 ghost use Rattle.outside.specs.declared.disk.DiskFile.{DiskFile};
 ghost use Rattle.pipeline.specs.Parts.{settings_of};
 ghost use Rattle.poll_core.specs.Begun.{IsBegun};
 ghost use Rattle.poll_core.specs.IsSession.{IsSession};
-ghost use Rattle.poll_core.specs.KeepsPlan.{KeepsPlan};
+ghost use Rattle.poll_core.specs.LeavesTree.{LeavesTree};
 ghost use Rattle.poll_core.specs.Overflows.{Overflows};
 ghost use Rattle.poll_core.specs.Passed.{Passed, PassFills};
 ghost use Rattle.poll_core.specs.PollCause.{HasPollCause};
-ghost use Rattle.poll_core.specs.Polled.{MayGain, Polled, Stays};
+ghost use Rattle.poll_core.specs.Polled.{HasToKeep, MayGain, Polled, Stays};
 ghost use Rattle.poll_core.specs.SessionParts.{journal_of_session, rules_of_session};
 ghost use Rattle.poll_core.specs.Since.{KeepsStandingSince};
 ghost use Rattle.poll_core.specs.StandsOn.{StandsOn};
@@ -59,8 +59,9 @@ impl Session {
         ensures early { DoneFewer 4 (D.meaning.done disk.old) (D.meaning.done disk.new) → Passes D.meaning.images (Stays self) disk.old disk.new }
         ensures standing { Told (KeepsStandingSince D.meaning.images (rules_of_session self) disk.old disk.new) (T.meaning.world tree.old) (T.meaning.world tree.new) }
         ensures full { (size : ℕ) → result ≡ Err (PollFault.OutputFull size) → Told (Overflows self size) (T.meaning.world tree.old) (T.meaning.world tree.new) }
-        ensures worn { (sequence : ℕ) → result ≡ Err (PollFault.Worn sequence) → (sequence ≡ last_number) × IsWorn (journal_of_session self) }
-        ensures tree { KeepsPlan T.meaning tree.old tree.new }
+        ensures worn { (sequence : ℕ) → result ≡ Err (PollFault.Worn sequence)
+            → (sequence ≡ last_number) × IsWorn (journal_of_session self) × HasToKeep T.meaning self tree.old tree.new }
+        ensures tree { LeavesTree T.meaning tree.old tree.new }
         ensures cause { HasPollCause result (D.meaning.faults disk.old) (D.meaning.faults disk.new) }
         ensures terms { KeepsTerms D.meaning disk.old disk.new }
     {
@@ -84,8 +85,9 @@ impl Session {
         ensures crash { Passes D.meaning.images (Stays self) disk.old disk.new ⊎ MayGain T.meaning D.meaning self tree.old tree.new disk.old disk.new }
         ensures early { DoneFewer 4 (D.meaning.done disk.old) (D.meaning.done disk.new) → Passes D.meaning.images (Stays self) disk.old disk.new }
         ensures full { (size : ℕ) → result ≡ Err (PollFault.OutputFull size) → Told (Overflows self size) (T.meaning.world tree.old) (T.meaning.world tree.new) }
-        ensures worn { (sequence : ℕ) → result ≡ Err (PollFault.Worn sequence) → (sequence ≡ last_number) × IsWorn (journal_of_session self) }
-        ensures tree { KeepsPlan T.meaning tree.old tree.new }
+        ensures worn { (sequence : ℕ) → result ≡ Err (PollFault.Worn sequence)
+            → (sequence ≡ last_number) × IsWorn (journal_of_session self) × HasToKeep T.meaning self tree.old tree.new }
+        ensures tree { LeavesTree T.meaning tree.old tree.new }
         ensures cause { HasPollCause result (D.meaning.faults disk.old) (D.meaning.faults disk.new) }
         ensures terms { KeepsTerms D.meaning disk.old disk.new }
     {
@@ -130,12 +132,12 @@ fn pass<T: Tree, D: Disk>(
 ) -> Result<(Walk, Taking), PassFault>
     requires setup { KeepsLimits (settings_of setup.now.pipeline.now) × (setup.now.limit ≤ 2 ^ 40) }
     requires rows { AreSaneRows (rules_in setup.now) kept rows }
-    requires few { length rows ≤ ROW_LIMIT }
+    requires few { length rows ≤ row_limit }
     requires within { kept ≤ setup.now.limit }
     requires ends { IsTrue (D.meaning.images.tells disk.old) → length (D.meaning.images.seen disk.old DiskFile.Output) ≡ kept }
     ensures ok { IfOk result (λ found. Passed T.meaning D.meaning setup.now rows kept found.0 found.1 tree.old tree.new disk.old disk.new) }
     ensures full { (size : ℕ) → result ≡ Err (PassFault.OutputFull size) → PassFills T.meaning setup.now rows kept size tree.old tree.new }
-    ensures tree { KeepsPlan T.meaning tree.old tree.new }
+    ensures tree { LeavesTree T.meaning tree.old tree.new }
     ensures disk { KeepsDisk D.meaning kept disk.old disk.new }
     ensures cause { HasPassCause result (D.meaning.faults disk.old) (D.meaning.faults disk.new) }
 {
@@ -182,7 +184,8 @@ fn check_paths(paths: &[Text]) -> Result<(), AllocError>
 }
 
 fn is_short(path: &Text) -> bool
-    ensures { IsTrue result → IsShortText path.now }
+    ensures short { IsTrue result → IsShortText path.now }
+    ensures long { IsShortText path.now → IsTrue result }
 {
     path.as_str().len() <= u32::MAX as usize
 }

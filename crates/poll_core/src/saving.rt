@@ -3,7 +3,7 @@ ghost use Rattle.std.specs.Prelude.{◌≡◌, ℕ, ◌+◌, ◌^◌, ◌<◌, �
 ghost use Rattle.checkpoint_journal.specs.JournalOf.{EndsWith};
 ghost use Rattle.checkpoint_journal.specs.Written.{IsWorn};
 ghost use Rattle.checkpoint_store.specs.Rules.{IsCheckpoint};
-ghost use Rattle.checkpoint_store.specs.declared.TheConstants.{FRONT_LIMIT};
+ghost use Rattle.checkpoint_store.specs.Limits.{front_limit};
 ghost use Rattle.checkpoint_store.specs.Spelling.{checkpoint_spelling, row_spelling};
 ghost use Rattle.outside.specs.Crash.{Passes};
 ghost use Rattle.outside.specs.Image.{Image};
@@ -53,7 +53,8 @@ pub(crate) fn keep<D: Disk>(
     ensures kept { IfOk result (λ after. Keeps D.meaning.images settings.now taking.now kept journal after disk.old disk.new) }
     ensures crash { Passes D.meaning.images (Saves journal (taken_checkpoint settings.now taking.now) (D.meaning.images.seen disk.old DiskFile.Output)) disk.old disk.new }
     ensures early { DoneFewer 4 (D.meaning.done disk.old) (D.meaning.done disk.new) → Passes D.meaning.images (KeepsMemory journal) disk.old disk.new }
-    ensures worn { (sequence : ℕ) → result ≡ Err (PollFault.Worn sequence) → (sequence ≡ last_number) × IsWorn journal }
+    ensures worn { (sequence : ℕ) → result ≡ Err (PollFault.Worn sequence)
+        → (sequence ≡ last_number) × IsWorn journal × (IsQuiet journal kept taking.now → ⊥) }
     ensures not_full { (size : ℕ) → result ≡ Err (PollFault.OutputFull size) → ⊥ }
     ensures costs { Costs journal (taken_checkpoint settings.now taking.now) (taken_change taking.now).rows (D.meaning.written disk.old) (D.meaning.written disk.new) }
     ensures cause { HasPollCause result (D.meaning.faults disk.old) (D.meaning.faults disk.new) }
@@ -89,7 +90,7 @@ fn save<D: Disk>(
     requires slots { (one other : Image DiskFile) → D.meaning.images.may_leave disk.old one → D.meaning.images.may_leave disk.old other → DifferInOutput one other }
     ensures saved { IfOk result (λ next. EachLeft D.meaning.images disk.new (IsSavedIn next (taken_checkpoint settings.now taking.now) (D.meaning.images.seen disk.old DiskFile.Output))) }
     ensures one { OnOk result (LeavesOne D.meaning.images disk.new) }
-    ensures next { IfOk result (IsNext journal) }
+    ensures next { IfOk result (IsNext journal (taken_checkpoint settings.now taking.now) (taken_change taking.now)) }
     ensures not_worn { OnOk result (IsWorn journal → ⊥) }
     ensures crash { Passes D.meaning.images (Saves journal (taken_checkpoint settings.now taking.now) (D.meaning.images.seen disk.old DiskFile.Output)) disk.old disk.new }
     ensures early { DoneFewer 4 (D.meaning.done disk.old) (D.meaning.done disk.new) → Passes D.meaning.images (KeepsMemory journal) disk.old disk.new }
@@ -118,7 +119,7 @@ fn put<D: Disk>(
     requires savable { EachLeft D.meaning.images disk.old (IsSavable journal settings.now taking.now) }
     ensures put { IfOk result (λ next. EachLeft D.meaning.images disk.new (EndsWith next (taken_checkpoint settings.now taking.now))) }
     ensures one { OnOk result (LeavesOne D.meaning.images disk.old → LeavesOne D.meaning.images disk.new) }
-    ensures next { IfOk result (IsNext journal) }
+    ensures next { IfOk result (IsNext journal (taken_checkpoint settings.now taking.now) (taken_change taking.now)) }
     ensures not_worn { OnOk result (IsWorn journal → ⊥) }
     ensures crash { Passes D.meaning.images (Puts journal (taken_checkpoint settings.now taking.now)) disk.old disk.new }
     ensures early { DoneFewer 4 (D.meaning.done disk.old) (D.meaning.done disk.new) → Passes D.meaning.images (KeepsMemory journal) disk.old disk.new }
@@ -127,12 +128,16 @@ fn put<D: Disk>(
     ensures cause { HasCommitCause result (D.meaning.faults disk.old) (D.meaning.faults disk.new) }
     ensures terms { KeepsTerms D.meaning disk.old disk.new }
 {
-    if let Some(behind) = journal {
-        if !needs_rewrite(behind, settings, taking) {
-            return put_behind(alloc, disk, behind, settings, taking);
+    match journal {
+        Some(behind) => {
+            if needs_rewrite(behind, settings, taking) {
+                put_beside(alloc, disk, journal, settings, taking)
+            } else {
+                put_behind(alloc, disk, behind, settings, taking)
+            }
         }
+        None => put_beside(alloc, disk, None, settings, taking),
     }
-    put_beside(alloc, disk, journal, settings, taking)
 }
 
 // Puts what changed behind the checkpoint.
@@ -148,10 +153,11 @@ fn put_behind<D: Disk>(
     requires short { IsShort journal }
     requires newest { journal.version ≡ NEWEST_VERSION }
     requires ends { journal.end ≤ 2 ^ 55 }
+    requires not_due { IsDue (Some journal) (taken_checkpoint settings.now taking.now) → ⊥ }
     requires savable { EachLeft D.meaning.images disk.old (IsSavable (Some journal) settings.now taking.now) }
     ensures put { IfOk result (λ next. EachLeft D.meaning.images disk.new (EndsWith next (taken_checkpoint settings.now taking.now))) }
     ensures one { OnOk result (LeavesOne D.meaning.images disk.old → LeavesOne D.meaning.images disk.new) }
-    ensures next { IfOk result (IsNext (Some journal)) }
+    ensures next { IfOk result (IsNext (Some journal) (taken_checkpoint settings.now taking.now) (taken_change taking.now)) }
     ensures not_worn { OnOk result (IsWorn (Some journal) → ⊥) }
     ensures crash { Passes D.meaning.images (Puts (Some journal) (taken_checkpoint settings.now taking.now)) disk.old disk.new }
     ensures early { DoneFewer 4 (D.meaning.done disk.old) (D.meaning.done disk.new) → Passes D.meaning.images (KeepsMemory (Some journal)) disk.old disk.new }
@@ -174,9 +180,10 @@ fn put_beside<D: Disk>(
 ) -> Result<Journal, CommitFault>
     requires lawful { IsCheckpoint (taken_checkpoint settings.now taking.now) }
     requires savable { EachLeft D.meaning.images disk.old (IsSavable journal settings.now taking.now) }
+    requires due { IsDue journal (taken_checkpoint settings.now taking.now) }
     ensures put { IfOk result (λ next. EachLeft D.meaning.images disk.new (EndsWith next (taken_checkpoint settings.now taking.now))) }
     ensures one { OnOk result (LeavesOne D.meaning.images disk.old → LeavesOne D.meaning.images disk.new) }
-    ensures next { IfOk result (IsNext journal) }
+    ensures next { IfOk result (IsNext journal (taken_checkpoint settings.now taking.now) (taken_change taking.now)) }
     ensures not_worn { OnOk result (IsWorn journal → ⊥) }
     ensures crash { Passes D.meaning.images (Puts journal (taken_checkpoint settings.now taking.now)) disk.old disk.new }
     ensures early { DoneFewer 4 (D.meaning.done disk.old) (D.meaning.done disk.new) → Passes D.meaning.images (KeepsMemory journal) disk.old disk.new }
@@ -195,6 +202,7 @@ fn needs_rewrite(journal: Journal, settings: &[u8], taking: &Taking) -> bool
     requires lawful { IsCheckpoint (taken_checkpoint settings.now taking.now) }
     requires short { IsShort journal }
     ensures due { IsTrue result → IsDue (Some journal) (taken_checkpoint settings.now taking.now) }
+    ensures not_due { IsDue (Some journal) (taken_checkpoint settings.now taking.now) → IsTrue result }
     ensures newest { result ≡ false → journal.version ≡ NEWEST_VERSION }
     ensures ends { result ≡ false → journal.end ≤ 2 ^ 55 }
 {
@@ -222,7 +230,7 @@ fn spelled_size(settings: &[u8], taking: &Taking) -> u64
 // How many bytes a row takes.
 fn row_size(row: &Row) -> u64
     requires path { IsShortText row.now.path }
-    requires front { length row.now.front ≤ FRONT_LIMIT }
+    requires front { length row.now.front ≤ front_limit }
     requires state { length row.now.state < 2 ^ 32 }
     ensures { result ≡ length (row_spelling row.now) }
 {

@@ -70,8 +70,9 @@ pub(crate) fn step_of(
     }
 }
 
-/// An event of a life: `open`, `poll`, `stop CALLS OUTCOME`, which stops the next of these, a step of another process, or `within
-/// CALLS STEP`, a step behind so many calls on the tree in the next poll.
+/// An event of a life: `open`, `poll`, `stop CALLS OUTCOME`, which stops the next of these, `fail-disk CALL` and `fail-tree CALL`, by
+/// which a call in the next of them fails, a step of another process, or `within CALLS STEP`, a step behind so many calls on the tree
+/// in the next poll.
 pub(crate) fn event_of(
     alloc: Global,
     line: &str,
@@ -87,6 +88,8 @@ pub(crate) fn event_of(
             let outcome = tried.number(text).unwrap_or(0);
             Ok(Some(Event::Stop { calls, outcome }))
         }
+        "fail-disk" => Ok(Some(Event::FailDisk { call: calls })),
+        "fail-tree" => Ok(Some(Event::FailTree { call: calls })),
         "within" => match step_of(alloc, text, tried)? {
             Some(step) => Ok(Some(Event::During { calls, step })),
             None => Ok(None),

@@ -1,10 +1,7 @@
 -- The limits of a poll, and the content that it passes over.
 use Rattle.std.specs.Prelude.{ℕ, List, [], ◌∷◌, Bool}
+pub use Rattle.file_tracker.specs.Limits.{row_limit}
 use Rattle.standing.specs.Prefixes.{begins}
-
--- how many files are known at most
-abbrev pub row_limit : ℕ
-row_limit = 1024
 
 -- how many bytes past its offset are taken of a file in one poll: 16 MiB
 abbrev pub most_taken : ℕ

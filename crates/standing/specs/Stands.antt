@@ -1,11 +1,11 @@
 -- What rows and an output stand for in a history.
-use Rattle.std.specs.Prelude.{◌≡◌, ◌≢◌, ℕ, ◌+◌, ◌-◌, ◌≤◌, List, length, take, drop, Some, slice_get, All, IsTrue}
+use Rattle.std.specs.Prelude.{◌≡◌, ◌≢◌, ℕ, ◌+◌, ◌-◌, ◌≤◌, List, length, take, drop, Some, slice_get, All}
 use Rattle.outside.specs.World.{History, bytes}
 use Rattle.standing.specs.Marks.{Mark, of_id, numbered}
 use Rattle.standing.specs.Owner.{IsOwner, MayBegin}
 use Rattle.standing.specs.Part.{whole, HasTaken}
 use Rattle.standing.specs.Prefixes.{IsPrefix}
-use Rattle.standing.specs.Rows.{Row, Checkpoint, IsRowAt, AreNumbered}
+use Rattle.standing.specs.Rows.{Row, Checkpoint, IsRowAt, AreNumbered, KeepStates}
 use Rattle.standing.specs.Rules.{Rules, output_text, entries_of}
 use Rattle.standing.specs.Tokens.{UpTo}
 
@@ -42,7 +42,7 @@ pub record Stands (rules : Rules) (history : History) (rows : List Row) (next_id
 -- The checkpoint fits the output file, whatever was read.
 pub record IsSound (rules : Rules) (checkpoint : Checkpoint) (file : List ℕ) : Type 0 where
   pub settings : checkpoint.settings ≡ rules.settings
-  pub states : All (λ (row : Row). IsTrue (rules.is_state row.state)) checkpoint.rows
+  pub states : KeepStates rules checkpoint.rows
   pub ids : AreNumbered checkpoint.rows checkpoint.next_id
   pub long_enough : checkpoint.output_length ≤ length file
 

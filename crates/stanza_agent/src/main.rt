@@ -2,13 +2,11 @@
 //! `output.jsonl`, as one OTLP JSON line.
 //!
 //! [`run_agent`](agent_commands::run_agent) is the whole program over any tree of log files, disk, control input and report, and
-//! its contract is the product's promise. `main` hands it the real ones, which stand in `real`.
+//! its contract is the product's promise. `main` hands it the real ones, which stand in `real_world`.
 #![tactic(auto)]
 
-mod real;
-
 use agent_commands::run_agent;
-use real::{RealDisk, RealSink, RealSource, RealTree};
+use real_world::{RealDisk, RealSink, RealSource, RealTree};
 use std::alloc::Global;
 use std::fs::File;
 use std::io::ErrorKind;

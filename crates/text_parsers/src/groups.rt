@@ -52,7 +52,8 @@ pub fn name_groups(
     let mut members = Fields::new(alloc);
     for group in groups {
         let taken = group_text(locations, group.number, text);
-        put(alloc, &mut members, group.name.as_str(), taken)?;
+        let name = group.name.share()?;
+        put(alloc, &mut members, name, taken)?;
     }
     Ok(members)
 }

@@ -16,7 +16,7 @@ use crate::blanks::{blanks_before, trim};
 use crate::cuts::{Delimiter, first_cut};
 use crate::members::put;
 use crate::quotes::{unclosed_quote, unquote};
-use entry_model::{Fields, Value};
+use entry_model::{Fields, Text, Value};
 use std::alloc::{AllocError, Global};
 use std::marker::Model;
 
@@ -125,7 +125,8 @@ fn take_piece(
     if key.is_empty() {
         return Err(ParseFault::Syntax { at });
     }
-    put(alloc, members, key, clean(&bytes[cut + within.len()..]))?;
+    let name = Text::from_str(alloc, key)?;
+    put(alloc, members, name, clean(&bytes[cut + within.len()..]))?;
     Ok(())
 }
 

@@ -10,10 +10,9 @@ use entry_model::{Fields, Text, Value};
 use std::alloc::{AllocError, Global};
 
 /// Puts a text into the members. That of an earlier one of the name goes.
-pub fn put(alloc: Global, members: &mut Fields, key: &str, value: &str) -> Result<(), AllocError>
-    ensures { OnOk result (seen members.new.entries ≡ insert_entry (slice_cmp nat_cmp) (seen members.old.entries) key.now (text_datum value.now)) }
+pub fn put(alloc: Global, members: &mut Fields, key: Text, value: &str) -> Result<(), AllocError>
+    ensures { OnOk result (seen members.new.entries ≡ insert_entry (slice_cmp nat_cmp) (seen members.old.entries) key (text_datum value.now)) }
 {
-    let key = Text::from_str(alloc, key)?;
     let value = Text::from_str(alloc, value)?;
     members.insert(key, Value::Text(value))?;
     Ok(())

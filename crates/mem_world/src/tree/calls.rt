@@ -151,17 +151,17 @@ impl MemTree {
 
 impl Tree for MemTree {
     ghost use Rattle.mem_world.specs.MemTree.{state_of, tree_meaning};
-    ghost use Rattle.mem_world.specs.TreeTold.{bound_of};
+    ghost use Rattle.mem_world.specs.TreeTold.{bound_of, told_world, told_plan, tells_lawful, tells_followed};
 
     ghost meaning = { tree_meaning };
 
     fn list(&mut self, alloc: Global, folder: &str) -> Result<Listed, CallFault>
-        ensures history { Told (Lists folder.now result) (Some (state_of self.old).world) (Some (state_of self.new).world) }
+        ensures history { Told (Lists folder.now result) (told_world (state_of self.old)) (told_world (state_of self.new)) }
         ensures cause { HasCause result (state_of self.old).faults (state_of self.new).faults }
         ensures nameless { (tree_meaning).nameless self.new ≡ nameless_after result ((tree_meaning).nameless self.old) }
         ensures taken { (state_of self.new).taken ≡ (state_of self.old).taken }
         ensures widest { Some (state_of self.new).widest ≡ Some (state_of self.old).widest }
-        ensures plan { Some (state_of self.new).plan ≡ Some (state_of self.old).plan }
+        ensures plan { told_plan (state_of self.new) ≡ told_plan (state_of self.old) }
         ensures bound { Some (bound_of (state_of self.new)) ≡ Some (bound_of (state_of self.old)) }
         ensures calls { ListCalls folder.now result (state_of self.old) (state_of self.new) }
     {
@@ -169,13 +169,13 @@ impl Tree for MemTree {
     }
 
     fn open_file(&mut self, alloc: Global, path: &str) -> Result<Opened, CallFault>
-        ensures history { Told (Opens path.now result) (Some (state_of self.old).world) (Some (state_of self.new).world) }
+        ensures history { Told (Opens path.now result) (told_world (state_of self.old)) (told_world (state_of self.new)) }
         ensures size { IfOk result IsSize }
         ensures cause { HasCause result (state_of self.old).faults (state_of self.new).faults }
         ensures nameless { (tree_meaning).nameless self.new ≡ (tree_meaning).nameless self.old }
         ensures taken { (state_of self.new).taken ≡ (state_of self.old).taken }
         ensures widest { Some (state_of self.new).widest ≡ Some (state_of self.old).widest }
-        ensures plan { Some (state_of self.new).plan ≡ Some (state_of self.old).plan }
+        ensures plan { told_plan (state_of self.new) ≡ told_plan (state_of self.old) }
         ensures bound { Some (bound_of (state_of self.new)) ≡ Some (bound_of (state_of self.old)) }
         ensures calls { OpenFileCalls path.now result (state_of self.old) (state_of self.new) }
     {
@@ -184,12 +184,12 @@ impl Tree for MemTree {
 
     fn read_at(&mut self, handle: Handle, offset: u64, buf: &mut [u8]) -> Result<usize, Failed>
         ensures within { IfOk result (λ count. count ≤ length buf.new) }
-        ensures history { Told (Reads handle.0 offset buf.new result) (Some (state_of self.old).world) (Some (state_of self.new).world) }
+        ensures history { Told (Reads handle.0 offset buf.new result) (told_world (state_of self.old)) (told_world (state_of self.new)) }
         ensures cause { HasOneCause result (state_of self.old).faults (state_of self.new).faults }
         ensures nameless { (tree_meaning).nameless self.new ≡ (tree_meaning).nameless self.old }
         ensures taken { (state_of self.new).taken ≡ taken_after result (state_of self.old).taken }
         ensures widest { Some (state_of self.new).widest ≡ widest_after (length buf.new) (Some (state_of self.old).widest) }
-        ensures plan { Some (state_of self.new).plan ≡ Some (state_of self.old).plan }
+        ensures plan { told_plan (state_of self.new) ≡ told_plan (state_of self.old) }
         ensures bound { Some (bound_of (state_of self.new)) ≡ Some (bound_of (state_of self.old)) }
         ensures calls { ReadAtCalls handle.0 offset buf.new result (state_of self.old) (state_of self.new) }
     {
@@ -197,12 +197,12 @@ impl Tree for MemTree {
     }
 
     fn close(&mut self, handle: Handle)
-        ensures history { Told (Closes handle.0) (Some (state_of self.old).world) (Some (state_of self.new).world) }
+        ensures history { Told (Closes handle.0) (told_world (state_of self.old)) (told_world (state_of self.new)) }
         ensures cause { (state_of self.new).faults ≡ (state_of self.old).faults }
         ensures nameless { (tree_meaning).nameless self.new ≡ (tree_meaning).nameless self.old }
         ensures taken { (state_of self.new).taken ≡ (state_of self.old).taken }
         ensures widest { Some (state_of self.new).widest ≡ Some (state_of self.old).widest }
-        ensures plan { Some (state_of self.new).plan ≡ Some (state_of self.old).plan }
+        ensures plan { told_plan (state_of self.new) ≡ told_plan (state_of self.old) }
         ensures bound { Some (bound_of (state_of self.new)) ≡ Some (bound_of (state_of self.old)) }
         ensures calls { CloseCalls handle.0 (state_of self.old) (state_of self.new) }
     {
@@ -211,9 +211,9 @@ impl Tree for MemTree {
 
     ghost use Rattle.std.proofs.Common.{arith};
 
-    ghost lawful = { λ tree. tree.lawful };
+    ghost lawful = { λ tree. tells_lawful (state_of tree) tree.lawful };
 
-    ghost followed = { λ tree. tree.followed };
+    ghost followed = { λ tree. tells_followed (state_of tree) tree.followed };
 
     ghost in_range = { λ tree. tree.counted };
 

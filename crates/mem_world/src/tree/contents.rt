@@ -1,5 +1,5 @@
 // The bytes of files.
-ghost use Rattle.std.specs.Prelude.{◌≡◌, ◌+◌, ◌<◌, ◌≤◌, ◌++◌, [], ℕ, All, length, ◌==◌, if◌then◌else◌, OnOk, OnErr, IfOk};
+ghost use Rattle.std.specs.Prelude.{◌≡◌, ◌+◌, ◌<◌, ◌≤◌, ◌++◌, [], ℕ, All, length, take, ◌==◌, if◌then◌else◌, OnOk, OnErr, IfOk};
 ghost use Rattle.mem_world.specs.TreeContents.{HasRoom, bytes_in, room_at, place_in};
 ghost use Rattle.mem_world.specs.WorldSteps.{event_of, added_by};
 
@@ -86,6 +86,31 @@ fn fill_one(content: &mut Content, more: &[u8])
         unreachable!();
     }
     content.room -= more.len();
+}
+
+/// Leaves the file so many bytes, where it has more.
+pub fn cut(contents: &mut Vec<Content>, file: u32, size: usize)
+    requires { All HasRoom contents.old.items }
+    ensures kept { All HasRoom contents.new.items }
+    ensures bytes { (other : ℕ) → bytes_in contents.new.items other
+        ≡ (if file == other then take size (bytes_in contents.old.items other) else bytes_in contents.old.items other) }
+    ensures rooms { (other : ℕ) → room_at contents.new.items other ≡ room_at contents.old.items other }
+{
+    let held = contents.as_slice();
+    let place = place_of(held, file);
+    if place < held.len() {
+        cut_one(&mut contents[place], size);
+    }
+}
+
+fn cut_one(content: &mut Content, size: usize)
+    requires { HasRoom content.old }
+    ensures kept { HasRoom content.new }
+    ensures file { content.new.file ≡ content.old.file }
+    ensures bytes { content.new.bytes.items ≡ take size content.old.bytes.items }
+    ensures room { content.new.room ≡ content.old.room }
+{
+    content.bytes.truncate(size);
 }
 
 /// Makes room for what the step appends.

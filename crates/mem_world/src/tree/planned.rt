@@ -5,6 +5,7 @@ ghost use Rattle.outside.specs.Plan.{Plan};
 ghost use Rattle.outside.specs.World.{History};
 ghost use Rattle.mem_world.specs.TreeEvents.{event_seen};
 ghost use Rattle.mem_world.specs.TreePlan.{own_since, last_call};
+ghost use Rattle.mem_world.specs.TreeSpoiled.{cut_to};
 ghost use Rattle.mem_world.specs.WorldSteps.{event_of};
 
 use super::events::{Scheduled, Seen};
@@ -105,6 +106,16 @@ impl Planned {
         self.calls = 0;
         self.since = self.world.len();
         Ok(())
+    }
+
+    /// Leaves the file so many bytes, where it has more, and sets the plan.
+    pub fn cut(&mut self, file: u32, size: usize)
+        ensures { self.new ≡ with_plan (cut_to file size self.old.history) self.old.waiting }
+    {
+        self.world.cut(file, size);
+        renew(&mut self.steps, self.calls);
+        self.calls = 0;
+        self.since = self.world.len();
     }
 
     /// Drops all that waits.

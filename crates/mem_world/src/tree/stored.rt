@@ -3,6 +3,7 @@ ghost use Rattle.std.specs.Prelude.{◌≡◌, ◌+◌, ◌<◌, ◌≤◌, ◌�
 ghost use Rattle.outside.specs.Lawful.{is_lawful, is_free, may_come, IsLawful};
 ghost use Rattle.outside.specs.World.{names, bytes, has_name, file_at, was_created, without};
 ghost use Rattle.mem_world.specs.TreeRoom.{room_in, empty_world};
+ghost use Rattle.mem_world.specs.TreeSpoiled.{cut_to};
 ghost use Rattle.mem_world.specs.WorldSteps.{event_of, added_by, makes};
 ghost use Rattle.std.specs.List.{list_any};
 ghost use Rattle.mem_world.specs.TreeEvents.{event_seen};
@@ -11,8 +12,8 @@ ghost use Rattle.outside.specs.Reading.{bytes_if};
 
 use super::contents::{self, Content, bytes_of};
 use super::events::{Ready, Recorded, Seen};
-use super::listing;
 use super::names::{self, Names};
+use super::{listing, shorten};
 use crate::world::WorldStep;
 use entry_model::Text;
 use outside::Item;
@@ -183,6 +184,17 @@ impl Stored {
         contents::grow(&mut self.contents, &step);
         self.room -= 1;
         self.history.push_front_reserved(Recorded::Step(step));
+    }
+
+    /// Leaves the file so many bytes, where it has more.
+    pub fn cut(&mut self, file: u32, size: usize)
+        ensures history { self.new.history ≡ cut_to file size self.old.history }
+        ensures room { self.new.room ≡ self.old.room }
+        ensures rooms { (other : ℕ) → room_in self.new.rooms other ≡ room_in self.old.rooms other }
+    {
+        let surplus = self.bytes(file).len().saturating_sub(size);
+        shorten::cut(self.history.make_contiguous(), file, size, surplus);
+        contents::cut(&mut self.contents, file, size);
     }
 
     /// Takes down an event of the agent's own.

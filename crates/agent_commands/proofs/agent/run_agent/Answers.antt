@@ -16,6 +16,9 @@ use Rattle.agent_commands.proofs.agent.run_agent.Goals as goal
 pub returns-in-Ok-clause-demo : goal.returns-in-Ok-clause-demo
 returns-in-Ok-clause-demo g c = λ rounds is. c.run.ensures.demo rounds (c.words_spell_one_command.ensures _ _ _ c.in-Ok.ensures.command is)
 
+pub returns-in-Ok-clause-no_command : goal.returns-in-Ok-clause-no_command
+returns-in-Ok-clause-no_command g c = λ none. absurd (none _ c.in-Ok.ensures.command)
+
 -- ---- they spell none, or memory ran out
 
 pub returns-in-Err-clause-once : goal.returns-in-Err-clause-once
@@ -59,3 +62,6 @@ returns-in-Err-clause-demo g c = λ rounds is.
 
 pub returns-in-Err-clause-standing : goal.returns-in-Err-clause-standing
 returns-in-Err-clause-standing g c = same_stands g.D.Disk.meaning.images c.args.disk.now c.args.disk.now (g.T.Tree.meaning.world c.args.tree.now) (λ from image early left. g.met.D.Disk.counts_now c.args.disk.now from image early left) (passes_none c.args.disk.now)
+
+pub returns-in-Err-clause-no_command : goal.returns-in-Err-clause-no_command
+returns-in-Err-clause-no_command g c = λ _. record { fault = c.in-Err.fault; cause = c.in-Err.ensures.fault; status_is = c.refuse.ensures.status; told = c.refuse.ensures.told }

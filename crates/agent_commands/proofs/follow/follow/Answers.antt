@@ -3,8 +3,10 @@ use Rattle.outside.proofs.Telling.{told_same}
 use Rattle.outside.specs.Count.{Rose}
 use Rattle.agent_commands.specs.Control.{max_control, TakesAtMost}
 use Rattle.agent_commands.specs.Follow.{not_opened, serves}
+use Rattle.agent_commands.specs.Moment.{meanings, moment}
 use Rattle.agent_commands.proofs.GrowLemmas.{opened_grows, opening_grows}
-use Rattle.agent_commands.proofs.StandLemmas.{closed_stands, opened_stands}
+use Rattle.poll_core.specs.SessionParts.{rules_of_session}
+use Rattle.agent_commands.proofs.StandLemmas.{closed_stands, keeps_opened, opened_stands}
 use Rattle.agent_commands.proofs.StatusLemmas.{count_of_fault, opening_status, some_fault}
 use Rattle.agent_commands.proofs.follow.follow.Goals as goal
 
@@ -50,13 +52,17 @@ returns-in-Err-clause-control_long g c = λ is.
 -- ---- one was
 
 pub returns-clause-ends : goal.returns-clause-ends
-returns-clause-ends g c = serves (record {
-  session = c.in-Ok.session;
-  between = c.open_session.new.disk;
-  opens = c.in-Ok.ensures.ok;
-  served = c.serve.ensures.served;
-  crash = opened_grows c.serve.ensures.served.last _ _ _ c.open_session.ensures.crash c.serve.ensures.served.crash;
-})
+returns-clause-ends g c =
+    let keeps = keeps_opened (meanings g.T.Tree.meaning g.D.Disk.meaning g.K.Sink.meaning) (rules_of_session c.in-Ok.session) c.args.tree.now c.args.disk.now c.open_session.new.disk c.args.report.now
+    (λ from image early left. g.met.D.Disk.counts_now c.args.disk.now from image early left) c.open_session.ensures.crash in
+    let served = c.serve.ensures.served (moment c.args.tree.now c.args.disk.now c.args.report.now) keeps in
+    serves (record {
+      session = c.in-Ok.session;
+      between = c.open_session.new.disk;
+      opens = c.in-Ok.ensures.ok;
+      served = served;
+      crash = opened_grows served.end.made _ _ _ c.open_session.ensures.crash served.crash;
+    })
 
 pub returns-clause-standing : goal.returns-clause-standing
 returns-clause-standing g c = opened_stands g.D.Disk.meaning.images c.in-Ok.session c.args.disk.now c.open_session.new.disk c.serve.new.disk (g.T.Tree.meaning.world c.args.tree.now) (g.T.Tree.meaning.world c.serve.new.tree) c.settings_give_one_set_of_rules.ensures.rules

@@ -1,4 +1,4 @@
-use Rattle.std.proofs.Common.{rules, ◌≡◌, ◌+◌, ◌-◌, ℕ, [], refl, ◌∙◌, ap, subst, arith}
+use Rattle.std.proofs.Common.{rules, ◌≡◌, ◌+◌, ◌-◌, ℕ, [], refl, sym, ◌∙◌, ap, subst, arith}
 use Rattle.std.specs.Prelude.{Ok, Err}
 use Rattle.outside.proofs.Passing.{passes_none}
 use Rattle.outside.proofs.Telling.{told_same}
@@ -8,12 +8,13 @@ use Rattle.poll_core.specs.SessionParts.{rules_of_session}
 use Rattle.poll_core.specs.Since.{KeepsStandingSince}
 use Rattle.agent_commands.specs.Control.{max_control, Asks, Spends}
 use Rattle.agent_commands.specs.Follow.{ends, stops}
+use Rattle.agent_commands.specs.Headline.{KeepsFrom}
 use Rattle.agent_commands.specs.Moment.{meanings, moment}
 use Rattle.agent_commands.specs.declared.control.Request.TheVariants.{Poll}
 use Rattle.agent_commands.proofs.Controlling.{at_most_told, exactly_both_told, spends_both_told, takes_exactly_told}
 use Rattle.agent_commands.proofs.FollowLemmas.{leads_none, leads_on}
-use Rattle.agent_commands.proofs.GrowLemmas.{passes_grow_more, passes_grow_on, same_grows}
-use Rattle.agent_commands.proofs.StandLemmas.{told_stands_none, told_stands_then}
+use Rattle.agent_commands.proofs.GrowLemmas.{passes_grow_on, same_grows}
+use Rattle.agent_commands.proofs.StandLemmas.{keeps_then, told_later_same, told_later_then, told_stands_none, told_stands_then}
 use Rattle.agent_commands.proofs.StatusLemmas.{count_of_stop, exhausted_of_status, no_poll_status, other_status}
 use Rattle.agent_commands.proofs.follow.serve.Goals as goal
 
@@ -24,9 +25,10 @@ loop-report-init g c = record {
   rules = refl;
   counted = omega arith;
   within = omega arith;
-  leads = leads_none _ _ _ _;
+  leads = λ begun keeps. leads_none _ begun _ _ _;
   crash = same_grows _ _ (passes_none c.args.disk.now);
   standing = told_stands_none g.D.Disk.meaning.images (rules_of_session c.args.session) c.args.disk.now (g.T.Tree.meaning.world c.args.tree.now);
+  goes = told_later_same (g.T.Tree.meaning.world c.args.tree.now);
   disk_stood = refl;
   control_stood = refl;
   report_stood = refl;
@@ -39,14 +41,14 @@ stop-requires g c = search rules
 -- ---- the request asks for no poll
 
 pub returns-then-not-is_poll-clause-served : goal.returns-then-not-is_poll-clause-served
-returns-then-not-is_poll-clause-served g c =
+returns-then-not-is_poll-clause-served g c = λ begun keeps.
     let now = c.loop-report in
     let next = c.next_request-request in
     record {
-      last = now.number;
-      follows = now.invariant.leads now.number c.stop.result (g.S.Source.meaning.rest next.new.control) (moment now.tree now.disk c.stop.new.report)
-          (ends now.number now.left next.new.left now.session _ _ next.result (record { asks = next.ensures.asks; spends = next.ensures.spends }) c.stop.ensures.stops refl refl refl);
-      crash = passes_grow_more (now.number - 1) now.number _ _ (omega arith) now.invariant.crash;
+      end = record { last = now.number; made = now.number - 1 };
+      follows = now.invariant.leads begun keeps _ c.stop.result (g.S.Source.meaning.rest next.new.control) (moment now.tree now.disk c.stop.new.report)
+          (ends now.number now.left next.new.left now.session _ _ next.result (record { asks = next.ensures.asks; spends = next.ensures.spends }) c.stop.ensures.stops refl refl refl (omega (arith, now.invariant.counted)));
+      crash = now.invariant.crash;
     }
 
 pub returns-then-not-is_poll-clause-standing : goal.returns-then-not-is_poll-clause-standing
@@ -96,15 +98,15 @@ pub turn-requires-clause-stands : goal.turn-requires-clause-stands
 turn-requires-clause-stands g c = c.loop-report.invariant.stands
 
 pub returns-in-Err-clause-served : goal.returns-in-Err-clause-served
-returns-in-Err-clause-served g c =
+returns-in-Err-clause-served g c = λ begun keeps.
     let now = c.loop-report in
     let next = c.next_request-request in
     let poll : next.result ≡ Ok Poll = search rules in
     let asks = subst (λ request. Told (Asks now.left request) (g.S.Source.meaning.rest now.control) (g.S.Source.meaning.rest next.new.control)) poll next.ensures.asks in
     record {
-      last = now.number;
-      follows = now.invariant.leads now.number c.in-Err.status (g.S.Source.meaning.rest next.new.control) (moment c.turn.new.tree c.turn.new.disk c.turn.new.report)
-          (stops now.number now.left next.new.left now.session _ _ (record { asks = asks; spends = next.ensures.spends }) c.in-Err.ensures.stops refl);
+      end = record { last = now.number; made = now.number };
+      follows = now.invariant.leads begun keeps _ c.in-Err.status (g.S.Source.meaning.rest next.new.control) (moment c.turn.new.tree c.turn.new.disk c.turn.new.report)
+          (stops now.number now.left next.new.left now.session _ _ (record { asks = asks; spends = next.ensures.spends }) c.in-Err.ensures.stops refl refl);
       crash = passes_grow_on (now.number - 1) now.number _ _ _ (omega (arith, now.invariant.counted)) now.invariant.crash c.turn.ensures.crash;
     }
 
@@ -159,20 +161,28 @@ loop-report-preserved g c =
     let next = c.next_request-request in
     let images = g.D.Disk.meaning.images in
     let world = g.T.Tree.meaning.world in
+    let ms = meanings g.T.Tree.meaning g.D.Disk.meaning g.K.Sink.meaning in
+    let first = moment c.args.tree.now c.args.disk.now c.args.report.now in
+    let here = moment now.tree now.disk now.report in
+    let still : KeepsFrom ms (rules_of_session now.session) here here = record { later = omega arith; goes = told_later_same (world now.tree); standing = told_stands_none images (rules_of_session now.session) now.disk (world now.tree) } in
+    let turned = c.in-Ok.ensures.turns here still in
+    let so_far : KeepsFrom ms (rules_of_session c.args.session) first here = record { later = now.invariant.crash.later; goes = now.invariant.goes; standing = now.invariant.standing } in
     let poll : next.result ≡ Ok Poll = search rules in
     let asks = subst (λ request. Told (Asks now.left request) (g.S.Source.meaning.rest now.control) (g.S.Source.meaning.rest next.new.control)) poll next.ensures.asks in
     record {
       session = c.in-Ok.ensures.session;
-      stands = c.in-Ok.ensures.turns.polled.stands;
-      rules = c.in-Ok.ensures.turns.polled.rules ∙ now.invariant.rules;
+      stands = turned.polled.stands;
+      rules = turned.polled.rules ∙ now.invariant.rules;
       counted = omega arith;
       within = omega (arith, now.invariant.within, next.ensures.fewer poll);
-      leads = leads_on (meanings g.T.Tree.meaning g.D.Disk.meaning g.K.Sink.meaning) c.args.session (g.S.Source.meaning.rest c.args.control.now) (moment c.args.tree.now c.args.disk.now c.args.report.now)
+      leads = λ begun keeps. leads_on ms begun c.args.session (g.S.Source.meaning.rest c.args.control.now) (moment c.args.tree.now c.args.disk.now c.args.report.now)
           now.number now.left next.new.left now.session c.in-Ok.next _ _ (moment now.tree now.disk now.report) (moment c.turn.new.tree c.turn.new.disk c.turn.new.report)
-          now.invariant.leads (record { asks = asks; spends = next.ensures.spends }) c.in-Ok.ensures.turns;
+          (now.invariant.leads begun keeps) (record { asks = asks; spends = next.ensures.spends }) (c.in-Ok.ensures.turns begun
+          (subst (λ r. KeepsFrom ms r begun here) (sym now.invariant.rules) (keeps_then ms (rules_of_session c.args.session) begun first here keeps so_far)));
       crash = passes_grow_on (now.number - 1) (now.number + 1 - 1) _ _ _ (omega (arith, now.invariant.counted)) now.invariant.crash c.turn.ensures.crash;
       standing = told_stands_then images (rules_of_session c.args.session) c.args.disk.now now.disk c.turn.new.disk _ _ _ c.turn.ensures.later now.invariant.crash.later now.invariant.standing
           (subst (λ r. Told (KeepsStandingSince images r now.disk c.turn.new.disk) (world now.tree) (world c.turn.new.tree)) now.invariant.rules c.turn.ensures.standing);
+      goes = told_later_then (world c.args.tree.now) (world now.tree) (world c.turn.new.tree) now.invariant.goes c.turn.ensures.later;
       disk_stood = c.in-Ok.ensures.disk_stood (λ is. let no : Ok c.in-Ok.next ≡ Err 7 = is in cc) ∙ now.invariant.disk_stood;
       control_stood = subst (λ r. HasOneCause r (g.S.Source.meaning.faults now.control) (g.S.Source.meaning.faults next.new.control)) poll next.ensures.cause ∙ now.invariant.control_stood;
       report_stood = c.in-Ok.ensures.report_stood ∙ now.invariant.report_stood;

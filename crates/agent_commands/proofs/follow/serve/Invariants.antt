@@ -1,4 +1,5 @@
 use Rattle.std.proofs.Common.{◌≡◌, ◌+◌, ◌-◌, ◌≤◌}
+use Rattle.file_pass.specs.TreeTerms.{GoesLater}
 use Rattle.outside.specs.Crash.{Passes}
 use Rattle.outside.specs.World.{Told}
 use Rattle.poll_core.specs.IsSession.{IsSession}
@@ -8,7 +9,7 @@ use Rattle.poll_core.specs.StandsOn.{StandsOn}
 use Rattle.agent_commands.specs.Control.{max_control, Spends}
 use Rattle.agent_commands.specs.Grows.{GrowsBy}
 use Rattle.agent_commands.specs.Moment.{meanings, moment}
-use Rattle.agent_commands.proofs.FollowLemmas.{Leads}
+use Rattle.agent_commands.proofs.FollowLemmas.{LeadsFrom}
 use Rattle.agent_commands.proofs.follow.serve.Given as goal
 
 -- the session stands on the disk, and what is done from this line on is done from the first on
@@ -24,9 +25,10 @@ invariant-loop-report g l =
       rules : rules_of_session l.session ≡ rules_of_session l.fn.session;
       counted : 1 ≤ l.number;
       within : l.left + l.number ≤ max_control + 1;
-      leads : Leads (meanings trees disks sinks) l.fn.session (sources.rest l.fn.control) (moment l.fn.tree l.fn.disk l.fn.report) l.number l.left l.session (sources.rest l.control) (moment l.tree l.disk l.report);
+      leads : LeadsFrom (meanings trees disks sinks) l.fn.session (sources.rest l.fn.control) (moment l.fn.tree l.fn.disk l.fn.report) l.number l.left l.session (sources.rest l.control) (moment l.tree l.disk l.report);
       crash : Passes disks.images (GrowsBy (l.number - 1)) l.fn.disk l.disk;
       standing : Told (KeepsStandingSince disks.images (rules_of_session l.fn.session) l.fn.disk l.disk) (trees.world l.fn.tree) (trees.world l.tree);
+      goes : Told GoesLater (trees.world l.fn.tree) (trees.world l.tree);
       disk_stood : disks.faults l.disk ≡ disks.faults l.fn.disk;
       control_stood : sources.faults l.control ≡ sources.faults l.fn.control;
       report_stood : sinks.faults l.report ≡ sinks.faults l.fn.report;

@@ -1,7 +1,9 @@
 use Rattle.std.proofs.Common.{ℕ, sym, ◌∙◌, arith, refl}
 use Rattle.agent_commands.proofs.GrowLemmas.{opened_grows, opening_grows, passes_grow_more}
-use Rattle.agent_commands.proofs.StandLemmas.{closed_stands, opened_stands}
+use Rattle.poll_core.specs.SessionParts.{rules_of_session}
+use Rattle.agent_commands.proofs.StandLemmas.{closed_stands, keeps_opened, opened_stands}
 use Rattle.agent_commands.proofs.StatusLemmas.{count_of_fault, some_fault}
+use Rattle.agent_commands.specs.Moment.{meanings, moment}
 use Rattle.agent_commands.specs.Once.{not_opened, polls, stops}
 use Rattle.agent_commands.proofs.once.once.Goals as goal
 
@@ -56,7 +58,9 @@ returns-clause-ends g c =
       between = c.open_session.new.disk;
       opens = c.in-Ok.ensures.ok;
       next = c.in_default.field-0;
-      turns = c.in_default.ensures.turns;
+      turns = c.in_default.ensures.turns (moment c.args.tree.now c.args.disk.now c.args.report.now)
+          (keeps_opened (meanings g.T.Tree.meaning g.D.Disk.meaning g.K.Sink.meaning) (rules_of_session c.in-Ok.session) c.args.tree.now c.args.disk.now c.open_session.new.disk c.args.report.now
+          (λ from image early left. g.met.D.Disk.counts_now c.args.disk.now from image early left) c.open_session.ensures.crash);
     })
 
 pub returns-clause-crash : goal.returns-clause-crash

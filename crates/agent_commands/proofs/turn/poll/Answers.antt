@@ -23,4 +23,5 @@ pub returns-clause-crash : goal.returns-clause-crash
 returns-clause-crash g c = poll_grows g.T.Tree.meaning g.D.Disk.meaning c.args.session c.args.tree.now c.poll.new.tree c.args.disk.now c.poll.new.disk c.requires.session c.requires.stands c.poll.ensures.crash
 
 pub returns-clause-whole : goal.returns-clause-whole
-returns-clause-whole g c = told_holds_all c.a_complete_poll_reaches_all.ensures c.args.session _ _ _ _ c.a_session_polls_by_rules.ensures c.poll.ensures.tree.later
+returns-clause-whole g c =
+    told_holds_all g.D.Disk.meaning.images (λ disk tells. g.met.D.Disk.shown disk tells) c.a_complete_poll_reaches_all.ensures c.args.session _ _ c.args.disk.now _ _ c.a_session_polls_by_rules.ensures c.requires.stands c.poll.ensures.tree.later

@@ -1,5 +1,7 @@
 use Rattle.std.proofs.Common.{ℕ, ◌≡◌, sym, ◌∙◌, ap, subst, inl, inr, refl}
 use Rattle.std.specs.Prelude.{Err}
+use Rattle.poll_core.specs.SessionParts.{checkpoint_of_session}
+use Rattle.agent_commands.proofs.StandLemmas.{holds_since}
 use Rattle.agent_commands.proofs.StatusLemmas.{count_of_fault, some_fault, status_of_poll}
 use Rattle.agent_commands.specs.Turn.{IsTurnStatus}
 use Rattle.agent_commands.proofs.turn.turn.Goals as goal
@@ -24,7 +26,15 @@ pub returns-in-Err-clause-answers : goal.returns-in-Err-clause-answers
 returns-in-Err-clause-answers g c = subst (λ status. IsTurnStatus status) (sym c.refuse.ensures.status) (status_of_poll g.T.Tree.meaning c.args.session c.args.tree.now _ c.in-Err.fault c.in-Err.ensures.fault)
 
 pub returns-in-Ok-report_summary-clause-turns : goal.returns-in-Ok-report_summary-clause-turns
-returns-in-Ok-report_summary-clause-turns g c = record { summary = c.in-Ok.done.1; polled = c.in-Ok.ensures.polled; whole = c.in-Ok.ensures.whole; told = c.in-Ok-report_summary.ensures.ok }
+returns-in-Ok-report_summary-clause-turns g c = λ begun keeps. record {
+  summary = c.in-Ok.done.1;
+  polled = c.in-Ok.ensures.polled;
+  whole = λ first is.
+      holds_since g.D.Disk.meaning.images (λ disk image since. g.met.D.Disk.only_now disk image since) (λ disk from image early left. g.met.D.Disk.counts_now disk from image early left)
+      c.args.session (checkpoint_of_session c.in-Ok.done.0) c.in-Ok.done.1 begun.disk c.args.disk.now first (g.T.Tree.meaning.world begun.tree) (g.T.Tree.meaning.world c.args.tree.now) _ keeps.later keeps.standing is c.poll.ensures.later
+      c.in-Ok.ensures.whole;
+  told = c.in-Ok-report_summary.ensures.ok;
+}
 
 pub returns-in-Err-Failed-clause-stops : goal.returns-in-Err-Failed-clause-stops
 returns-in-Err-Failed-clause-stops g c = inl (record { next = c.in-Ok.done.0; summary = c.in-Ok.done.1; polled = c.in-Ok.ensures.polled; is = inl refl; told = c.report_summary.ensures.part })

@@ -3,7 +3,7 @@ use Rattle.std.specs.Prelude.{map}
 use Rattle.demo_run.proofs.Counts.{script_counts}
 use Rattle.demo_run.proofs.Endings.{of_rounds}
 use Rattle.demo_run.proofs.Rounds.{lines_are_rounds}
-use Rattle.demo_run.proofs.Ruling.{is_ruled}
+use Rattle.demo_run.proofs.RuleLemmas.{is_ruled}
 use Rattle.demo_run.specs.Moves.{move_of}
 use Rattle.demo_run.specs.Script.{script}
 use Rattle.demo_run.proofs.show.play_rounds.Goals as goal

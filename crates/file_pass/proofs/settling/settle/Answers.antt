@@ -2,7 +2,7 @@ use Rattle.std.proofs.Common.{◌∙◌, sym, ap, length, List}
 use Rattle.std.proofs.lemmas.List.{length-set}
 use Rattle.file_tracker.specs.Places.{with_front}
 use Rattle.file_tracker.specs.declared.row.Row.{Row}
-use Rattle.file_pass.proofs.Saning.{sane_found, sane_settled}
+use Rattle.file_pass.proofs.SaneLemmas.{sane_found, sane_settled}
 use Rattle.file_pass.proofs.settling.settle.Goals as goal
 
 pub returns-in_ok-grow-in-Some-clause-sane : goal.returns-in_ok-grow-in-Some-clause-sane

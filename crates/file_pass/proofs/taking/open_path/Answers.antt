@@ -6,12 +6,12 @@ use Rattle.outside.specs.Opening.{Opens, OpensFile}
 use Rattle.outside.specs.World.{names, History}
 use Rattle.outside.specs.declared.tree.Kind.TheVariants.{Folder, File as PlainFile}
 use Rattle.outside.specs.declared.tree.Opened.TheVariants.{File, Gone, NotAFile}
-use Rattle.outside.specs.declared.fault.CallFault.TheVariants.{Failed}
+use Rattle.outside.specs.declared.fault.CallFault.TheVariants.{Failed, Memory}
 use Rattle.file_pass.specs.Fed.{rules_in}
 use Rattle.file_pass.specs.declared.ending.OpenFile.{OpenFile}
 use Rattle.file_pass.specs.declared.taking.TheConstants.{BUFFER_SIZE}
 use Rattle.file_pass.proofs.Flagging.{unchanged_none}
-use Rattle.file_pass.proofs.Joining.{tree_then, tree_opens, tree_closes, takes_file, fills_file, takes_missed, takes_lost}
+use Rattle.file_pass.proofs.Joining.{tree_opens, tree_file, takes_file, fills_file, takes_missed, takes_lost}
 use Rattle.file_pass.proofs.taking.open_path.Goals as goal
 
 pub returns-in-Ok-File-clause-ok : goal.returns-in-Ok-File-clause-ok
@@ -36,11 +36,11 @@ returns-in-Ok-File-clause-full g c = λ size is.
 
 pub returns-in-Ok-File-clause-tree : goal.returns-in-Ok-File-clause-tree
 returns-in-Ok-File-clause-tree g c =
-    tree_then g.T.Tree.meaning BUFFER_SIZE c.args.tree.now c.take_opened-found.new.tree c.close.new.self
-    (tree_then g.T.Tree.meaning BUFFER_SIZE c.args.tree.now c.open_file.new.self c.take_opened-found.new.tree
-    (tree_opens g.T.Tree.meaning BUFFER_SIZE c.as_str.result.now c.open_file.result c.args.tree.now c.open_file.new.self c.open_file.ensures.history c.open_file.ensures.cause c.open_file.ensures.nameless c.open_file.ensures.taken c.open_file.ensures.widest c.open_file.ensures.plan c.open_file.ensures.bound)
-    c.take_opened-found.ensures.tree)
-    (tree_closes g.T.Tree.meaning BUFFER_SIZE c.in-Ok-File.handle.0 c.take_opened-found.new.tree c.close.new.self c.close.ensures.history c.close.ensures.cause c.close.ensures.nameless c.close.ensures.taken c.close.ensures.widest c.close.ensures.plan c.close.ensures.bound)
+    let opened = rw c.in-Ok-File.field-0-is at c.in-Ok-File.ensures in
+    tree_file g.T.Tree.meaning BUFFER_SIZE c.as_str.result.now c.in-Ok-File.handle c.in-Ok-File.size c.args.tree.now c.open_file.new.self c.take_opened-found.new.tree c.close.new.self opened.history c.take_opened-found.ensures.tree c.close.ensures.history
+    opened.cause c.close.ensures.cause
+    (record { nameless = c.open_file.ensures.nameless; taken = c.open_file.ensures.taken; widest = c.open_file.ensures.widest; plan = c.open_file.ensures.plan; bound = c.open_file.ensures.bound })
+    (record { nameless = c.close.ensures.nameless; taken = c.close.ensures.taken; widest = c.close.ensures.widest; plan = c.close.ensures.plan; bound = c.close.ensures.bound })
 
 pub returns-in-Ok-Gone-clause-ok : goal.returns-in-Ok-Gone-clause-ok
 returns-in-Ok-Gone-clause-ok g c =
@@ -64,19 +64,23 @@ returns-in-Err-Failed-clause-ok g c =
 
 pub returns-in-Ok-Gone-clause-tree : goal.returns-in-Ok-Gone-clause-tree
 returns-in-Ok-Gone-clause-tree g c =
-    tree_opens g.T.Tree.meaning BUFFER_SIZE c.as_str.result.now c.open_file.result c.args.tree.now c.open_file.new.self c.open_file.ensures.history c.open_file.ensures.cause c.open_file.ensures.nameless c.open_file.ensures.taken c.open_file.ensures.widest c.open_file.ensures.plan c.open_file.ensures.bound
+    let opened = rw c.in-Ok-Gone.field-0-is at c.in-Ok-Gone.ensures in
+    tree_opens g.T.Tree.meaning BUFFER_SIZE c.as_str.result.now (Ok Gone) c.args.tree.now c.open_file.new.self (λ handle size is. let no : Ok Gone ≡ Ok (File handle size) = is in cc) opened.history opened.cause c.open_file.ensures.nameless c.open_file.ensures.taken c.open_file.ensures.widest c.open_file.ensures.plan c.open_file.ensures.bound
 
 pub returns-in-Ok-NotAFile-clause-tree : goal.returns-in-Ok-NotAFile-clause-tree
 returns-in-Ok-NotAFile-clause-tree g c =
-    tree_opens g.T.Tree.meaning BUFFER_SIZE c.as_str.result.now c.open_file.result c.args.tree.now c.open_file.new.self c.open_file.ensures.history c.open_file.ensures.cause c.open_file.ensures.nameless c.open_file.ensures.taken c.open_file.ensures.widest c.open_file.ensures.plan c.open_file.ensures.bound
+    let opened = rw c.in-Ok-NotAFile.field-0-is at c.in-Ok-NotAFile.ensures in
+    tree_opens g.T.Tree.meaning BUFFER_SIZE c.as_str.result.now (Ok NotAFile) c.args.tree.now c.open_file.new.self (λ handle size is. let no : Ok NotAFile ≡ Ok (File handle size) = is in cc) opened.history opened.cause c.open_file.ensures.nameless c.open_file.ensures.taken c.open_file.ensures.widest c.open_file.ensures.plan c.open_file.ensures.bound
 
 pub returns-in-Err-Failed-clause-tree : goal.returns-in-Err-Failed-clause-tree
 returns-in-Err-Failed-clause-tree g c =
-    tree_opens g.T.Tree.meaning BUFFER_SIZE c.as_str.result.now c.open_file.result c.args.tree.now c.open_file.new.self c.open_file.ensures.history c.open_file.ensures.cause c.open_file.ensures.nameless c.open_file.ensures.taken c.open_file.ensures.widest c.open_file.ensures.plan c.open_file.ensures.bound
+    let opened = rw c.in-Err-Failed.field-0-is at c.in-Err-Failed.ensures in
+    tree_opens g.T.Tree.meaning BUFFER_SIZE c.as_str.result.now (Err Failed) c.args.tree.now c.open_file.new.self (λ handle size is. let no : Err Failed ≡ Ok (File handle size) = is in cc) opened.history opened.cause c.open_file.ensures.nameless c.open_file.ensures.taken c.open_file.ensures.widest c.open_file.ensures.plan c.open_file.ensures.bound
 
 pub returns-in-Err-Memory-clause-tree : goal.returns-in-Err-Memory-clause-tree
 returns-in-Err-Memory-clause-tree g c =
-    tree_opens g.T.Tree.meaning BUFFER_SIZE c.as_str.result.now c.open_file.result c.args.tree.now c.open_file.new.self c.open_file.ensures.history c.open_file.ensures.cause c.open_file.ensures.nameless c.open_file.ensures.taken c.open_file.ensures.widest c.open_file.ensures.plan c.open_file.ensures.bound
+    let opened = rw c.in-Err-Memory.field-0-is at c.in-Err-Memory.ensures in
+    tree_opens g.T.Tree.meaning BUFFER_SIZE c.as_str.result.now (Err Memory) c.args.tree.now c.open_file.new.self (λ handle size is. let no : Err Memory ≡ Ok (File handle size) = is in cc) opened.history opened.cause c.open_file.ensures.nameless c.open_file.ensures.taken c.open_file.ensures.widest c.open_file.ensures.plan c.open_file.ensures.bound
 
 pub returns-in-Ok-Gone-clause-flags : goal.returns-in-Ok-Gone-clause-flags
 returns-in-Ok-Gone-clause-flags g c = unchanged_none c.args.taking.now.tracker c.args.taking.now.changed.items

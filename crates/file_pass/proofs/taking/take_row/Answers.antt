@@ -12,6 +12,9 @@ pub returns-then-file-row-clause-ok : goal.returns-then-file-row-clause-ok
 returns-then-file-row-clause-ok g c =
     takes_shorter g.T.Tree.meaning g.D.Disk.meaning c.args.setup.now c.args.file c.args.place c.row-row.result.now c.args.taking.now.tracker c.row-row.ensures c.args.taking.now.end c.args.tree.now c.args.disk.now c.if-file-row.true
 
+pub feeding_of-requires : goal.feeding_of-requires
+feeding_of-requires g c = (c.requires.sane.rows c.args.place c.row-row.result.now c.row-row.ensures).state
+
 pub returns-in_err-ending-clause-full : goal.returns-in_err-ending-clause-full
 returns-in_err-ending-clause-full g c = λ size is.
     let row : Row = c.row-row.result.now in

@@ -15,7 +15,7 @@ loop-at-init c =
     let found = c.in_ok-try_settings.ensures.ok in (
       c.in_ok-life.ensures.ready,
       subst (λ (marks : List ℕ). Run c.args.settings.now c.args.script.now 0 c.in_ok-life.life marks) (sym c.new-marks.ensures.items)
-          (run_begins c.args.settings.now c.args.script.now found.0 c.in_ok-life.life found.1 (c.in_ok-life.ensures.begins found.0 found.2) c.in_ok-life.ensures.tree c.in_ok-life.ensures.session),
+          (run_begins c.args.settings.now c.args.script.now found.0 c.in_ok-life.life found.1 (c.in_ok-life.ensures.begins found.0 found.2) c.in_ok-life.ensures.tree c.in_ok-life.ensures.disk c.in_ok-life.ensures.session),
     )
 
 pub come-requires : goal.come-requires

@@ -8,9 +8,9 @@ use Rattle.mem_world.specs.declared.disk.MemDisk.{MemDisk}
 use Rattle.lifetimes.proofs.stopping.crash.Goals as goal
 
 pub returns-clause-left : goal.returns-clause-left
-returns-clause-left c = λ rules past leaves.
+returns-clause-left c = λ rules past failures leaves.
     let stopped : LeavesAt rules past c.replace-stopped.result = subst (λ (d : MemDisk). LeavesAt rules past d) (sym c.replace-stopped.ensures.value) leaves in
-    leaves_crashed rules past c.replace-stopped.result c.in_ok-disk.field-0 c.in_ok-disk.ensures.image c.in_ok-disk.ensures.durable c.in_ok-disk.ensures.fresh stopped
+    leaves_crashed rules past failures c.replace-stopped.result c.in_ok-disk.field-0 c.in_ok-disk.ensures.image c.in_ok-disk.ensures.durable c.in_ok-disk.ensures.fresh stopped
 
 pub returns-clause-outcome : goal.returns-clause-outcome
 returns-clause-outcome c = λ file.

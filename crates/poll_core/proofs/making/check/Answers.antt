@@ -1,10 +1,9 @@
 use Rattle.std.proofs.Common.{sym, subst}
 use Rattle.std.proofs.lemmas.Option.{MatchOption-at_none}
 use Rattle.pipeline.specs.AsRules.{rules_of}
-use Rattle.poll_core.proofs.ViewLemmas.{rows_in_order}
+use Rattle.poll_core.proofs.RowLemmas.{rows_in_order}
 use Rattle.poll_core.proofs.making.check.Goals as goal
-use Rattle.poll_core.specs.Making.{AreInOrder}
-use Rattle.poll_core.specs.States.{KeepStates}
+use Rattle.standing.specs.Rows.{KeepStates, AreInOrder}
 
 pub first_foreign-requires : goal.first_foreign-requires
 first_foreign-requires c =

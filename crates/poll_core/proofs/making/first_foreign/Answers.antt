@@ -2,7 +2,7 @@ use Rattle.std.proofs.Common.{◌≡◌, length, Some, false, true, refl, arith}
 use Rattle.std.proofs.lemmas.Option.{slice_get_read}
 use Rattle.std.specs.Prelude.{slice_get}
 use Rattle.pipeline.specs.AsRules.{rules_of}
-use Rattle.poll_core.proofs.ViewLemmas.{least_foreign, fine_more, all_fine}
+use Rattle.poll_core.proofs.RowLemmas.{least_foreign, fine_more, all_fine}
 use Rattle.poll_core.proofs.making.first_foreign.Goals as goal
 
 pub returns-then-not-branch-clause-foreign : goal.returns-then-not-branch-clause-foreign

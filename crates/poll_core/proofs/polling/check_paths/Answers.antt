@@ -13,7 +13,7 @@ loop-path-preserved c = λ place early.
       | inr late ↦
           (let here : index ≡ place = omega (arith, late, early) in
           let item : c.path-item.result ≡ get_or paths index [] = c.path-item.is ∙ get_or_default paths index c.path-item.result [] (omega (arith, c.loop-path-test.true)) in
-          subst (λ (n : ℕ). IsShortText (get_or paths n [])) here (subst (λ (path : List ℕ). IsShortText path) item (c.is_short.ensures (cc (c.if-not-is_short.false)))))
+          subst (λ (n : ℕ). IsShortText (get_or paths n [])) here (subst (λ (path : List ℕ). IsShortText path) item (c.is_short.ensures.short (cc (c.if-not-is_short.false)))))
     ]
 
 pub returns : goal.returns

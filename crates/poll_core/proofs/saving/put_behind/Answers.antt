@@ -8,7 +8,8 @@ use Rattle.poll_core.proofs.saving.put_behind.Goals as goal
 use Rattle.poll_core.specs.Next.{IsNext, cost_of_rows}
 use Rattle.poll_core.specs.Taken.{taken_change, taken_checkpoint}
 use Rattle.slot_store.specs.Synced.{EachLeft, LeavesChanged}
-use Rattle.std.proofs.Common.{◌+◌, length, Some, refl}
+use Rattle.checkpoint_store.specs.declared.Change.{Change}
+use Rattle.std.proofs.Common.{◌+◌, length, Some, refl, subst, sym}
 
 pub append-requires-clause-stands : goal.append-requires-clause-stands
 append-requires-clause-stands g c =
@@ -36,7 +37,10 @@ pub returns-clause-next : goal.returns-clause-next
 returns-clause-next g c =
     let journal = c.args.journal in
     let change = c.in_ok-change.change in
-    if_ok_at c.append.result (appended journal change) (IsNext (Some journal)) c.append.ensures.journal (behind_next journal change c.requires.short)
+    let after = taken_checkpoint c.args.settings.now c.args.taking.now in
+    let own = taken_change c.args.taking.now in
+    if_ok_at c.append.result (appended journal change) (IsNext (Some journal) after own) c.append.ensures.journal
+    (subst (λ (d : Change). IsNext (Some journal) after own (appended journal d)) (sym c.in_ok-change.ensures) (behind_next journal after own c.requires.short c.requires.not_due))
 
 pub returns-clause-not_worn : goal.returns-clause-not_worn
 returns-clause-not_worn g c = worn_out c.append.result (IsWorn (Some c.args.journal)) c.append.ensures.worn.1

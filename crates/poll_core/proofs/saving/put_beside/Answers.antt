@@ -3,12 +3,12 @@ use Rattle.checkpoint_journal.specs.JournalOf.{EndsWith}
 use Rattle.checkpoint_journal.specs.Written.{started, written_file, IsWorn, StandsIn}
 use Rattle.checkpoint_journal.specs.declared.journal.Journal.{Journal}
 use Rattle.checkpoint_store.specs.Spelling.{checkpoint_spelling}
-use Rattle.checkpoint_store.specs.declared.Checkpoint.{Checkpoint as Saved}
+use Rattle.checkpoint_store.specs.declared.Checkpoint.{Checkpoint}
 use Rattle.poll_core.proofs.PutLemmas.{IsBeside, each_stands, beside_crash, beside_early, beside_put, beside_is_next, puts_same, costs_none, costs_at_most, worn_out, worn_at, if_ok_at, if_ok_by}
 use Rattle.poll_core.proofs.SaveLemmas.{keeps_same}
 use Rattle.poll_core.proofs.saving.put_beside.Goals as goal
 use Rattle.poll_core.specs.Next.{IsNext}
-use Rattle.poll_core.specs.Taken.{taken_checkpoint}
+use Rattle.poll_core.specs.Taken.{taken_change, taken_checkpoint}
 use Rattle.slot_store.specs.Synced.{EachLeft}
 use Rattle.std.proofs.Common.{◌+◌, ◌≤◌, length, Option, refl, sym, ap, subst, arith}
 use Rattle.std.specs.Option.{option_copied}
@@ -34,7 +34,8 @@ returns-clause-next g c =
     let checkpoint = c.in_ok-checkpoint.checkpoint in
     let after = taken_checkpoint c.args.settings.now c.args.taking.now in
     let beside : IsBeside journal before after checkpoint = record { before_is = c.as_ref.ensures.value; checkpoint_is = c.in_ok-checkpoint.ensures } in
-    if_ok_at c.rewrite.result (started before checkpoint) (IsNext journal) c.rewrite.ensures.journal (beside_is_next journal before after checkpoint beside c.requires.lawful)
+    let change = taken_change c.args.taking.now in
+    if_ok_at c.rewrite.result (started before checkpoint) (IsNext journal after change) c.rewrite.ensures.journal (beside_is_next journal before after checkpoint change beside c.requires.lawful c.requires.due)
 
 pub returns-clause-not_worn : goal.returns-clause-not_worn
 returns-clause-not_worn g c =
@@ -70,7 +71,7 @@ returns-clause-costs g c =
     let checkpoint = c.in_ok-checkpoint.checkpoint in
     let after = taken_checkpoint c.args.settings.now c.args.taking.now in
     let meaning = g.D.Disk.meaning in
-    let within : length (checkpoint_spelling checkpoint) + 18 ≤ length (checkpoint_spelling after) + 18 = omega (arith, ap (λ (s : Saved). length (checkpoint_spelling s)) c.in_ok-checkpoint.ensures) in
+    let within : length (checkpoint_spelling checkpoint) + 18 ≤ length (checkpoint_spelling after) + 18 = omega (arith, ap (λ (s : Checkpoint). length (checkpoint_spelling s)) c.in_ok-checkpoint.ensures) in
     costs_at_most c.rewrite.result (written_file before) (length (checkpoint_spelling checkpoint) + 18) (length (checkpoint_spelling after) + 18)
     (meaning.written c.args.disk.now) (meaning.written c.rewrite.new.disk) within c.rewrite.ensures.counted
 

@@ -25,4 +25,4 @@ returns-clause-ok c =
     takes_pair c.args.within.now c.args.at c.args.raw.now c.trim-bytes.result.now c.trim-bytes.ensures (sym c.is_empty.ensures ∙ c.if-is_empty.false) c.blanks_before.result c.blanks_before.ensures.count
     c.in-Some.cut c.in-Some.ensures.cut c.clean-key.result.now (c.clean-key.ensures ∙ ap cleaned (front_is c.in-Some.cut c.trim-bytes.result.now c.range.result.now c.range.ensures.value)) (sym c.is_empty-2.ensures ∙ c.if-is_empty-2.false)
     c.clean.result.now (c.clean.ensures ∙ ap cleaned (c.range_from.ensures.value ∙ ap (λ n. drop (c.in-Some.cut + n) c.trim-bytes.result.now) c.len.ensures.len))
-    (seen c.args.members.now.entries) (seen c.put.new.members.entries) c.in_ok-put.ensures
+    (seen c.args.members.now.entries) (seen c.put.new.members.entries) (rw (← c.in_ok-name.ensures) c.in_ok-put.ensures)

@@ -1,4 +1,4 @@
-use Rattle.std.proofs.Common.{◌∙◌, ap, sym, ℕ, List}
+use Rattle.std.proofs.Common.{◌∙◌, ap, sym}
 use Rattle.std.specs.BTreeMap.{insert_entry}
 use Rattle.std.specs.Cmp.Lexicographic.{slice_cmp}
 use Rattle.std.specs.Ordering.{nat_cmp}
@@ -13,6 +13,5 @@ pub returns : goal.returns
 returns c =
     let old = c.args.members.now.entries in
     let one = value.Text c.in_ok-value.value in
-    sym (seen_put c.insert.new.self.entries old c.in_ok-key.key one c.in_ok-insert.ensures.entries)
-    ∙ ap (λ (name : List ℕ). insert_entry (slice_cmp nat_cmp) (seen old) name (datum one)) c.in_ok-key.ensures
-    ∙ ap (λ (d : Datum). insert_entry (slice_cmp nat_cmp) (seen old) c.args.key.now d) (datum_text c.in_ok-value.value ∙ ap text c.in_ok-value.ensures)
+    sym (seen_put c.insert.new.self.entries old c.args.key one c.in_ok-insert.ensures.entries)
+    ∙ ap (λ (d : Datum). insert_entry (slice_cmp nat_cmp) (seen old) c.args.key d) (datum_text c.in_ok-value.value ∙ ap text c.in_ok-value.ensures)

@@ -12,9 +12,9 @@ returns-in-Ok-clause-ready c = c.requires
 
 pub returns-in-Ok-clause-came : goal.returns-in-Ok-clause-came
 returns-in-Ok-clause-came c = λ rules events at.
-    world_came rules events c.args.step.now (event_of c.in_ok-step.step) c.args.self.now c.play.new.self c.in_ok-step.ensures
+    world_came rules events c.args.self.now at c.args.step.now (event_of c.in_ok-step.step) c.play.new.self c.in_ok-step.ensures
     (played_lawful (is_lawful (history_of c.args.self.now.tree) (event_of c.in_ok-step.step)) c.play.result c.play.ensures.not_lawful c.in-Ok.is)
-    c.in-Ok.ensures.ok at
+    c.in-Ok.ensures.ok
 
 pub returns-in-Err-NotLawful-clause-cant : goal.returns-in-Err-NotLawful-clause-cant
 returns-in-Err-NotLawful-clause-cant c = λ text. (

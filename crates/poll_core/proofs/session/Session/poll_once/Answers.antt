@@ -8,7 +8,7 @@ use Rattle.poll_core.proofs.PassLemmas.{cause_of_pass, cause_of_poll, full_of_pa
 use Rattle.poll_core.proofs.PollDisk.{stays_pass}
 use Rattle.poll_core.proofs.PollFull.{overflows_by}
 use Rattle.poll_core.proofs.PollRows.{sane_rows, set_up}
-use Rattle.poll_core.proofs.PollWhole.{early, first_of, lawful_after, may_gain, next_session, polled, savable_after, slots_after}
+use Rattle.poll_core.proofs.PollWhole.{early, first_of, has_to_keep, lawful_after, may_gain, next_session, polled, savable_after, slots_after}
 use Rattle.poll_core.proofs.session.Session.poll_once.Goals as goal
 use Rattle.poll_core.specs.Polled.{is_first}
 use Rattle.poll_core.specs.declared.poll_fault.PollFault.TheVariants.{OutputFull, Worn}
@@ -141,8 +141,12 @@ returns-in_err-journal-clause-full g c = λ size is.
 
 pub returns-in_err-journal-clause-worn : goal.returns-in_err-journal-clause-worn
 returns-in_err-journal-clause-worn g c = λ sequence is.
-    let same : Worn sequence ≡ c.in_err-journal.field-0.0 = rw is at c.from_residual-in_err-journal.ensures.1 in
-    c.in_err-journal.ensures.worn sequence (ap Err (sym same))
+    let fault : Worn sequence ≡ c.in_err-journal.field-0.0 = rw is at c.from_residual-in_err-journal.ensures.1 in
+    let worn = c.in_err-journal.ensures.worn sequence (ap Err (sym fault)) in
+    let session = c.args.self in
+    let same : rules_of c.as_slice.result.now session.pipeline ≡ rules_of session.settings session.pipeline = ap (λ (t : List ℕ). rules_of t session.pipeline) c.as_slice.ensures in
+    let first : c.is_none.result ≡ is_first session = first_of session.journal c.is_none.result c.is_none.ensures in
+    (worn.0, worn.1, has_to_keep g.T.Tree.meaning g.D.Disk.meaning session c.requires.session c.requires.rules _ c.in_ok-walk.walk c.in_ok-walk.taking c.args.tree.now c.pass.new.tree c.args.disk.now c.pass.new.disk c.in_ok-walk.ensures.ok (set_up session _ c.requires.session same c.max.ensures) first c.max.ensures c.requires.stands c.pass.ensures.disk (λ image left. g.met.D.Disk.told c.args.disk.now image left) (λ tells. g.met.D.Disk.shown c.args.disk.now tells) worn.2)
 
 pub returns-in_err-journal-clause-tree : goal.returns-in_err-journal-clause-tree
 returns-in_err-journal-clause-tree g c =
