@@ -20,6 +20,14 @@ PARTS = {"Y": ("year",), "y": ("year",), "m": ("month",), "b": ("month",), "d": 
          "f": ("fraction",), "T": ("hour", "minute", "second"), "z": ("zone",)}
 
 
+# The names of Go's layouts that there are, with what each tells.
+GO_PARTS = {"2006": "year", "06": "year", "01": "month", "1": "month", "Jan": "month", "January": "month", "02": "day", "2": "day",
+            "_2": "day", "Mon": "weekday", "Monday": "weekday", "15": "hour", "03": "hour", "3": "hour", "PM": "AM or PM",
+            "04": "minute", "05": "second", ".000": "fraction", ".000000": "fraction", ".000000000": "fraction", "-0700": "zone",
+            "-07:00": "zone", "Z0700": "zone", "Z07:00": "zone", "MST": "zone"}
+GO_NAME = re.compile("|".join(re.escape(name) for name in sorted(GO_PARTS, key=len, reverse=True)) + "|[0-9]")
+
+
 def foreign(layout):
     """The layout of Go or Java that a text without directives is, and how it is written here."""
     if "2006" in layout or "15:04" in layout:
@@ -52,3 +60,18 @@ def layout(text, _):
             raise Stop(len(text), f"it has no {part}: a layout has the year, the month and the day, as %Y-%m-%d")
     if ("%I" in text) != ("%p" in text):
         raise Stop(len(text), "%I and %p go together: write both, or %H alone")
+
+
+def go_layout(text, _):
+    told = []
+    for found in GO_NAME.finditer(text):
+        if found[0] not in GO_PARTS:
+            raise Stop(found.start(), "no name of Go's that is read here begins with this digit: docs/SETTINGS.md has them")
+        if GO_PARTS[found[0]] in told:
+            raise Stop(found.start(), f"it tells the {GO_PARTS[found[0]]} again: take one away")
+        told.append(GO_PARTS[found[0]])
+    for part in ("year", "month", "day"):
+        if part not in told:
+            raise Stop(len(text), f"it has no {part}: a layout has the year, the month and the day, as 2006-01-02")
+    if bool({"03", "3"} & {found[0] for found in GO_NAME.finditer(text)}) != ("AM or PM" in told):
+        raise Stop(len(text), "03 and PM go together: write both, or 15 alone")

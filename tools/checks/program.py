@@ -12,6 +12,7 @@ ALONE = {
     "expression": lambda text: {"operators": [{"type": "filter", "expr": text}]},
     "pattern": lambda text: {"multiline": {"line_start_pattern": text}},
     "layout": lambda text: {"operators": [{"type": "time_parser", "parse_from": "body", "layout": text}]},
+    "layout of Go's": lambda text: {"operators": [{"type": "time_parser", "parse_from": "body", "layout_type": "gotime", "layout": text}]},
     "glob": lambda text: {"exclude": [text]},
 }
 

@@ -8,12 +8,12 @@ from typing import NamedTuple
 from .expressions import expression
 from .fields import field, field_with_member
 from .globs import glob
-from .layouts import layout
+from .layouts import go_layout, layout
 from .patterns import pattern
 from .stop import Stop, words
 
 GRAMMARS = {"field": field, "field with a member": field_with_member, "expression": expression, "glob": glob, "layout": layout,
-            "pattern": pattern}
+            "layout of Go's": go_layout, "pattern": pattern}
 
 
 class Place(NamedTuple):

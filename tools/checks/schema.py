@@ -223,9 +223,10 @@ def unknown(key, properties, members):
 
 
 def check_member(schema, node, name, key, parent):
-    is_epoch = key == "layout" and "layout_type" in parent.value and parent.value["layout_type"].value == "epoch"
+    kind = parent.value["layout_type"].value if key == "layout" and "layout_type" in parent.value else "strptime"
+    is_epoch = kind == "epoch"
     if key in GRAMMAR_KEYS and isinstance(node.value, str) and not is_epoch:
-        yield Reading(GRAMMAR_KEYS[key], node.value, node.at, name)
+        yield Reading("layout of Go's" if kind == "gotime" else GRAMMAR_KEYS[key], node.value, node.at, name)
         if not fits(schema.get("pattern", ""), node.value):
             yield Finding(node.at, name, NO_NAMES)
     elif is_epoch:

@@ -21,10 +21,10 @@ settings_words (read.TooLong length) = codes "settings too-long " ++ decimal len
 settings_words read.Memory = codes "settings memory"
 
 abbrev pub cause_words : OpCause → List ℕ
-cause_words cause.Path = codes "path"
-cause_words cause.Expr = codes "expr"
+cause_words (cause.Path at) = codes "path"
+cause_words (cause.Expr at) = codes "expr"
 cause_words cause.Pattern = codes "pattern"
-cause_words cause.Layout = codes "layout"
+cause_words (cause.Layout at) = codes "layout"
 cause_words cause.NoNames = codes "no-names"
 cause_words cause.Memory = codes "memory"
 
@@ -36,8 +36,8 @@ graph_words graph.Memory = codes "graph memory"
 
 -- places and nodes count from 0
 abbrev pub build_words : BuildFault → List ℕ
-build_words (build.Glob false place) = codes "include " ++ decimal place ++ codes " glob"
-build_words (build.Glob true place) = codes "exclude " ++ decimal place ++ codes " glob"
+build_words (build.Glob false place at) = codes "include " ++ decimal place ++ codes " glob"
+build_words (build.Glob true place at) = codes "exclude " ++ decimal place ++ codes " glob"
 build_words build.Multiline = codes "multiline pattern"
 build_words (build.SameId place) = codes "same-id " ++ decimal place
 build_words (build.Operator place found) = codes "operator " ++ decimal place ++ codes " " ++ cause_words found

@@ -90,10 +90,12 @@ fn build_line(alloc: Global, refused: &BuildFault) -> Result<String, AllocError>
         BuildFault::Glob {
             exclude: false,
             place,
+            ..
         } => include_line(alloc, *place),
         BuildFault::Glob {
             exclude: true,
             place,
+            ..
         } => exclude_line(alloc, *place),
         BuildFault::Multiline => String::from_str(alloc, "fault 3 multiline pattern\n"),
         BuildFault::SameId { place } => format!(in alloc; "fault 3 same-id {place}\n"),
@@ -119,10 +121,10 @@ fn operator_line(alloc: Global, place: u64, cause: OpCause) -> Result<String, Al
     ensures { IfOk result (λ line. string_bytes line ≡ codes "fault 3 operator " ++ decimal place ++ codes " " ++ cause_words cause ++ codes "\n") }
 {
     match cause {
-        OpCause::Path => format!(in alloc; "fault 3 operator {place} path\n"),
-        OpCause::Expr => format!(in alloc; "fault 3 operator {place} expr\n"),
+        OpCause::Path { .. } => format!(in alloc; "fault 3 operator {place} path\n"),
+        OpCause::Expr { .. } => format!(in alloc; "fault 3 operator {place} expr\n"),
         OpCause::Pattern => format!(in alloc; "fault 3 operator {place} pattern\n"),
-        OpCause::Layout => format!(in alloc; "fault 3 operator {place} layout\n"),
+        OpCause::Layout { .. } => format!(in alloc; "fault 3 operator {place} layout\n"),
         OpCause::NoNames => format!(in alloc; "fault 3 operator {place} no-names\n"),
         OpCause::Memory => format!(in alloc; "fault 3 operator {place} memory\n"),
     }

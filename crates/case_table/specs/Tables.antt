@@ -37,3 +37,27 @@ directive_table =
     named "%S" 5 ∷ named "%T" 6 ∷ named "%Y" 7 ∷ named "%a" 8 ∷
     named "%b" 9 ∷ named "%d" 10 ∷ named "%e" 11 ∷ named "%f" 12 ∷
     named "%m" 13 ∷ named "%p" 14 ∷ named "%y" 15 ∷ named "%z" 16 ∷ []
+
+-- the names of parts of a time in the layouts of Go's package `time`, numbered in byte order
+abbrev pub gotime_table : List Named
+gotime_table =
+    named "-0700" 1 ∷ named "-07:00" 2 ∷ named ".000" 3 ∷ named ".000000" 4 ∷
+    named ".000000000" 5 ∷ named "01" 6 ∷ named "02" 7 ∷ named "03" 8 ∷
+    named "04" 9 ∷ named "05" 10 ∷ named "06" 11 ∷ named "1" 12 ∷
+    named "15" 13 ∷ named "2" 14 ∷ named "2006" 15 ∷ named "3" 16 ∷
+    named "Jan" 17 ∷ named "January" 18 ∷ named "MST" 19 ∷ named "Mon" 20 ∷
+    named "Monday" 21 ∷ named "PM" 22 ∷ named "Z0700" 23 ∷ named "Z07:00" 24 ∷
+    named "_2" 25 ∷ []
+
+-- the months' English names, and their numbers
+abbrev pub month_name_table : List Named
+month_name_table =
+    named "January" 1 ∷ named "February" 2 ∷ named "March" 3 ∷ named "April" 4 ∷
+    named "May" 5 ∷ named "June" 6 ∷ named "July" 7 ∷ named "August" 8 ∷
+    named "September" 9 ∷ named "October" 10 ∷ named "November" 11 ∷ named "December" 12 ∷ []
+
+-- the weekdays' English names, from Monday
+abbrev pub day_name_table : List Named
+day_name_table =
+    named "Monday" 1 ∷ named "Tuesday" 2 ∷ named "Wednesday" 3 ∷ named "Thursday" 4 ∷
+    named "Friday" 5 ∷ named "Saturday" 6 ∷ named "Sunday" 7 ∷ []

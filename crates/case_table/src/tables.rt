@@ -1,7 +1,7 @@
 // The tables.
 ghost use Rattle.std.specs.Prelude.{◌≡◌};
 ghost use Rattle.case_table.specs.Rows.{table_of};
-ghost use Rattle.case_table.specs.Tables.{month_table, severity_table, alias_table, directive_table};
+ghost use Rattle.case_table.specs.Tables.{month_table, severity_table, alias_table, directive_table, gotime_table, month_name_table, day_name_table};
 
 use crate::Row;
 
@@ -102,5 +102,74 @@ pub fn directives() -> [Row; 16]
         "%p" = 14,
         "%y" = 15,
         "%z" = 16,
+    ]
+}
+
+/// The names that stand for the parts of a time in the layouts of Go's package `time`, numbered in byte order. They are how
+/// the parts of its reference time are written, 2006-01-02 15:04:05 at seven hours west of UTC.
+pub fn gotime() -> [Row; 25]
+    ensures { table_of result ≡ gotime_table }
+{
+    rows![
+        "-0700" = 1,
+        "-07:00" = 2,
+        ".000" = 3,
+        ".000000" = 4,
+        ".000000000" = 5,
+        "01" = 6,
+        "02" = 7,
+        "03" = 8,
+        "04" = 9,
+        "05" = 10,
+        "06" = 11,
+        "1" = 12,
+        "15" = 13,
+        "2" = 14,
+        "2006" = 15,
+        "3" = 16,
+        "Jan" = 17,
+        "January" = 18,
+        "MST" = 19,
+        "Mon" = 20,
+        "Monday" = 21,
+        "PM" = 22,
+        "Z0700" = 23,
+        "Z07:00" = 24,
+        "_2" = 25,
+    ]
+}
+
+/// The months' English names in full, with their numbers.
+pub fn month_names() -> [Row; 12]
+    ensures { table_of result ≡ month_name_table }
+{
+    rows![
+        "January" = 1,
+        "February" = 2,
+        "March" = 3,
+        "April" = 4,
+        "May" = 5,
+        "June" = 6,
+        "July" = 7,
+        "August" = 8,
+        "September" = 9,
+        "October" = 10,
+        "November" = 11,
+        "December" = 12,
+    ]
+}
+
+/// The weekdays' English names in full, from Monday.
+pub fn day_names() -> [Row; 7]
+    ensures { table_of result ≡ day_name_table }
+{
+    rows![
+        "Monday" = 1,
+        "Tuesday" = 2,
+        "Wednesday" = 3,
+        "Thursday" = 4,
+        "Friday" = 5,
+        "Saturday" = 6,
+        "Sunday" = 7,
     ]
 }

@@ -10,3 +10,4 @@ pub mod Ends
 pub mod Options
 pub mod LinesRead
 pub mod PodsTold
+pub mod TimeForms

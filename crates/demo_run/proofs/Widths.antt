@@ -1,6 +1,6 @@
 -- How long the lines of the output are that the lines of a script give.
 use Rattle.std.proofs.Common.{ℕ, ◌+◌, ◌*◌, ◌-◌, ◌≤◌, ◌==◌, not, List, [], ◌∷◌, ◌++◌, length, map, arith, length-append, length-drop}
-use Rattle.std.specs.Prelude.{codes, decimal, flat_map}
+use Rattle.std.specs.Prelude.{None, codes, decimal, flat_map}
 use Rattle.std.specs.List.{suffix_len}
 use Rattle.std.proofs.lemmas.Bool.Decides.{nat_tests}
 use Rattle.std.proofs.lemmas.Fmt.{length-decimal-le}
@@ -59,7 +59,7 @@ module _ (path : List ℕ) (short : length path ≤ 16) where
         length-append (codes "[" ++ (pair ++ [])) (codes "]"),
       )
 
-  record_short : (round : ℕ) → round ≤ 1000 → length (record_text (entry_of path round)) ≤ 2000
+  record_short : (round : ℕ) → round ≤ 1000 → length (record_text None (entry_of path round)) ≤ 2000
   unfolding record_text
   record_short round few =
       let start : List ℕ = codes "{\"attributes\":" ++ attributes_text attributes in
@@ -74,14 +74,15 @@ module _ (path : List ℕ) (short : length path ≤ 16) where
         length-append whole [],
         length-append (whole ++ []) [],
         length-append ((whole ++ []) ++ []) [],
-        length-append (((whole ++ []) ++ []) ++ []) (codes "}"),
+        length-append (((whole ++ []) ++ []) ++ []) [],
+        length-append ((((whole ++ []) ++ []) ++ []) ++ []) (codes "}"),
       )
 
-  front_short : (round : ℕ) → round ≤ 1000 → length (line_front (entry_of path round)) ≤ 3000
+  front_short : (round : ℕ) → round ≤ 1000 → length (line_front None (entry_of path round)) ≤ 3000
   unfolding line_front
   front_short round few =
       let before : List ℕ = codes "{\"resourceLogs\":[{\"resource\":{\"attributes\":[]},\"scopeLogs\":[{\"logRecords\":[" in
-      omega (arith, record_short round few, length-append (before ++ record_text (entry_of path round)) (codes "],\"scope\":{\"attributes\":[{\"key\":"))
+      omega (arith, record_short round few, length-append (before ++ record_text None (entry_of path round)) (codes "],\"scope\":{\"attributes\":[{\"key\":"))
 
   tail_short : (id number : ℕ) → id ≤ row_limit → number ≤ 2000 → length (line_tail id number) ≤ 1000
   unfolding line_tail
@@ -97,13 +98,13 @@ module _ (path : List ℕ) (short : length path ≤ 16) where
         length-append (named ++ decimal number) (codes "\"}}],\"name\":\"stanza_agent\"}}]}]}\n"),
       )
 
-  line_short : (id number round : ℕ) → id ≤ row_limit → number ≤ 2000 → round ≤ 1000 → length (output_line id number (entry_of path round)) ≤ widest
+  line_short : (id number round : ℕ) → id ≤ row_limit → number ≤ 2000 → round ≤ 1000 → length (output_line id number None (entry_of path round)) ≤ widest
   unfolding output_line
   line_short id number round few_files few_lines few =
-      omega (arith, front_short round few, tail_short id number few_files few_lines, length-append (line_front (entry_of path round)) (line_tail id number))
+      omega (arith, front_short round few, tail_short id number few_files few_lines, length-append (line_front None (entry_of path round)) (line_tail id number))
 
   abbrev line_of_mark : Mark → List ℕ
-  line_of_mark mark = output_line mark.id mark.number mark.entry
+  line_of_mark mark = output_line mark.id mark.number None mark.entry
 
   pub output_short : (id : ℕ) → id ≤ row_limit → (rounds : List ℕ) → AreRounds rounds → (number : ℕ) → number + length rounds ≤ 2000
       → length (flat_map line_of_mark (numbered id number (map (entry_of path) rounds))) ≤ length rounds * widest
@@ -111,4 +112,4 @@ module _ (path : List ℕ) (short : length path ≤ 16) where
   output_short id few (round ∷ rounds) are number few_lines =
       let later = output_short id few rounds (All-tail (λ (n : ℕ). n ≤ 1000) round rounds are) (number + 1) (omega (arith, few_lines)) in
       let first = line_short id number round few (omega (arith, few_lines)) (All-head (λ (n : ℕ). n ≤ 1000) round rounds are) in
-      omega (arith, first, later, length-append (output_line id number (entry_of path round)) (flat_map line_of_mark (numbered id (number + 1) (map (entry_of path) rounds))))
+      omega (arith, first, later, length-append (output_line id number None (entry_of path round)) (flat_map line_of_mark (numbered id (number + 1) (map (entry_of path) rounds))))

@@ -14,4 +14,4 @@ mod texts;
 mod tokens;
 
 pub use texts::{entry_text, trim};
-pub use tokens::{Token, begins_with_first, keeps_tokens, next};
+pub use tokens::{Token, begins_with_first, keeps_tokens, next, text_end};

@@ -56,8 +56,8 @@ fn line_feed_place(max: usize, bytes: &[u8]) -> Option<usize>
     }
 }
 
-// Where the text of a line ends whose LF is at `end`: before a CR that stands there.
-fn text_end(bytes: &[u8], end: usize) -> usize
+/// Where the text of a line ends whose LF is at `end`: before a CR that stands there.
+pub fn text_end(bytes: &[u8], end: usize) -> usize
     requires { end < length bytes.now }
     ensures text { take result bytes.now ≡ strip_carriage_return (take end bytes.now) }
     ensures within { result ≤ end }

@@ -1,5 +1,5 @@
 -- What a call of the tree adds to the history.
-use Rattle.std.proofs.Common.{◌≡◌, ℕ, List, [], ◌∷◌, Bool, true, false, length, max, Result, Ok, Err, refl, sym, ap, subst}
+use Rattle.std.proofs.Common.{◌≡◌, ℕ, List, [], ◌∷◌, ◌++◌, Bool, true, false, length, max, Result, Ok, Err, refl, sym, ap, subst}
 use Rattle.std.specs.Prelude.{if◌then◌else◌, None, Some}
 use Rattle.outside.specs.Closing.{Closes}
 use Rattle.outside.specs.Content.{Gives}
@@ -7,7 +7,7 @@ use Rattle.outside.specs.Count.{raised, HasCause, HasOneCause}
 use Rattle.outside.specs.World.{Event, look, miss, unlisted, History, Names, names, file_at}
 use Rattle.outside.specs.Lawful.{is_lawful}
 use Rattle.outside.specs.Moment.{Moves, AtOneMoment}
-use Rattle.outside.specs.Listing.{Lists, is_folder, kind_at, IsListing, nameless_after}
+use Rattle.outside.specs.Listing.{Lists, is_folder, kind_at, IsListing, nameless_after, newly_listed}
 use Rattle.outside.specs.Opening.{Opens, IsLook}
 use Rattle.outside.specs.Reading.{Reads, bytes_if, file_of, taken_after}
 use Rattle.outside.specs.declared.fault.CallFault.{CallFault}
@@ -59,8 +59,8 @@ pub record Keeps (old new : TreeState) : Type 0 where
   pub bound : bound_of new ≡ bound_of old
   pub told : new.told ≡ old.told
 
-stays_keeps : (own : List Event) (fails : Bool) (old new : TreeState) → Stays own fails old new → Keeps old new
-stays_keeps own fails old new stays = record { taken = stays.taken; widest = stays.widest; plan = stays.called.plan; bound = stays.called.bound; told = stays.called.told }
+stays_keeps : (own : List Event) (fails : Bool) (folders : List (List ℕ)) (old new : TreeState) → Stays own fails folders old new → Keeps old new
+stays_keeps own fails folders old new stays = record { taken = stays.taken; widest = stays.widest; plan = stays.called.plan; bound = stays.called.bound; told = stays.called.told }
 
 pub lists_world : (folder : List ℕ) (result : Result Listed CallFault) (old new : TreeState) → ListCalls folder result old new → Lists folder result old.world new.world
 lists_world folder (Ok (Items items unnamed)) old new calls = record { handles = calls.3.handles; history = (calls.1, at_called [] (IsListing folder items.items) false old new calls.3.called calls.2) }
@@ -81,10 +81,17 @@ lists_nameless folder (Err Failed) old new calls = refl
 lists_nameless folder (Err Memory) old new calls = refl
 
 pub lists_keeps : (folder : List ℕ) (result : Result Listed CallFault) (old new : TreeState) → ListCalls folder result old new → Keeps old new
-lists_keeps folder (Ok (Items items unnamed)) old new calls = stays_keeps [] false old new calls.3
-lists_keeps folder (Ok gone) old new calls = stays_keeps [] false old new calls.2
-lists_keeps folder (Err Failed) old new calls = stays_keeps (unlisted folder ∷ []) true old new calls.1
-lists_keeps folder (Err Memory) old new calls = stays_keeps [] false old new calls
+lists_keeps folder (Ok (Items items unnamed)) old new calls = stays_keeps [] false (folder ∷ []) old new calls.3
+lists_keeps folder (Ok gone) old new calls = stays_keeps [] false (folder ∷ []) old new calls.2
+lists_keeps folder (Err Failed) old new calls = stays_keeps (unlisted folder ∷ []) true (folder ∷ []) old new calls.1
+lists_keeps folder (Err Memory) old new calls = stays_keeps [] false [] old new calls
+
+-- what is told as listed
+pub lists_listed : (folder : List ℕ) (result : Result Listed CallFault) (old new : TreeState) → ListCalls folder result old new → new.listed ≡ newly_listed folder result ++ old.listed
+lists_listed folder (Ok (Items items unnamed)) old new calls = calls.3.listed
+lists_listed folder (Ok gone) old new calls = calls.2.listed
+lists_listed folder (Err Failed) old new calls = calls.1.listed
+lists_listed folder (Err Memory) old new calls = calls.listed
 
 pub opens_world : (path : List ℕ) (result : Result Opened CallFault) (old new : TreeState) → OpenFileCalls path result old new → Opens path result old.world new.world
 opens_world path (Ok (File handle size)) old new calls = record {
@@ -105,12 +112,19 @@ opens_cause path (Ok NotAFile) old new calls = calls.2.called.faults
 opens_cause path (Err Failed) old new calls = calls.1.called.faults.1
 opens_cause path (Err Memory) old new calls = calls.called.faults
 
+pub opens_listed : (path : List ℕ) (result : Result Opened CallFault) (old new : TreeState) → OpenFileCalls path result old new → new.listed ≡ old.listed
+opens_listed path (Ok (File handle size)) old new calls = calls.1.listed
+opens_listed path (Ok Gone) old new calls = calls.2.listed
+opens_listed path (Ok NotAFile) old new calls = calls.2.listed
+opens_listed path (Err Failed) old new calls = calls.1.listed
+opens_listed path (Err Memory) old new calls = calls.listed
+
 pub opens_keeps : (path : List ℕ) (result : Result Opened CallFault) (old new : TreeState) → OpenFileCalls path result old new → Keeps old new
 opens_keeps path (Ok (File handle size)) old new calls = record { taken = calls.1.taken; widest = calls.1.widest; plan = calls.1.called.plan; bound = calls.1.called.bound; told = calls.1.called.told }
-opens_keeps path (Ok Gone) old new calls = stays_keeps [] false old new calls.2
-opens_keeps path (Ok NotAFile) old new calls = stays_keeps [] false old new calls.2
-opens_keeps path (Err Failed) old new calls = stays_keeps (miss path ∷ []) true old new calls.1
-opens_keeps path (Err Memory) old new calls = stays_keeps [] false old new calls
+opens_keeps path (Ok Gone) old new calls = stays_keeps [] false [] old new calls.2
+opens_keeps path (Ok NotAFile) old new calls = stays_keeps [] false [] old new calls.2
+opens_keeps path (Err Failed) old new calls = stays_keeps (miss path ∷ []) true [] old new calls.1
+opens_keeps path (Err Memory) old new calls = stays_keeps [] false [] old new calls
 
 module _ (handle offset : ℕ) (buffer : List ℕ) where
   pub reads_world : (result : Result ℕ one.Failed) (old new : TreeState) → ReadAtCalls handle offset buffer result old new → Reads handle offset buffer result old.world new.world
@@ -132,6 +146,10 @@ module _ (handle offset : ℕ) (buffer : List ℕ) where
   pub reads_widest : (result : Result ℕ one.Failed) (old new : TreeState) → ReadAtCalls handle offset buffer result old new → (new.widest ≡ max old.widest (length buffer)) × (new.plan ≡ old.plan) × (bound_of new ≡ bound_of old) × (new.told ≡ old.told)
   reads_widest (Ok count) old new calls = (calls.2.widest, calls.2.called.plan, calls.2.called.bound, calls.2.called.told)
   reads_widest (Err _) old new calls = (calls.1.widest, calls.1.called.plan, calls.1.called.bound, calls.1.called.told)
+
+  pub reads_listed : (result : Result ℕ one.Failed) (old new : TreeState) → ReadAtCalls handle offset buffer result old new → new.listed ≡ old.listed
+  reads_listed (Ok count) old new calls = calls.2.listed
+  reads_listed (Err _) old new calls = calls.1.listed
 
 pub closes_world : (handle : ℕ) (old new : TreeState) → CloseCalls handle old new → Closes handle old.world new.world
 closes_world handle old new calls = record { handles = calls.handles; history = moves_called false old new calls.called }

@@ -16,6 +16,7 @@ state_of tree = record {
   failing = tree.failures.calls;
   taken = tree.taken;
   widest = tree.widest;
+  listed = tree.listed.items;
 }
 
 abbrev pub tree_meaning : TreeMeaning MemTree
@@ -27,4 +28,5 @@ tree_meaning = record {
   taken = λ tree. (state_of tree).taken;
   nameless = λ _. 0;
   widest = λ tree. Some (state_of tree).widest;
+  listed = λ tree. Some (state_of tree).listed;
 }

@@ -41,19 +41,20 @@ pub record Called (own : List Event) (fails : Bool) (old new : TreeState) : Type
   pub bound : bound_of new ≡ bound_of old
   pub told : new.told ≡ old.told
 
--- nothing else was done
-pub record Stays (own : List Event) (fails : Bool) (old new : TreeState) : Type 0 where
+-- Nothing else was done, but that these folders are told as listed.
+pub record Stays (own : List Event) (fails : Bool) (folders : List (List ℕ)) (old new : TreeState) : Type 0 where
   pub called : Called own fails old new
   pub handles : new.world.handles ≡ old.world.handles
   pub taken : new.taken ≡ old.taken
   pub widest : new.widest ≡ old.widest
+  pub listed : new.listed ≡ folders ++ old.listed
 
 -- A listing fails where it was set to.
 abbrev pub ListCalls : List ℕ → Result Listed CallFault → TreeState → TreeState → Type 0
-ListCalls folder (Ok (Items items unnamed)) old new = (is_to_fail old ≡ false) × (unnamed ≡ 0) × IsListing folder items.items (history_then old) × Stays [] false old new
-ListCalls folder (Ok gone) old new = (is_to_fail old ≡ false) × (is_folder (names (history_then old)) folder ≡ false) × Stays [] false old new
-ListCalls folder (Err Failed) old new = (is_to_fail old ≡ true) × Stays (unlisted folder ∷ []) true old new
-ListCalls folder (Err Memory) old new = Stays [] false old new
+ListCalls folder (Ok (Items items unnamed)) old new = (is_to_fail old ≡ false) × (unnamed ≡ 0) × IsListing folder items.items (history_then old) × Stays [] false (folder ∷ []) old new
+ListCalls folder (Ok gone) old new = (is_to_fail old ≡ false) × (is_folder (names (history_then old)) folder ≡ false) × Stays [] false (folder ∷ []) old new
+ListCalls folder (Err Failed) old new = (is_to_fail old ≡ true) × Stays (unlisted folder ∷ []) true (folder ∷ []) old new
+ListCalls folder (Err Memory) old new = Stays [] false [] old new
 
 -- a file was opened, under a handle that was none of an open file
 pub record OpenCalls (path : List ℕ) (handle size : ℕ) (old new : TreeState) : Type 0 where
@@ -64,14 +65,15 @@ pub record OpenCalls (path : List ℕ) (handle size : ℕ) (old new : TreeState)
   pub handles : new.world.handles ≡ (handle, file) ∷ old.world.handles
   pub taken : new.taken ≡ old.taken
   pub widest : new.widest ≡ old.widest
+  pub listed : new.listed ≡ old.listed
 
 -- An opening fails where it was set to.
 abbrev pub OpenFileCalls : List ℕ → Result Opened CallFault → TreeState → TreeState → Type 0
 OpenFileCalls path (Ok (File handle size)) old new = (is_to_fail old ≡ false) × OpenCalls path handle.0 size old new
-OpenFileCalls path (Ok Gone) old new = (is_to_fail old ≡ false) × (kind_at (names (history_then old)) path ≡ None) × Stays [] false old new
-OpenFileCalls path (Ok NotAFile) old new = (is_to_fail old ≡ false) × (kind_at (names (history_then old)) path ≡ Some Folder) × Stays [] false old new
-OpenFileCalls path (Err Failed) old new = (is_to_fail old ≡ true) × Stays (miss path ∷ []) true old new
-OpenFileCalls path (Err Memory) old new = Stays [] false old new
+OpenFileCalls path (Ok Gone) old new = (is_to_fail old ≡ false) × (kind_at (names (history_then old)) path ≡ None) × Stays [] false [] old new
+OpenFileCalls path (Ok NotAFile) old new = (is_to_fail old ≡ false) × (kind_at (names (history_then old)) path ≡ Some Folder) × Stays [] false [] old new
+OpenFileCalls path (Err Failed) old new = (is_to_fail old ≡ true) × Stays (miss path ∷ []) true [] old new
+OpenFileCalls path (Err Memory) old new = Stays [] false [] old new
 
 -- a read was made
 pub record ReadCalls (wide total : ℕ) (fails : Bool) (old new : TreeState) : Type 0 where
@@ -79,6 +81,7 @@ pub record ReadCalls (wide total : ℕ) (fails : Bool) (old new : TreeState) : T
   pub handles : new.world.handles ≡ old.world.handles
   pub taken : new.taken ≡ total
   pub widest : new.widest ≡ max old.widest wide
+  pub listed : new.listed ≡ old.listed
 
 -- A read fails where it was set to.
 abbrev pub ReadAtCalls : ℕ → ℕ → List ℕ → Result ℕ one.Failed → TreeState → TreeState → Type 0
@@ -91,3 +94,4 @@ pub record CloseCalls (handle : ℕ) (old new : TreeState) : Type 0 where
   pub handles : new.world.handles ≡ filter (λ pair. not (pair.0 == handle)) old.world.handles
   pub taken : new.taken ≡ old.taken
   pub widest : new.widest ≡ old.widest
+  pub listed : new.listed ≡ old.listed

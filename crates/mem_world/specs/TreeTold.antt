@@ -21,6 +21,8 @@ pub record TreeState : Type 0 where
   pub taken : ℕ
   -- the length of the longest buffer that a read was given
   pub widest : ℕ
+  -- the folders that were listed or could not be, the newest first
+  pub listed : List (List ℕ)
 
 -- what the count of faults never passes
 abbrev pub bound_of : TreeState → ℕ
@@ -46,6 +48,7 @@ empty_tree = record {
   failing = [];
   taken = 0;
   widest = 0;
+  listed = [];
 }
 
 -- the history is this one, and the plan is the steps that wait now

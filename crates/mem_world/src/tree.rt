@@ -7,10 +7,12 @@ ghost use Rattle.mem_world.specs.TreeHandles.{handles_of};
 ghost use Rattle.mem_world.specs.TreePlanned.{IsFollowed};
 
 use crate::world::{FileName, StepFault, WorldStep};
+use entry_model::Text;
 use failures::Failures;
 use handles::Handles;
 use planned::Planned;
 use std::alloc::{AllocError, Global};
+use std::collections::VecDeque;
 
 mod calls;
 mod contents;
@@ -26,8 +28,8 @@ mod schedule;
 mod shorten;
 mod stored;
 
-/// A world of log files in memory. It tells its history, its plan and the bound of its count of faults; once a file of it
-/// is spoiled, it tells neither its history nor its plan.
+/// A world of log files in memory. It tells its history, its plan, the folders that it listed and the bound of its count of
+/// faults; once a file of it is spoiled, it tells neither its history nor its plan.
 ///
 /// Each call of [`Tree`](outside::Tree) begins with the steps that are due: those after which as many calls were to
 /// come as have come. They are played in the order in which they were handed in, and one that isn't lawful then is
@@ -40,6 +42,8 @@ pub struct MemTree {
     next: u64,
     taken: u64,
     widest: u64,
+    // The folders that were listed or could not be, the newest first.
+    listed: VecDeque<Text>,
     // No file was spoiled.
     told: bool,
     ghost lawful: { IsLawful planned.history } by { IsLawful-prop planned.history },
@@ -58,6 +62,7 @@ impl Drop for MemTree {
             next: _,
             taken: _,
             widest: _,
+            listed: _listed,
             told: _,
         } = self;
     }
@@ -82,6 +87,7 @@ impl MemTree {
             next: 0,
             taken: 0,
             widest: 0,
+            listed: VecDeque::new(alloc),
             told: true,
         })
     }

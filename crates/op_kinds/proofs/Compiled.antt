@@ -24,7 +24,7 @@ use Rattle.op_kinds.specs.declared.cause.OpCause.{OpCause}
 use Rattle.op_kinds.specs.declared.compiling.Work.{Work}
 use Rattle.op_kinds.specs.declared.compiling.Work.TheVariants.{Act as ActWork, Route}
 use Rattle.op_kinds.proofs.Parsers.{parser_is_read, one_parser, stamp_is_read, grading_is_read, one_stamp_of, one_grading_of}
-use Rattle.op_kinds.proofs.Readings.{all_are_read, one_is_read, two_are_read, pattern_is_read}
+use Rattle.op_kinds.proofs.Readings.{all_are_read, one_is_read, two_are_read, pattern_is_read, some_cause_is_faulty}
 use Rattle.settings_text.specs.declared.settings.OpKind.TheVariants as kind
 use Rattle.settings_text.specs.declared.settings.OpKind.{OpKind}
 use Rattle.settings_text.specs.declared.settings.OpSpec.{OpSpec}
@@ -61,13 +61,13 @@ one_more_expression_at routes index exprs new route expr within at so_far next i
 faulty_at : (reading other : Reading) → other ≡ reading → IsFaulty other → IsFaulty reading
 faulty_at reading other is faulty = subst IsFaulty is faulty
 
-paths_are_read : (texts : List (List ℕ)) (places : List Place) → ArePathTexts texts places → AreRead (map path texts)
+pub paths_are_read : (texts : List (List ℕ)) (places : List Place) → ArePathTexts texts places → AreRead (map path texts)
 paths_are_read [] places are reading has faulty = has
 paths_are_read (text ∷ texts) [] are reading has faulty = are
 paths_are_read (text ∷ texts) (place ∷ places) are reading (inl is) faulty = faulty_at (path text) reading is faulty place are.0
 paths_are_read (text ∷ texts) (place ∷ places) are reading (inr has) faulty = paths_are_read texts places are.1 reading has faulty
 
-routes_are_read : (routes : List RouteSpec) (trees : List Tree) → AreExpressions routes trees → AreRead (map route_reading routes)
+pub routes_are_read : (routes : List RouteSpec) (trees : List Tree) → AreExpressions routes trees → AreRead (map route_reading routes)
 routes_are_read [] trees are reading has faulty = has
 routes_are_read (route ∷ routes) [] are reading has faulty = are
 routes_are_read (route ∷ routes) (tree ∷ trees) are reading (inl is) faulty = faulty_at (expression route.expr) reading is faulty tree are.0
@@ -136,7 +136,7 @@ compiled_is_read spec (router trees has_default) is =
     all_are_read (own_readings spec.kind) (condition_readings spec.condition) (routed_is_read spec.kind trees has_default is.2) (condition_is_read spec.condition is.0 is.1)
 
 pub compiled_has_no_cause : (spec : OpSpec) (made : Operator) (found : OpCause) → IsCompiledTo spec made → IsLeastCause (readings spec) found → ⊥
-compiled_has_no_cause spec made found is cause = compiled_is_read spec made is cause.reading cause.among cause.faulty
+compiled_has_no_cause spec made found is cause = some_cause_is_faulty (readings spec) found (compiled_is_read spec made is) cause
 
 -- ---- one operator
 

@@ -16,7 +16,6 @@ use Rattle.text_parsers.proofs.Quoting.{open_quote-more}
 use Rattle.text_parsers.specs.Quotes.{is_quote, open_behind, open_quote, IsUnclosed}
 use Rattle.text_parsers.specs.TextValue.{IsTextWith, IsValueFault}
 use Rattle.text_parsers.specs.declared.fault.ParseFault.{ParseFault}
-use Rattle.text_parsers.specs.declared.fault.ParseFault.TheVariants as parse
 
 -- ---- the first place that passes
 

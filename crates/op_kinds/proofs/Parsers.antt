@@ -4,12 +4,12 @@ use Rattle.std.specs.Prelude.{ℤ}
 use Rattle.field_paths.proofs.Faults.{one_path}
 use Rattle.field_paths.specs.Place.{Place}
 use Rattle.op_kinds.proofs.Readings.{all_are_read, one_is_read, two_are_read}
-use Rattle.op_kinds.specs.Parsers.{IsLayout, IsTimeKind, IsStampOf, IsStamp, IsGradingOf, IsGrading, IsParser}
+use Rattle.op_kinds.specs.Parsers.{IsLayout, IsGoLayout, IsTimeKind, IsStampOf, IsStamp, IsGradingOf, IsGrading, IsParser}
 use Rattle.op_kinds.specs.Parsing.{Stamp, Parsing, stamp, parsing}
-use Rattle.op_kinds.specs.Readings.{path, layout, count, AreRead, layout_reading, time_readings, severity_readings, parser_readings}
+use Rattle.op_kinds.specs.Readings.{path, layout, go_layout, count, AreRead, layout_reading, time_readings, severity_readings, parser_readings}
 use Rattle.op_kinds.specs.Said.{Reader}
 use Rattle.settings_text.specs.declared.parsing.LayoutType.{LayoutType}
-use Rattle.settings_text.specs.declared.parsing.LayoutType.TheVariants.{Strptime, Epoch}
+use Rattle.settings_text.specs.declared.parsing.LayoutType.TheVariants.{Strptime, Gotime, Epoch}
 use Rattle.settings_text.specs.declared.parsing.ParserKeys.{ParserKeys}
 use Rattle.settings_text.specs.declared.parsing.SeveritySpec.{SeveritySpec}
 use Rattle.settings_text.specs.declared.parsing.TimeSpec.{TimeSpec}
@@ -25,6 +25,8 @@ use Rattle.time_severity.specs.declared.time_op.TimeKind.TheVariants as time
 pub time_kind_is_read : (layout_type : LayoutType) (text : List ℕ) (location : ℤ) (kind : TimeKind) → IsTimeKind layout_type text location kind → AreRead (layout_reading layout_type text ∷ [])
 time_kind_is_read Strptime text location (time.Layout made) is = one_is_read (layout text) (λ none. none made.parts is.parts)
 time_kind_is_read Strptime text location (time.Epoch kind) is = absurd is
+time_kind_is_read Gotime text location (time.Layout made) is = one_is_read (go_layout text) (λ none. none made.parts is.parts)
+time_kind_is_read Gotime text location (time.Epoch kind) is = absurd is
 time_kind_is_read Epoch text location (time.Layout made) is = absurd is
 time_kind_is_read Epoch text location (time.Epoch kind) is = one_is_read (count text) (λ none. absurd (search (rules, sym none ∙ is)))
 
@@ -57,10 +59,19 @@ one_layout text location made other is also =
     let parts : made.parts ≡ other.parts = cc (sym is.parts ∙ also.parts) in
     ap (λ p. layout_with p made.location) parts ∙ ap (layout_with other.parts) (is.location_is ∙ sym also.location_is)
 
+one_go_layout : (text : List ℕ) (location : ℤ) (made other : Meaning) → IsGoLayout text location made → IsGoLayout text location other → made ≡ other
+unfolding layout_with
+one_go_layout text location made other is also =
+    let parts : made.parts ≡ other.parts = cc (sym is.parts ∙ also.parts) in
+    ap (λ p. layout_with p made.location) parts ∙ ap (layout_with other.parts) (is.location_is ∙ sym also.location_is)
+
 one_time_kind : (layout_type : LayoutType) (text : List ℕ) (location : ℤ) (made other : TimeKind) → IsTimeKind layout_type text location made → IsTimeKind layout_type text location other → made ≡ other
 one_time_kind Strptime text location (time.Layout made) (time.Layout other) is also = ap time.Layout (one_layout text location made other is also)
 one_time_kind Strptime text location (time.Layout made) (time.Epoch other) is also = absurd also
 one_time_kind Strptime text location (time.Epoch made) other is also = absurd is
+one_time_kind Gotime text location (time.Layout made) (time.Layout other) is also = ap time.Layout (one_go_layout text location made other is also)
+one_time_kind Gotime text location (time.Layout made) (time.Epoch other) is also = absurd also
+one_time_kind Gotime text location (time.Epoch made) other is also = absurd is
 one_time_kind Epoch text location (time.Layout made) other is also = absurd is
 one_time_kind Epoch text location (time.Epoch made) (time.Layout other) is also = absurd also
 one_time_kind Epoch text location (time.Epoch made) (time.Epoch other) is also = let same : made ≡ other = cc (sym is ∙ also) in ap time.Epoch same

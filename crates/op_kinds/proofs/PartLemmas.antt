@@ -1,5 +1,5 @@
 -- A part of a container's line is taken.
-use Rattle.std.proofs.Common.{◌≡◌, ℕ, ◌≤◌, List, [], ◌∷◌, ◌++◌, Bool, true, false, cond, Option, None, Some, Result, Ok, Err, IfOk, arith, refl, sym, ap, subst, ◌∙◌}
+use Rattle.std.proofs.Common.{◌≡◌, ℕ, ◌≤◌, List, [], Bool, true, false, cond, Option, None, Some, Result, Ok, Err, IfOk, arith, refl, sym, ap, subst}
 use Rattle.std.specs.Prelude.{not, codes, option_map}
 use Rattle.std.specs.Ordering.{match_ordering, nat_cmp}
 use Rattle.std.specs.Cmp.Lexicographic.{slice_cmp}
@@ -26,7 +26,7 @@ use Rattle.recombine.specs.Group.{Group}
 use Rattle.recombine.specs.Joining.{Joining}
 use Rattle.recombine.specs.Recombined as join
 use Rattle.recombine.specs.Recombined.{joined_text, is_shallow}
-use Rattle.state_codec.specs.declared.TheConstants.{LEVELS}
+use Rattle.state_codec.specs.Limits.{levels}
 
 -- ---- texts nest nothing
 
@@ -57,7 +57,7 @@ pod_nests (Some pod) resource =
       text_nests (codes "k8s.pod.uid") pod.uid four,
     )
 
-told_nests : (by_path : Bool) (line : ContainerLine) (entry : LogRecord) → NestsWithin LEVELS entry → NestsWithin LEVELS (told_by by_path line entry)
+told_nests : (by_path : Bool) (line : ContainerLine) (entry : LogRecord) → NestsWithin levels entry → NestsWithin levels (told_by by_path line entry)
 unfolding told_by
 told_nests by_path line entry n = record {
   body = omega arith;

@@ -9,7 +9,6 @@ use Rattle.op_kinds.specs.declared.row.RowFault.TheVariants as row
 use Rattle.text_parsers.specs.CsvRecords.{Columns, records_of, named, IsRecordText, IsRecordFault, no_record, other_count, second_record, no_memory}
 use Rattle.text_parsers.specs.TextValue.{IsTextWith, IsValueFault}
 use Rattle.text_parsers.specs.declared.fault.ParseFault.{ParseFault}
-use Rattle.text_parsers.specs.declared.fault.ParseFault.TheVariants as parse
 
 abbrev by_count : Columns → List (List ℕ) → Bool → Option Members
 by_count columns cells counted = if counted then Some (members_of (put_all [] (named columns.names cells))) else None

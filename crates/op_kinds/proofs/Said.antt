@@ -1,5 +1,5 @@
 -- What texts say, by the grammars of text_parsers and computed.
-use Rattle.std.proofs.Common.{◌≡◌, ◌≢◌, ℕ, List, Option, None, Some, true, false, true≢false, inl, inr, refl, sym, ap, subst, ◌∙◌, rules}
+use Rattle.std.proofs.Common.{◌≡◌, ◌≢◌, ℕ, List, Option, None, Some, false, true≢false, inl, inr, refl, sym, ap, subst, ◌∙◌, rules}
 use Rattle.entry_model.specs.Datum.{Datum, null, boolean, int, text, list, fields, Members, is_map_datum}
 use Rattle.json_text.proofs.Faults.{syntax_fault, depth_fault, read_text, one_value}
 use Rattle.json_text.specs.Grammar.{IsText}

@@ -11,12 +11,12 @@ use Rattle.time_layout.specs.declared.fault.LayoutFault.TheVariants as layout
 use Rattle.op_kinds.specs.declared.cause.OpCause.TheVariants.{Path, Expr, Pattern, Layout, NoNames, Memory}
 
 abbrev pub of_path_fault : PathFault → OpCause
-of_path_fault (path.NotAPath at) = Path
+of_path_fault (path.NotAPath at) = Path at
 of_path_fault path.Memory = Memory
 
 abbrev pub of_read_fault : ExprReadFault → OpCause
-of_read_fault (expr.Syntax at) = Expr
-of_read_fault (expr.Pattern at) = Expr
+of_read_fault (expr.Syntax at) = Expr at
+of_read_fault (expr.Pattern at) = Expr at
 of_read_fault expr.Memory = Memory
 
 abbrev pub of_regex_fault : RegexFault → OpCause
@@ -25,5 +25,5 @@ of_regex_fault regex.NoNames = NoNames
 of_regex_fault regex.Memory = Memory
 
 abbrev pub of_layout_fault : LayoutFault → OpCause
-of_layout_fault (layout.Directive at) = Layout
+of_layout_fault (layout.Directive at) = Layout at
 of_layout_fault layout.Memory = Memory

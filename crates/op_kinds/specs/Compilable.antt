@@ -1,5 +1,5 @@
 -- Of which settings an operator can be made, where each text in them can be read. What settings say is within these limits.
-use Rattle.std.specs.Prelude.{⊤, ℕ, ◌<◌, ◌≤◌}
+use Rattle.std.specs.Prelude.{⊤, ◌<◌, ◌≤◌}
 use Rattle.settings_text.specs.Limits.{route_count}
 use Rattle.settings_text.specs.Types.KeyValueParsing as key_value_parsing
 use Rattle.settings_text.specs.Types.Recombining as recombining

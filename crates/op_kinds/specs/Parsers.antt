@@ -1,5 +1,5 @@
 -- Which parser the settings of one ask for.
-use Rattle.std.specs.Prelude.{◌≡◌, ◌≢◌, ⊤, ℕ, ℤ, List, [], ◌∷◌, map, true, if◌then◌else◌, Option, None, Some, Ok}
+use Rattle.std.specs.Prelude.{◌≡◌, ◌≢◌, ⊤, ℕ, ℤ, List, [], map, true, if◌then◌else◌, Option, None, Some, Ok}
 use Rattle.std.specs.Str.{bytes_eq}
 use Rattle.std.specs.Prelude.{codes}
 use Rattle.field_paths.specs.PathText.{IsPathText}
@@ -11,13 +11,14 @@ use Rattle.settings_text.specs.Rules as settings
 use Rattle.settings_text.specs.declared.mapping.MapWant.{MapWant}
 use Rattle.settings_text.specs.declared.mapping.MapWant.TheVariants as wanted
 use Rattle.settings_text.specs.declared.parsing.LayoutType.{LayoutType}
-use Rattle.settings_text.specs.declared.parsing.LayoutType.TheVariants.{Strptime, Epoch}
+use Rattle.settings_text.specs.declared.parsing.LayoutType.TheVariants.{Strptime, Gotime, Epoch}
 use Rattle.settings_text.specs.declared.parsing.ParserKeys.{ParserKeys}
 use Rattle.settings_text.specs.declared.parsing.SeveritySpec.{SeveritySpec}
 use Rattle.settings_text.specs.declared.parsing.TimeSpec.{TimeSpec}
 use Rattle.text_parsers.specs.CsvRecords.{Columns, parts_of}
 use Rattle.text_parsers.specs.Pairs.{Delimiters}
 use Rattle.text_parsers.specs.Groups.{named_groups, names_in, is_shallow, reading}
+use Rattle.time_layout.specs.GoLayouts.{go_parts}
 use Rattle.time_layout.specs.LayoutText.{layout_parts}
 use Rattle.time_layout.specs.Meaning.{Meaning}
 use Rattle.time_layout.specs.declared.epoch.EpochKind.{EpochKind}
@@ -60,10 +61,17 @@ pub record IsLayout (text : List ℕ) (location : ℤ) (layout : Meaning) : Type
   pub parts : layout_parts text ≡ Ok layout.parts
   pub location_is : layout.location ≡ location
 
+-- the same of a text that spells a reference time
+pub record IsGoLayout (text : List ℕ) (location : ℤ) (layout : Meaning) : Type 0 where
+  pub parts : go_parts text ≡ Ok layout.parts
+  pub location_is : layout.location ≡ location
+
 -- the kind of time of a layout text
 abbrev pub IsTimeKind : LayoutType → List ℕ → ℤ → TimeKind → Type 0
 IsTimeKind Strptime text location (time.Layout layout) = IsLayout text location layout
 IsTimeKind Strptime text location (time.Epoch kind) = ⊥
+IsTimeKind Gotime text location (time.Layout layout) = IsGoLayout text location layout
+IsTimeKind Gotime text location (time.Epoch kind) = ⊥
 IsTimeKind Epoch text location (time.Layout layout) = ⊥
 IsTimeKind Epoch text location (time.Epoch kind) = count_named text ≡ Some kind
 

@@ -1,15 +1,16 @@
 -- What must be readable in the settings of an operator, and for which cause there is none.
-use Rattle.std.specs.Prelude.{◌≡◌, ◌≢◌, ◌<◌, nat_lt, if◌then◌else◌, ℕ, List, [], ◌∷◌, ◌++◌, map, false, Option, None, Some, Result, Ok, Err}
-use Rattle.expr_lang.specs.Outcome.{IsNoExpression}
+use Rattle.std.specs.Prelude.{◌≡◌, ◌≢◌, ◌<◌, ◌≤◌, ◌⊎◌, length, nat_lt, if◌then◌else◌, ℕ, List, [], ◌∷◌, ◌++◌, map, false, Option, None, Some, Result, Ok, Err}
+use Rattle.expr_lang.specs.Outcome.{IsNoExpression, IsReadFault as IsExprFault}
+use Rattle.expr_lang.specs.declared.read.ExprReadFault.TheVariants.{Syntax, Pattern as ExprPattern}
 use Rattle.field_ops.specs.Rows.{member_of}
-use Rattle.field_paths.specs.PathText.{IsPathText}
+use Rattle.field_paths.specs.PathText.{IsPathText, IsFaultAt as IsPathFaultAt}
 use Rattle.field_paths.specs.Place.{Place}
 use Rattle.graph_core.specs.Wiring.{Has}
 use Rattle.op_kinds.specs.Parsers.{count_named}
 use Rattle.op_kinds.specs.declared.cause.OpCause.{OpCause}
 use Rattle.op_kinds.specs.declared.cause.OpCause.TheVariants.{Path, Expr, Pattern, Layout, NoNames, Memory}
 use Rattle.settings_text.specs.declared.parsing.LayoutType.{LayoutType}
-use Rattle.settings_text.specs.declared.parsing.LayoutType.TheVariants.{Strptime, Epoch}
+use Rattle.settings_text.specs.declared.parsing.LayoutType.TheVariants.{Strptime, Gotime, Epoch}
 use Rattle.settings_text.specs.declared.parsing.ParserKeys.{ParserKeys}
 use Rattle.settings_text.specs.declared.parsing.SeveritySpec.{SeveritySpec}
 use Rattle.settings_text.specs.declared.parsing.TimeSpec.{TimeSpec}
@@ -18,6 +19,7 @@ use Rattle.settings_text.specs.declared.settings.OpSpec.{OpSpec}
 use Rattle.settings_text.specs.declared.settings.RouteSpec.{RouteSpec}
 use Rattle.settings_text.specs.declared.settings.OpKind.TheVariants as kind
 use Rattle.text_parsers.specs.Groups.{is_shallow, named_groups, names_in, reading}
+use Rattle.time_layout.specs.GoLayouts.{go_parts}
 use Rattle.time_layout.specs.LayoutText.{layout_parts}
 use Rattle.time_layout.specs.declared.parts.Part.{Part}
 
@@ -34,6 +36,8 @@ pub data Reading : Type 0 where
   names : List ℕ → Reading
   -- as the directives of a layout
   layout : List ℕ → Reading
+  -- as the reference time of a layout
+  go_layout : List ℕ → Reading
   -- as what a count since 1970 counts
   count : List ℕ → Reading
 
@@ -48,6 +52,9 @@ IsNoMember text = (parent : Place) (name : List ℕ) → IsPathText text (member
 abbrev pub IsNoLayout : List ℕ → Type 0
 IsNoLayout text = (parts : List Part) → layout_parts text ≡ Ok parts → ⊥
 
+abbrev pub IsNoGoLayout : List ℕ → Type 0
+IsNoGoLayout text = (parts : List Part) → go_parts text ≡ Ok parts → ⊥
+
 abbrev pub IsFaulty : Reading → Type 0
 IsFaulty (path text) = IsNoPath text
 IsFaulty (member text) = IsNoMember text
@@ -55,6 +62,7 @@ IsFaulty (expression text) = IsNoExpression text
 IsFaulty (pattern text) = is_shallow (reading text) ≡ false
 IsFaulty (names text) = named_groups (names_in (reading text)) ≡ []
 IsFaulty (layout text) = IsNoLayout text
+IsFaulty (go_layout text) = IsNoGoLayout text
 IsFaulty (count text) = count_named text ≡ None
 
 -- ---- what a type names
@@ -64,6 +72,7 @@ route_reading route = expression route.expr
 
 abbrev pub layout_reading : LayoutType → List ℕ → Reading
 layout_reading Strptime text = layout text
+layout_reading Gotime text = go_layout text
 layout_reading Epoch text = count text
 
 abbrev pub time_readings : Option TimeSpec → List Reading
@@ -111,36 +120,61 @@ readings spec = own_readings spec.kind ++ condition_readings spec.condition
 
 -- ---- causes
 
--- the cause that a reading is faulty
-abbrev pub cause_of : Reading → OpCause
-cause_of (path text) = Path
-cause_of (member text) = Path
-cause_of (expression text) = Expr
-cause_of (pattern text) = Pattern
-cause_of (names text) = NoNames
-cause_of (layout text) = Layout
-cause_of (count text) = Layout
+-- the text spells a root, which is no member
+abbrev pub IsRoot : List ℕ → Type 0
+IsRoot text = (place : Place) × IsPathText text place × (place.names ≡ [])
+
+-- The reading is faulty, and this is the byte of its text that is told: the one at which the text goes wrong, its length where
+-- only a member is missing, or 0 where it is known of the whole text alone.
+abbrev pub IsFaultyAt : Reading → ℕ → Type 0
+IsFaultyAt (path text) at = IsPathFaultAt text at
+IsFaultyAt (member text) at = IsPathFaultAt text at ⊎ (IsRoot text × (at ≡ length text))
+IsFaultyAt (expression text) at = IsExprFault text (Syntax at) ⊎ IsExprFault text (ExprPattern at)
+IsFaultyAt (pattern text) at = IsFaulty (pattern text) × (at ≡ 0)
+IsFaultyAt (names text) at = IsFaulty (names text) × (at ≡ 0)
+IsFaultyAt (layout text) at = layout_parts text ≡ Err at
+IsFaultyAt (go_layout text) at = go_parts text ≡ Err at
+IsFaultyAt (count text) at = IsFaulty (count text) × (at ≡ 0)
+
+-- the cause that a reading is faulty at this byte
+abbrev pub cause_at : Reading → ℕ → OpCause
+cause_at (path text) at = Path at
+cause_at (member text) at = Path at
+cause_at (expression text) at = Expr at
+cause_at (pattern text) at = Pattern
+cause_at (names text) at = NoNames
+cause_at (layout text) at = Layout at
+cause_at (go_layout text) at = Layout at
+cause_at (count text) at = Layout at
 
 -- of several causes the one with the least number counts
 abbrev pub number : OpCause → ℕ
 number Memory = 0
-number Path = 1
-number Expr = 2
+number (Path at) = 1
+number (Expr at) = 2
 number Pattern = 3
-number Layout = 4
+number (Layout at) = 4
 number NoNames = 5
 
--- the one of two causes that counts
+-- the number of the cause that a reading is faulty
+abbrev pub rank : Reading → ℕ
+rank reading = number (cause_at reading 0)
+
+-- the one of two causes that counts, where the text of the first one stands first
 abbrev pub least_of : OpCause → OpCause → OpCause
 least_of one other = if nat_lt (number other) (number one) then other else one
 
--- some reading of this cause is faulty, and none of a lesser one
+-- a reading is faulty, for this cause; none before it has a cause that counts as much, and none behind it one that counts more
 pub record IsLeastCause (all : List Reading) (cause : OpCause) : Type 0 where
+  pub front : List Reading
   pub reading : Reading
-  pub among : Has all reading
-  pub is : cause_of reading ≡ cause
-  pub faulty : IsFaulty reading
-  pub least : (other : Reading) → Has all other → number (cause_of other) < number cause → IsFaulty other → ⊥
+  pub back : List Reading
+  pub parts : all ≡ front ++ reading ∷ back
+  pub at : ℕ
+  pub faulty : IsFaultyAt reading at
+  pub is : cause ≡ cause_at reading at
+  pub first : (other : Reading) → Has front other → rank other ≤ rank reading → IsFaulty other → ⊥
+  pub least : (other : Reading) → Has back other → rank other < rank reading → IsFaulty other → ⊥
 
 -- Want of memory alone is free.
 abbrev pub Caused : List Reading → OpCause → Type 0

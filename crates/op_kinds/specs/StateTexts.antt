@@ -7,7 +7,7 @@ use Rattle.graph_core.specs.declared.NodeSpec.{NodeSpec}
 use Rattle.op_kinds.specs.Flat.{flat_states}
 use Rattle.op_kinds.specs.Kept.{Kept, keeps_groups}
 use Rattle.op_kinds.specs.Operator.{Operator}
-use Rattle.op_kinds.specs.States.{kinds_of, AreOfKinds, states_spelling, all_at, fresh_states}
+use Rattle.op_kinds.specs.States.{AreOfKinds, states_spelling, all_at, fresh_states}
 use Rattle.state_codec.specs.Reading.{Reading}
 
 -- no byte is so great

@@ -1,6 +1,6 @@
 -- What messages of syslog tell, computed, and what is made of an entry of which a value is one. `laws` has that what they
 -- tell is what the grammars of the crate syslog_parser say.
-use Rattle.std.specs.Prelude.{ℕ, ◌==◌, nat_le, ◌&&◌, Bool, if◌then◌else◌, List, [], ◌∷◌, length, take, drop, codes, bytes_eq, ℤ, pos, Option, None, Some, option_map, Result, Ok, Err}
+use Rattle.std.specs.Prelude.{ℕ, ◌==◌, nat_le, ◌&&◌, Bool, if◌then◌else◌, List, [], ◌∷◌, length, take, drop, codes, bytes_eq, ℤ, pos, Option, None, Some, option_map, Ok, Err}
 use Rattle.std.specs.Char.{is_ascii_digit}
 use Rattle.std.specs.Int.{is_in_range}
 use Rattle.std.specs.List.{prefix_len}

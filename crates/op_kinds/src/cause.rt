@@ -6,21 +6,22 @@ use text_parsers::RegexFault;
 use thiserror::Error;
 use time_layout::LayoutFault;
 
-/// Why the settings of an operator make none. Of several causes the one that stands first here counts.
+/// Why the settings of an operator make none. Of several causes the one that stands first here counts, and of those alike the
+/// one of the text whose key stands first. `at` is a place in that text, in bytes.
 #[derive(Clone, Copy, Debug, PartialEq, Eq, Drop, Error)]
 pub enum OpCause {
-    /// A field path can't be read, or one that is to be flattened has no member.
-    #[error("a field path can't be read")]
-    Path,
-    /// An expression can't be read.
-    #[error("an expression can't be read")]
-    Expr,
+    /// A field path can't be read from this byte on, or one that is to be flattened ends there without a member.
+    #[error("a field path can't be read at byte {at}")]
+    Path { at: usize },
+    /// An expression can't be read from this byte on.
+    #[error("an expression can't be read at byte {at}")]
+    Expr { at: usize },
     /// A text is no pattern, or nests too deep for one.
     #[error("a pattern can't be read")]
     Pattern,
-    /// A text is no layout of times.
-    #[error("a layout can't be read")]
-    Layout,
+    /// A layout of times can't be read from this byte on. It is 0 where the text is no name of what a count counts.
+    #[error("a layout can't be read at byte {at}")]
+    Layout { at: usize },
     /// No group of a pattern has a name.
     #[error("no group of a pattern has a name")]
     NoNames,
@@ -38,15 +39,15 @@ impl OpCause {
     {
         match self {
             OpCause::Memory => 0,
-            OpCause::Path => 1,
-            OpCause::Expr => 2,
+            OpCause::Path { .. } => 1,
+            OpCause::Expr { .. } => 2,
             OpCause::Pattern => 3,
-            OpCause::Layout => 4,
+            OpCause::Layout { .. } => 4,
             OpCause::NoNames => 5,
         }
     }
 
-    /// The one of two causes that counts.
+    /// The one of two causes that counts, where this one's text stands first.
     pub(crate) fn or_less(self, other: OpCause) -> OpCause
         ensures { result ≡ readings.least_of self other }
     {
@@ -88,7 +89,7 @@ impl From<PathFault> for OpCause {
 
     fn from(fault: PathFault) -> OpCause {
         match fault {
-            PathFault::NotAPath { .. } => OpCause::Path,
+            PathFault::NotAPath { at } => OpCause::Path { at },
             PathFault::Memory => OpCause::Memory,
         }
     }
@@ -102,7 +103,7 @@ impl From<ExprReadFault> for OpCause {
 
     fn from(fault: ExprReadFault) -> OpCause {
         match fault {
-            ExprReadFault::Syntax { .. } | ExprReadFault::Pattern { .. } => OpCause::Expr,
+            ExprReadFault::Syntax { at } | ExprReadFault::Pattern { at } => OpCause::Expr { at },
             ExprReadFault::Memory => OpCause::Memory,
         }
     }
@@ -131,7 +132,7 @@ impl From<LayoutFault> for OpCause {
 
     fn from(fault: LayoutFault) -> OpCause {
         match fault {
-            LayoutFault::Directive { .. } => OpCause::Layout,
+            LayoutFault::Directive { at } => OpCause::Layout { at },
             LayoutFault::Memory => OpCause::Memory,
         }
     }

@@ -2,7 +2,7 @@
 use crate::asked::{cut_at, log_of, parted, settings_of};
 use crate::kept::{closed, taken};
 use crate::plain::records;
-use crate::running::{Run, begun, go_on, pipeline_of};
+use crate::running::{Run, begun, flush, go_on, pipeline_of};
 use crate::unanswered::Unanswered;
 use crate::words::Words;
 use case_files::{Answers, Case, shown};
@@ -68,7 +68,11 @@ fn feed_log(
     run: &mut Run,
 ) -> Result<(), Unanswered> {
     let log = log_of(alloc, lines, words)?;
-    go_on(alloc, pipeline, words.path(), &log, words.size, run)
+    let left = go_on(alloc, pipeline, words.path(), &log, words.size, run)?;
+    if words.flushed {
+        flush(alloc, pipeline, words.path(), left, run)?;
+    }
+    Ok(())
 }
 
 fn told(alloc: Global, call: &str, run: &Run) -> Result<String, Unanswered> {

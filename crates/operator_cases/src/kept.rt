@@ -41,7 +41,7 @@ fn closed_by(
 fn records_of(alloc: Global, entries: &[Entry]) -> Result<String, AllocError> {
     let mut out = Vec::new(alloc);
     for entry in entries {
-        line(alloc, 7, 1, entry, &mut out)?;
+        line(alloc, 7, 1, None, entry, &mut out)?;
     }
     records(alloc, &out)
 }

@@ -9,16 +9,16 @@ pub fn refusal(alloc: Global, fault: BuildFault) -> Result<String, AllocError> {
         BuildFault::Glob {
             exclude: false,
             place,
-        } => format!(in alloc; "Glob include {place}"),
+            at,
+        } => format!(in alloc; "Glob include {place} {at}"),
         BuildFault::Glob {
             exclude: true,
             place,
-        } => format!(in alloc; "Glob exclude {place}"),
+            at,
+        } => format!(in alloc; "Glob exclude {place} {at}"),
         BuildFault::Multiline => String::from_str(alloc, "Multiline"),
         BuildFault::SameId { place } => format!(in alloc; "SameId {place}"),
-        BuildFault::Operator { place, cause } => {
-            format!(in alloc; "Operator {place} {}", cause_word(cause))
-        }
+        BuildFault::Operator { place, cause } => operator_refusal(alloc, place, cause),
         BuildFault::Graph(fault) => graph_refusal(alloc, fault),
         BuildFault::Memory => Err(AllocError),
     }
@@ -33,13 +33,13 @@ fn graph_refusal(alloc: Global, fault: GraphFault) -> Result<String, AllocError>
     }
 }
 
-fn cause_word(cause: OpCause) -> &'static str {
+fn operator_refusal(alloc: Global, place: u64, cause: OpCause) -> Result<String, AllocError> {
     match cause {
-        OpCause::Path => "path",
-        OpCause::Expr => "expr",
-        OpCause::Pattern => "pattern",
-        OpCause::Layout => "layout",
-        OpCause::NoNames => "no names",
-        OpCause::Memory => "memory",
+        OpCause::Path { at } => format!(in alloc; "Operator {place} path {at}"),
+        OpCause::Expr { at } => format!(in alloc; "Operator {place} expr {at}"),
+        OpCause::Pattern => format!(in alloc; "Operator {place} pattern"),
+        OpCause::Layout { at } => format!(in alloc; "Operator {place} layout {at}"),
+        OpCause::NoNames => format!(in alloc; "Operator {place} no names"),
+        OpCause::Memory => Err(AllocError),
     }
 }

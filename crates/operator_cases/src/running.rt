@@ -1,7 +1,10 @@
 // Pipelines that are fed.
+ghost use Rattle.std.specs.Prelude.{◌≤◌, length, IfOk};
+ghost use Rattle.pipeline.specs.Parts.{HaveKinds};
+
 use crate::refusal::refusal;
 use crate::unanswered::Unanswered;
-use pipeline::Pipeline;
+use pipeline::{FileState, Pipeline};
 use settings_text::laws::settings_keep_limits;
 use settings_text::read;
 use state_codec::CodecFault;
@@ -50,15 +53,15 @@ pub fn begun(alloc: Global, pipeline: &Pipeline) -> Result<Run, AllocError> {
     Ok(Run::new(alloc, kept))
 }
 
-/// Feeds a log so many bytes at a time, and restores what is kept before each.
-pub fn go_on(
+/// Feeds a log so many bytes at a time, and restores what is kept before each. Answers what is left of it.
+pub fn go_on<'l>(
     alloc: Global,
     pipeline: &Pipeline,
     path: &str,
-    log: &[u8],
+    log: &'l [u8],
     size: usize,
     run: &mut Run,
-) -> Result<(), Unanswered> {
+) -> Result<&'l [u8], Unanswered> {
     let mut from = 0usize;
     let mut to = 0usize;
     for _ in 0..=log.len() {
@@ -72,7 +75,7 @@ pub fn go_on(
             break;
         }
     }
-    Ok(())
+    Ok(log.get(from..).unwrap_or_default())
 }
 
 // Restores what is kept, feeds the bytes, and saves. How many bytes were used.
@@ -83,7 +86,40 @@ fn feed(
     bytes: &[u8],
     run: &mut Run,
 ) -> Result<usize, Unanswered> {
-    let mut state = match pipeline.restore(alloc, run.records, run.lines, &run.kept) {
+    let mut state = restored(alloc, pipeline, bytes, run)?;
+    let used = pipeline.feed(alloc, &mut state, 7, path, bytes, &mut run.out)?;
+    keep(alloc, pipeline, &state, run)?;
+    Ok(used)
+}
+
+/// Restores what is kept, takes the last bytes of the log, and saves what is left, which has no open group.
+pub fn flush(
+    alloc: Global,
+    pipeline: &Pipeline,
+    path: &str,
+    bytes: &[u8],
+    run: &mut Run,
+) -> Result<(), Unanswered> {
+    let mut state = restored(alloc, pipeline, bytes, run)?;
+    pipeline.finish(alloc, &mut state, 7, path, bytes, &mut run.out)?;
+    if !pipeline.is_fresh(&state) {
+        return Err(Unanswered::Refused(String::from_str(alloc, "not fresh")?));
+    }
+    keep(alloc, pipeline, &state, run)
+}
+
+// The state that is kept, before these bytes.
+fn restored(
+    alloc: Global,
+    pipeline: &Pipeline,
+    bytes: &[u8],
+    run: &Run,
+) -> Result<FileState, Unanswered>
+    ensures kinds { IfOk result (λ state. HaveKinds pipeline.now state.states.items) }
+    ensures few { IfOk result (λ state. (state.records ≤ 10000000) × (state.lines ≤ 10000000)) }
+    ensures short { IfOk result (λ state. length bytes.now ≤ 10000000) }
+{
+    let state = match pipeline.restore(alloc, run.records, run.lines, &run.kept) {
         Ok(state) => state,
         Err(CodecFault::Memory) => return Err(Unanswered::Memory),
         Err(CodecFault::Malformed { at }) => {
@@ -93,10 +129,21 @@ fn feed(
     if state.records > MOST || state.lines > MOST || bytes.len() as u64 > MOST {
         return Err(Unanswered::Refused(String::from_str(alloc, "too long")?));
     }
-    let used = pipeline.feed(alloc, &mut state, 7, path, bytes, &mut run.out)?;
+    Ok(state)
+}
+
+// Keeps the state.
+fn keep(
+    alloc: Global,
+    pipeline: &Pipeline,
+    state: &FileState,
+    run: &mut Run,
+) -> Result<(), Unanswered>
+    requires { HaveKinds pipeline.now state.now.states.items }
+{
     run.kept.clear();
-    pipeline.save(alloc, &state, &mut run.kept)?;
+    pipeline.save(alloc, state, &mut run.kept)?;
     run.records = state.records;
     run.lines = state.lines;
-    Ok(used)
+    Ok(())
 }

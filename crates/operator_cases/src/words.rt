@@ -7,6 +7,8 @@ pub struct Words<'t> {
     pub size: usize,
     /// Whether the last line has its end.
     pub ended: bool,
+    /// Whether what is left at the end is flushed.
+    pub flushed: bool,
     /// The file's path, or what else the call names.
     pub name: Option<&'t str>,
 }
@@ -16,11 +18,14 @@ impl<'t> Words<'t> {
         let mut words = Words {
             size: usize::MAX,
             ended: true,
+            flushed: false,
             name: None,
         };
         for word in text.split_whitespace() {
             if word == "unended" {
                 words.ended = false;
+            } else if word == "flushed" {
+                words.flushed = true;
             } else if let Ok(size) = word.parse::<usize>() {
                 words.size = size;
             } else {

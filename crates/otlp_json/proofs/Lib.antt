@@ -4,6 +4,7 @@ pub mod Escapes
 pub mod Members
 pub mod NoLf
 pub mod Numbered
+pub mod Observed
 pub mod Opened
 pub mod Plain
 pub mod Scopes

@@ -11,7 +11,7 @@ use Rattle.entry_model.specs.LogRecord.{LogRecord}
 use Rattle.otlp_json.specs.Escaped.{escaped_byte, escaped}
 use Rattle.otlp_json.specs.IsOneLine.{IsOneLine}
 use Rattle.otlp_json.specs.OutputLine.{output_line, line_front, line_tail}
-use Rattle.otlp_json.specs.RecordText.{attributes_text, body_text, severity_number_text, severity_name_text, time_text, record_text}
+use Rattle.otlp_json.specs.RecordText.{attributes_text, body_text, severity_number_text, severity_name_text, nanoseconds_text, observed_text, time_text, record_text}
 use Rattle.otlp_json.specs.ValueText.{value_text, items_text, members_text, key_value_text}
 use Rattle.otlp_json.proofs.Digits.{decimal_pass}
 
@@ -86,29 +86,31 @@ name_inside : (name : List ℕ) → NoLf (severity_name_text name)
 name_inside [] = refl
 name_inside (first ∷ rest) = between (codes ",\"severityText\":\"") (escaped (first ∷ rest)) (codes "\"") refl (string_inside (first ∷ rest)) refl
 
-time_inside : (time : Option ℕ) → NoLf (time_text time)
-time_inside None = refl
-time_inside (Some n) = between (codes ",\"timeUnixNano\":\"") (decimal n) (codes "\"") refl (number_inside n) refl
+time_inside : (opening : List ℕ) (time : Option ℕ) → NoLf opening → NoLf (nanoseconds_text opening time)
+time_inside opening None clear = refl
+time_inside opening (Some n) clear = between opening (decimal n) (codes "\"") clear (number_inside n) refl
 
-record_inside : (entry : LogRecord) → NoLf (record_text entry)
+record_inside : (observed : Option ℕ) (entry : LogRecord) → NoLf (record_text observed entry)
 unfolding record_text
-record_inside entry =
+record_inside observed entry =
     let start = codes "{\"attributes\":" ++ attributes_text entry.attributes in
     let with_body = start ++ body_text entry.body in
-    let with_severity = with_body ++ severity_number_text entry.severity in
+    let with_observed = with_body ++ observed_text observed in
+    let with_severity = with_observed ++ severity_number_text entry.severity in
     let with_name = with_severity ++ severity_name_text entry.severity_text in
     let started : NoLf start = joined (codes "{\"attributes\":") (attributes_text entry.attributes) refl (attributes_inside entry.attributes) in
     let bodied : NoLf with_body = joined start (body_text entry.body) started (body_inside entry.body) in
-    let graded : NoLf with_severity = joined with_body (severity_number_text entry.severity) bodied (severity_inside entry.severity) in
+    let timed : NoLf with_observed = joined with_body (observed_text observed) bodied (time_inside (codes ",\"observedTimeUnixNano\":\"") observed refl) in
+    let graded : NoLf with_severity = joined with_observed (severity_number_text entry.severity) timed (severity_inside entry.severity) in
     let named : NoLf with_name = joined with_severity (severity_name_text entry.severity_text) graded (name_inside entry.severity_text) in
-    between with_name (time_text entry.timestamp) (codes "}") named (time_inside entry.timestamp) refl
+    between with_name (time_text entry.timestamp) (codes "}") named (time_inside (codes ",\"timeUnixNano\":\"") entry.timestamp refl) refl
 
-front_inside : (entry : LogRecord) → NoLf (line_front entry)
+front_inside : (observed : Option ℕ) (entry : LogRecord) → NoLf (line_front observed entry)
 unfolding line_front
-front_inside entry =
+front_inside observed entry =
     let resource = codes "{\"resourceLogs\":[{\"resource\":{\"attributes\":" ++ attributes_text entry.resource ++ codes "},\"scopeLogs\":[{\"logRecords\":[" in
     let clear : NoLf resource = between (codes "{\"resourceLogs\":[{\"resource\":{\"attributes\":") (attributes_text entry.resource) (codes "},\"scopeLogs\":[{\"logRecords\":[") refl (attributes_inside entry.resource) refl in
-    between resource (record_text entry) (codes "],\"scope\":{\"attributes\":[{\"key\":") clear (record_inside entry) refl
+    between resource (record_text observed entry) (codes "],\"scope\":{\"attributes\":[{\"key\":") clear (record_inside observed entry) refl
 
 rest : (a b : Bool) → (a && b) ≡ true → b ≡ true
 rest true b e = e
@@ -140,10 +142,10 @@ tail_ends id number = simp append_assoc
 pub tail_one_line : (id number : ℕ) → IsOneLine (line_tail id number)
 tail_one_line id number = record { content = tail_content id number; ends = tail_ends id number; no_other = nowhere (tail_content id number) (tail_inside id number) }
 
-pub one_line : (id number : ℕ) (entry : LogRecord) → IsOneLine (output_line id number entry)
+pub one_line : (id number : ℕ) (observed : Option ℕ) (entry : LogRecord) → IsOneLine (output_line id number observed entry)
 unfolding output_line
-one_line id number entry = record {
-  content = line_front entry ++ tail_content id number;
-  ends = ap (λ tail. line_front entry ++ tail) (tail_ends id number) ∙ sym (append_assoc (line_front entry) (tail_content id number) (10 ∷ []));
-  no_other = nowhere (line_front entry ++ tail_content id number) (joined (line_front entry) (tail_content id number) (front_inside entry) (tail_inside id number));
+one_line id number observed entry = record {
+  content = line_front observed entry ++ tail_content id number;
+  ends = ap (λ tail. line_front observed entry ++ tail) (tail_ends id number) ∙ sym (append_assoc (line_front observed entry) (tail_content id number) (10 ∷ []));
+  no_other = nowhere (line_front observed entry ++ tail_content id number) (joined (line_front observed entry) (tail_content id number) (front_inside observed entry) (tail_inside id number));
 }

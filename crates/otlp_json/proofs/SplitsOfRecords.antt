@@ -7,7 +7,7 @@ use Rattle.entry_model.specs.Datum.{Datum, null, boolean, int, text, list, field
 use Rattle.entry_model.specs.LogRecord.{LogRecord}
 use Rattle.otlp_json.specs.Escaped.{escaped}
 use Rattle.otlp_json.specs.IsOf64Bits.{HasIntegers, MembersHaveIntegers, IsTime, IsOf64Bits}
-use Rattle.otlp_json.specs.RecordText.{attributes_text, body_text, severity_number_text, severity_name_text, time_text, record_text}
+use Rattle.otlp_json.specs.RecordText.{attributes_text, body_text, severity_number_text, severity_name_text, observed_text, time_text, record_text}
 use Rattle.otlp_json.specs.ValueText.{value_text, members_text}
 use Rattle.otlp_json.proofs.Splits.{opened, GoesOn, goes_on, number_splits}
 use Rattle.otlp_json.proofs.SplitsOfStrings.{string_splits}
@@ -17,7 +17,7 @@ use Rattle.otlp_json.proofs.SplitsOfValues.{value_splits, members_splits, member
 abbrev mark : List ℕ → ℕ
 mark bytes = (if get_or bytes 0 0 == 125 then 0 else (if get_or bytes 2 0 == 115 then get_or bytes 10 0 else get_or bytes 2 0))
 
--- what stands from the time on, from the severity's name on and from its number on
+-- what stands from the time on, from the severity's name on, from its number on and from the observed time on
 abbrev from_time : Option ℕ → List ℕ → List ℕ
 from_time time x = time_text time ++ 125 ∷ x
 
@@ -27,6 +27,9 @@ from_name name time x = severity_name_text name ++ from_time time x
 abbrev from_number : ℕ → List ℕ → Option ℕ → List ℕ → List ℕ
 from_number number name time x = severity_number_text number ++ from_name name time x
 
+abbrev from_observed : Option ℕ → ℕ → List ℕ → Option ℕ → List ℕ → List ℕ
+from_observed observed number name time x = observed_text observed ++ from_number number name time x
+
 abbrev in_time : ℕ → Bool
 in_time byte = (byte == 0) || (byte == 116)
 
@@ -35,6 +38,9 @@ in_name byte = (byte == 84) || in_time byte
 
 abbrev in_number : ℕ → Bool
 in_number byte = (byte == 78) || in_name byte
+
+abbrev in_observed : ℕ → Bool
+in_observed byte = (byte == 111) || in_number byte
 
 false_is_true : false ≡ true → ⊥
 false_is_true e = cc
@@ -63,6 +69,11 @@ number_marked number name time x = go (cases_eq number 0)
     go : (number ≡ 0) ⊎ (number ≡ 0 → ⊥) → in_number (mark (from_number number name time x)) ≡ true
     go (inl none) = rw none (or_right (mark (from_name name time x) == 78) (in_name (mark (from_name name time x))) (name_marked name time x))
     go (inr some) = rw (some_number number some) refl
+
+observed_marked : (observed : Option ℕ) (number : ℕ) (name : List ℕ) (time : Option ℕ) (x : List ℕ) → in_observed (mark (from_observed observed number name time x)) ≡ true
+observed_marked None number name time x =
+    or_right (mark (from_number number name time x) == 111) (in_number (mark (from_number number name time x))) (number_marked number name time x)
+observed_marked (Some n) number name time x = refl
 
 name_goes_on : (name : List ℕ) (time : Option ℕ) (x : List ℕ) → GoesOn (from_name name time x)
 name_goes_on [] None x = goes_on 125 x refl
@@ -111,6 +122,19 @@ severity_splits m n a b s t x y p q e = go (cases_eq m 0) (cases_eq n 0)
         let inner = append_cancel_left (codes ",\"severityNumber\":") (decimal m ++ from_name a s x) (decimal n ++ from_name b t y) whole in
         number_splits m n (from_name a s x) (from_name b t y) p q (name_goes_on a s x) (name_goes_on b t y) inner
 
+-- neither rest of the record begins with an observed time
+observed_splits : (s t : Option ℕ) (x y : List ℕ) → IsTime s → IsTime t → in_number (mark x) ≡ true → in_number (mark y) ≡ true
+    → observed_text s ++ x ≡ observed_text t ++ y → (s ≡ t) × (x ≡ y)
+observed_splits None None x y p q g h e = (refl, e)
+observed_splits None (Some n) x y p q g h e =
+    let marked : in_number 111 ≡ true = sym (ap (λ l. in_number (mark l)) e) ∙ g in absurd (false_is_true marked)
+observed_splits (Some n) None x y p q g h e =
+    let marked : in_number 111 ≡ true = ap (λ l. in_number (mark l)) e ∙ h in absurd (false_is_true marked)
+observed_splits (Some m) (Some n) x y p q g h e =
+    let inner = opened (codes ",\"observedTimeUnixNano\":\"") (decimal m) (decimal n) (codes "\"") x y e in
+    let same = number_splits m n (34 ∷ x) (34 ∷ y) p q (goes_on 34 x refl) (goes_on 34 y refl) inner in
+    (ap Some same.0, ap (drop 1) same.1)
+
 body_told : (body : Datum) → (body ≡ null) ⊎ (body_text body ≡ codes ",\"body\":" ++ value_text body)
 body_told null = inl refl
 body_told (boolean b) = inr refl
@@ -120,7 +144,7 @@ body_told (list items) = inr refl
 body_told (fields pairs) = inr refl
 
 -- neither rest of the record begins with a body
-body_splits : (a b : Datum) (x y : List ℕ) → HasIntegers a → HasIntegers b → in_number (mark x) ≡ true → in_number (mark y) ≡ true
+body_splits : (a b : Datum) (x y : List ℕ) → HasIntegers a → HasIntegers b → in_observed (mark x) ≡ true → in_observed (mark y) ≡ true
     → body_text a ++ x ≡ body_text b ++ y → (a ≡ b) × (x ≡ y)
 body_splits a b x y p q g h e = go (body_told a) (body_told b)
   where
@@ -128,11 +152,11 @@ body_splits a b x y p q g h e = go (body_told a) (body_told b)
     go (inl none) (inl gone) = (none ∙ sym gone, ap (λ d. body_text d ++ x) (sym none) ∙ e ∙ ap (λ d. body_text d ++ y) gone)
     go (inl none) (inr some) =
         let here : x ≡ codes ",\"body\":" ++ value_text b ++ y = ap (λ d. body_text d ++ x) (sym none) ∙ e ∙ ap (λ bytes. bytes ++ y) some in
-        let marked : in_number 98 ≡ true = sym (ap (λ l. in_number (mark l)) here) ∙ g in
+        let marked : in_observed 98 ≡ true = sym (ap (λ l. in_observed (mark l)) here) ∙ g in
         absurd (false_is_true marked)
     go (inr some) (inl gone) =
         let here : codes ",\"body\":" ++ value_text a ++ x ≡ y = ap (λ bytes. bytes ++ x) (sym some) ∙ e ∙ ap (λ d. body_text d ++ y) gone in
-        let marked : in_number 98 ≡ true = ap (λ l. in_number (mark l)) here ∙ h in
+        let marked : in_observed 98 ≡ true = ap (λ l. in_observed (mark l)) here ∙ h in
         absurd (false_is_true marked)
     go (inr some) (inr other) =
         let whole : codes ",\"body\":" ++ value_text a ++ x ≡ codes ",\"body\":" ++ value_text b ++ y = ap (λ bytes. bytes ++ x) (sym some) ∙ e ∙ ap (λ bytes. bytes ++ y) other in
@@ -141,12 +165,13 @@ body_splits a b x y p q g h e = go (body_told a) (body_told b)
 pub attributes_splits : (a b : Members) (x y : List ℕ) → MembersHaveIntegers a → MembersHaveIntegers b → attributes_text a ++ x ≡ attributes_text b ++ y → (a ≡ b) × (x ≡ y)
 attributes_splits a b x y p q e = members_splits [] member_opens a b x y p q (opened (codes "[") (members_text [] a) (members_text [] b) (codes "]") x y e)
 
-record_regroup : (entry : LogRecord) (x : List ℕ) → record_text entry ++ x
-    ≡ codes "{\"attributes\":" ++ (attributes_text entry.attributes ++ (body_text entry.body ++ from_number entry.severity entry.severity_text entry.timestamp x))
+record_regroup : (observed : Option ℕ) (entry : LogRecord) (x : List ℕ) → record_text observed entry ++ x
+    ≡ codes "{\"attributes\":" ++ (attributes_text entry.attributes ++ (body_text entry.body ++ from_observed observed entry.severity entry.severity_text entry.timestamp x))
 unfolding record_text
-record_regroup entry x = simp append_assoc
+record_regroup observed entry x = simp append_assoc
 
-pub record SameRecords (a b : LogRecord) (x y : List ℕ) : Type 0 where
+pub record SameRecords (s t : Option ℕ) (a b : LogRecord) (x y : List ℕ) : Type 0 where
+  pub observed : s ≡ t
   pub attributes : a.attributes ≡ b.attributes
   pub body : a.body ≡ b.body
   pub severity : a.severity ≡ b.severity
@@ -154,15 +179,19 @@ pub record SameRecords (a b : LogRecord) (x y : List ℕ) : Type 0 where
   pub timestamp : a.timestamp ≡ b.timestamp
   pub rest : x ≡ y
 
-pub record_splits : (a b : LogRecord) (x y : List ℕ) → IsOf64Bits a → IsOf64Bits b → record_text a ++ x ≡ record_text b ++ y → SameRecords a b x y
-record_splits a b x y p q e =
+pub record_splits : (s t : Option ℕ) (a b : LogRecord) (x y : List ℕ) → IsTime s → IsTime t → IsOf64Bits a → IsOf64Bits b
+    → record_text s a ++ x ≡ record_text t b ++ y → SameRecords s t a b x y
+record_splits s t a b x y g h p q e =
     let my_number = from_number a.severity a.severity_text a.timestamp x in
     let your_number = from_number b.severity b.severity_text b.timestamp y in
-    let inner = append_cancel_left (codes "{\"attributes\":") (attributes_text a.attributes ++ (body_text a.body ++ my_number)) (attributes_text b.attributes ++ (body_text b.body ++ your_number))
-    (sym (record_regroup a x) ∙ e ∙ record_regroup b y) in
-    let attributes = attributes_splits a.attributes b.attributes (body_text a.body ++ my_number) (body_text b.body ++ your_number) p.attributes q.attributes inner in
-    let body = body_splits a.body b.body my_number your_number p.body q.body (number_marked a.severity a.severity_text a.timestamp x) (number_marked b.severity b.severity_text b.timestamp y) attributes.1 in
-    let severity = severity_splits a.severity b.severity a.severity_text b.severity_text a.timestamp b.timestamp x y p.severity q.severity body.1 in
+    let my_observed = observed_text s ++ my_number in
+    let your_observed = observed_text t ++ your_number in
+    let inner = append_cancel_left (codes "{\"attributes\":") (attributes_text a.attributes ++ (body_text a.body ++ my_observed)) (attributes_text b.attributes ++ (body_text b.body ++ your_observed))
+    (sym (record_regroup s a x) ∙ e ∙ record_regroup t b y) in
+    let attributes = attributes_splits a.attributes b.attributes (body_text a.body ++ my_observed) (body_text b.body ++ your_observed) p.attributes q.attributes inner in
+    let body = body_splits a.body b.body my_observed your_observed p.body q.body (observed_marked s a.severity a.severity_text a.timestamp x) (observed_marked t b.severity b.severity_text b.timestamp y) attributes.1 in
+    let observed = observed_splits s t my_number your_number g h (number_marked a.severity a.severity_text a.timestamp x) (number_marked b.severity b.severity_text b.timestamp y) body.1 in
+    let severity = severity_splits a.severity b.severity a.severity_text b.severity_text a.timestamp b.timestamp x y p.severity q.severity observed.1 in
     let name = name_splits a.severity_text b.severity_text a.timestamp b.timestamp x y severity.1 in
     let time = time_splits a.timestamp b.timestamp x y p.timestamp q.timestamp name.1 in
-    record { attributes = attributes.0; body = body.0; severity = severity.0; severity_text = name.0; timestamp = time.0; rest = time.1 }
+    record { observed = observed.0; attributes = attributes.0; body = body.0; severity = severity.0; severity_text = name.0; timestamp = time.0; rest = time.1 }

@@ -1,5 +1,5 @@
 -- Lines whose attributes split at the record's number.
-use Rattle.std.proofs.Common.{◌≡◌, ℕ, pos, Bool, true, false, List, [], ◌∷◌, ◌++◌, ◌∙◌, Option, None, Some, refl, sym, ap, cond, codes, decimal, All}
+use Rattle.std.proofs.Common.{◌≡◌, ℕ, pos, Bool, true, false, List, [], ◌∷◌, ◌++◌, ◌∙◌, Option, refl, sym, ap, cond, codes, decimal, All}
 use Rattle.std.proofs.lemmas.Bool.{false≢true}
 use Rattle.std.proofs.lemmas.List.{append_assoc}
 use Rattle.std.proofs.lemmas.List.Elements.{All-head, All-tail}
@@ -19,9 +19,9 @@ use Rattle.field_paths.specs.Members.{with_member}
 use Rattle.field_paths.specs.MapOf.{members_seen}
 use Rattle.otlp_json.specs.Escaped.{escaped}
 use Rattle.otlp_json.specs.OutputLine.{output_line, line_front, line_tail}
-use Rattle.otlp_json.specs.RecordText.{attributes_text, record_text}
+use Rattle.otlp_json.specs.RecordText.{attributes_text, observed_text, record_text}
 use Rattle.otlp_json.specs.Scope.{scope_text, end_text}
-use Rattle.otlp_json.specs.Template.{numbered, text_record, number_text, comma_behind, filled, IsTemplate}
+use Rattle.otlp_json.specs.Template.{numbered, number_text, comma_behind, IsTemplate}
 use Rattle.otlp_json.specs.ValueText.{members_text, key_value_text, value_text}
 use Rattle.otlp_json.specs.declared.template.Template.{Template}
 
@@ -100,20 +100,20 @@ split_at_number name n es below rest old ahead named behind parts above from sor
 
 -- ---- a line, of what it is filled in
 
-line_of_parts : (start resource records opened list ms end body text value close over scope file id line number last : List ℕ)
-    → (start ++ resource ++ (records ++ (opened ++ list)) ++ ms ++ (end ++ (body ++ text))) ++ value ++ (close ++ ((over ++ (scope ++ file)) ++ id ++ line)) ++ (number ++ last)
-    ≡ (start ++ resource ++ records ++ (opened ++ (list ++ ms ++ end) ++ (body ++ (text ++ value ++ close)) ++ [] ++ [] ++ [] ++ over) ++ scope) ++ (file ++ id ++ line ++ number ++ last)
-line_of_parts start resource records opened list ms end body text value close over scope file id line number last = simp append_assoc
+line_of_parts : (start resource records opened list ms end body text value close observed over scope file id line number last : List ℕ)
+    → (start ++ resource ++ (records ++ (opened ++ list)) ++ ms ++ (end ++ (body ++ text))) ++ value ++ (close ++ observed ++ ((over ++ (scope ++ file)) ++ id ++ line)) ++ (number ++ last)
+    ≡ (start ++ resource ++ records ++ (opened ++ (list ++ ms ++ end) ++ (body ++ (text ++ value ++ close)) ++ observed ++ [] ++ [] ++ [] ++ over) ++ scope) ++ (file ++ id ++ line ++ number ++ last)
+line_of_parts start resource records opened list ms end body text value close observed over scope file id line number last = simp append_assoc
 
-pub filled_in : (id : ℕ) (resource attributes : Members) (name : Option (List ℕ)) (template : Template)
+pub filled_in : (id : ℕ) (observed : Option ℕ) (resource attributes : Members) (name : Option (List ℕ)) (template : Template)
     → ((n : ℕ) → template.front.items ++ number_text template.numbered template.behind.items n
     ≡ codes "{\"resourceLogs\":[{\"resource\":{\"attributes\":" ++ attributes_text resource ++ codes "},\"scopeLogs\":[{\"logRecords\":[{\"attributes\":[" ++ members_text [] (numbered name n attributes) ++ codes "],\"body\":{\"stringValue\":\"")
-    → template.back.items ≡ codes "\"}" ++ scope_text id
-    → IsTemplate id resource attributes name template
+    → template.back.items ≡ codes "\"}" ++ observed_text observed ++ scope_text id
+    → IsTemplate id observed resource attributes name template
 unfolding output_line line_front line_tail record_text scope_text
-filled_in id resource attributes name template whole back = record {
+filled_in id observed resource attributes name template whole back = record {
   lines = λ number n body.
       ap (λ t. t ++ escaped body ++ template.back.items ++ end_text number) (whole n)
       ∙ ap (λ t. codes "{\"resourceLogs\":[{\"resource\":{\"attributes\":" ++ attributes_text resource ++ codes "},\"scopeLogs\":[{\"logRecords\":[{\"attributes\":[" ++ members_text [] (numbered name n attributes) ++ codes "],\"body\":{\"stringValue\":\"" ++ escaped body ++ t ++ end_text number) back
-      ∙ line_of_parts (codes "{\"resourceLogs\":[{\"resource\":{\"attributes\":") (attributes_text resource) (codes "},\"scopeLogs\":[{\"logRecords\":[") (codes "{\"attributes\":") (codes "[") (members_text [] (numbered name n attributes)) (codes "]") (codes ",\"body\":") (codes "{\"stringValue\":\"") (escaped body) (codes "\"}") (codes "}") (codes "],\"scope\":{\"attributes\":[{\"key\":") (codes "\"agent.file\",\"value\":{\"intValue\":\"") (decimal id) (codes "\"}},{\"key\":\"agent.line\",\"value\":{\"intValue\":\"") (decimal number) (codes "\"}}],\"name\":\"stanza_agent\"}}]}]}\n");
+      ∙ line_of_parts (codes "{\"resourceLogs\":[{\"resource\":{\"attributes\":") (attributes_text resource) (codes "},\"scopeLogs\":[{\"logRecords\":[") (codes "{\"attributes\":") (codes "[") (members_text [] (numbered name n attributes)) (codes "]") (codes ",\"body\":") (codes "{\"stringValue\":\"") (escaped body) (codes "\"}") (observed_text observed) (codes "}") (codes "],\"scope\":{\"attributes\":[{\"key\":") (codes "\"agent.file\",\"value\":{\"intValue\":\"") (decimal id) (codes "\"}},{\"key\":\"agent.line\",\"value\":{\"intValue\":\"") (decimal number) (codes "\"}}],\"name\":\"stanza_agent\"}}]}]}\n");
 }

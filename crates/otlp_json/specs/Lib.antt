@@ -2,6 +2,7 @@ pub mod Escaped
 pub mod HasFront
 pub mod IsOneLine
 pub mod IsOf64Bits
+pub mod ObservedTime
 pub mod OutputLine
 pub mod OutputLines
 pub mod RecordText

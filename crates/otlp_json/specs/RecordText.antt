@@ -23,15 +23,28 @@ abbrev pub severity_name_text : List ℕ → List ℕ
 severity_name_text [] = []
 severity_name_text (first ∷ rest) = codes ",\"severityText\":\"" ++ escaped (first ∷ rest) ++ codes "\""
 
--- the member `timeUnixNano`, a 64-bit integer, left out where there is none
-abbrev pub time_text : Option ℕ → List ℕ
-time_text None = []
-time_text (Some nanoseconds) = codes ",\"timeUnixNano\":\"" ++ decimal nanoseconds ++ codes "\""
+-- a member that is a 64-bit integer, behind the text that opens it, left out where there is none
+abbrev pub nanoseconds_text : List ℕ → Option ℕ → List ℕ
+nanoseconds_text opening None = []
+nanoseconds_text opening (Some nanoseconds) = opening ++ decimal nanoseconds ++ codes "\""
 
-unfoldable pub record_text : LogRecord → List ℕ
-record_text entry =
+-- the member `observedTimeUnixNano`, and what opens it
+abbrev pub observed_opening : List ℕ
+observed_opening = codes ",\"observedTimeUnixNano\":\""
+
+abbrev pub observed_text : Option ℕ → List ℕ
+observed_text observed = nanoseconds_text observed_opening observed
+
+-- the member `timeUnixNano`
+abbrev pub time_text : Option ℕ → List ℕ
+time_text time = nanoseconds_text (codes ",\"timeUnixNano\":\"") time
+
+-- `observed` is when the record was read, where that is told
+unfoldable pub record_text : Option ℕ → LogRecord → List ℕ
+record_text observed entry =
     codes "{\"attributes\":" ++ attributes_text entry.attributes
     ++ body_text entry.body
+    ++ observed_text observed
     ++ severity_number_text entry.severity
     ++ severity_name_text entry.severity_text
     ++ time_text entry.timestamp

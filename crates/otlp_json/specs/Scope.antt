@@ -1,22 +1,23 @@
 -- A line in three parts: what it tells of its entry, what the lines of a file share, and what follows from its number on.
-use Rattle.std.specs.Prelude.{ℕ, List, ◌++◌, codes, decimal}
+use Rattle.std.specs.Prelude.{ℕ, List, ◌++◌, Option, codes, decimal}
 use Rattle.entry_model.specs.LogRecord.{LogRecord}
-use Rattle.otlp_json.specs.RecordText.{attributes_text, body_text, severity_number_text, severity_name_text, time_text}
+use Rattle.otlp_json.specs.RecordText.{attributes_text, body_text, severity_number_text, severity_name_text, observed_text, time_text}
 
 -- the record from its first member's value on, without the closing brace
-unfoldable pub record_members : LogRecord → List ℕ
-record_members entry =
+unfoldable pub record_members : Option ℕ → LogRecord → List ℕ
+record_members observed entry =
     attributes_text entry.attributes
     ++ body_text entry.body
+    ++ observed_text observed
     ++ severity_number_text entry.severity
     ++ severity_name_text entry.severity_text
     ++ time_text entry.timestamp
 
 -- up to the record's closing brace
-unfoldable pub entry_text : LogRecord → List ℕ
-entry_text entry =
+unfoldable pub entry_text : Option ℕ → LogRecord → List ℕ
+entry_text observed entry =
     codes "{\"resourceLogs\":[{\"resource\":{\"attributes\":" ++ attributes_text entry.resource
-    ++ codes "},\"scopeLogs\":[{\"logRecords\":[{\"attributes\":" ++ record_members entry
+    ++ codes "},\"scopeLogs\":[{\"logRecords\":[{\"attributes\":" ++ record_members observed entry
 
 -- from there up to the line's number
 unfoldable pub scope_text : ℕ → List ℕ

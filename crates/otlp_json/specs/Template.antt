@@ -1,4 +1,5 @@
--- The lines of texts that share their file, their resource and their attributes, but for the number of the record.
+-- The lines of texts that share their file, their observed time, their resource and their attributes, but for the
+-- number of the record.
 use Rattle.std.specs.Prelude.{◌≡◌, ℕ, pos, List, [], ◌∷◌, ◌++◌, Bool, if◌then◌else◌, Option, None, Some, codes, decimal}
 use Rattle.entry_model.specs.Datum.{text, int, Members}
 use Rattle.entry_model.specs.LogRecord.{LogRecord}
@@ -42,5 +43,5 @@ filled template number n body =
     template.front.items ++ number_text template.numbered template.behind.items n ++ escaped body ++ template.back.items ++ end_text number
 
 -- whatever the line's number, the record's number and the text are, what is filled in gives the line of that record
-pub record IsTemplate (id : ℕ) (resource attributes : Members) (name : Option (List ℕ)) (template : Template) : Type 0 where
-  pub lines : (number n : ℕ) (body : List ℕ) → filled template number n body ≡ output_line id number (text_record resource (numbered name n attributes) body)
+pub record IsTemplate (id : ℕ) (observed : Option ℕ) (resource attributes : Members) (name : Option (List ℕ)) (template : Template) : Type 0 where
+  pub lines : (number n : ℕ) (body : List ℕ) → filled template number n body ≡ output_line id number observed (text_record resource (numbered name n attributes) body)

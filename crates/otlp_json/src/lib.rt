@@ -28,47 +28,58 @@ use std::alloc::{AllocError, Global};
 pub use template::Template;
 
 /// Appends the line of an entry with its LF. `id` is the file's, and `number` the line's among the lines of that
-/// file, from 1.
+/// file, from 1. `observed` is when the entry was read, in nanoseconds since 1970; a line without it tells no such time.
 ///
 /// Fails where memory runs out, and `out` is then as it was. What it needs comes from the allocator of `out`.
 pub fn line(
     _alloc: Global,
     id: u32,
     number: u64,
+    observed: Option<u64>,
     entry: &Entry,
     out: &mut Vec<u8>,
 ) -> Result<(), AllocError>
     ensures ok { OnOk result (out.new.items
-        ≡ out.old.items ++ output_line id number (log_record entry.now)) }
+        ≡ out.old.items ++ output_line id number observed (log_record entry.now)) }
     ensures err { OnErr result (out.new.items ≡ out.old.items) }
 {
     let len = out.len();
-    let written = append_line(id, number, entry, out);
+    let written = append_line(id, number, observed, entry, out);
     if written.is_err() {
         out.truncate(len);
     }
     written
 }
 
-fn append_line(id: u32, number: u64, entry: &Entry, out: &mut Vec<u8>) -> Result<(), AllocError>
+fn append_line(
+    id: u32,
+    number: u64,
+    observed: Option<u64>,
+    entry: &Entry,
+    out: &mut Vec<u8>,
+) -> Result<(), AllocError>
     ensures ok { OnOk result (out.new.items
-        ≡ out.old.items ++ output_line id number (log_record entry.now)) }
+        ≡ out.old.items ++ output_line id number observed (log_record entry.now)) }
     ensures front { HasFront out.old.items out.new.items }
 {
-    append_entry(entry, out)?;
+    append_entry(observed, entry, out)?;
     append_scope(id, out)?;
     append_end(number, out)
 }
 
 // Up to the record's closing brace.
-pub(crate) fn append_entry(entry: &Entry, out: &mut Vec<u8>) -> Result<(), AllocError>
-    ensures ok { OnOk result (out.new.items ≡ out.old.items ++ entry_text (log_record entry.now)) }
+pub(crate) fn append_entry(
+    observed: Option<u64>,
+    entry: &Entry,
+    out: &mut Vec<u8>,
+) -> Result<(), AllocError>
+    ensures ok { OnOk result (out.new.items ≡ out.old.items ++ entry_text observed (log_record entry.now)) }
     ensures front { HasFront out.old.items out.new.items }
 {
     out.extend_from_slice(b"{\"resourceLogs\":[{\"resource\":{\"attributes\":")?;
     record::append_attributes(&entry.resource, out)?;
     out.extend_from_slice(b"},\"scopeLogs\":[{\"logRecords\":[{\"attributes\":")?;
-    record::append_record_members(entry, out)
+    record::append_record_members(observed, entry, out)
 }
 
 // From the record's closing brace up to the line's number.

@@ -4,7 +4,7 @@ ghost use Rattle.entry_model.specs.Datum.{datum};
 ghost use Rattle.entry_model.specs.LogRecord.{log_record, members_in};
 ghost use Rattle.field_paths.specs.MapOf.{members_seen};
 ghost use Rattle.otlp_json.specs.HasFront.{HasFront};
-ghost use Rattle.otlp_json.specs.RecordText.{attributes_text, body_text, severity_number_text, severity_name_text, time_text};
+ghost use Rattle.otlp_json.specs.RecordText.{attributes_text, body_text, severity_number_text, severity_name_text, nanoseconds_text};
 ghost use Rattle.otlp_json.specs.Scope.{record_members};
 
 use crate::string::{append_decimal, append_escaped};
@@ -13,15 +13,20 @@ use entry_model::{Entry, Fields, Value};
 use std::alloc::AllocError;
 
 /// From the first member's value on, without the closing brace.
-pub fn append_record_members(entry: &Entry, out: &mut Vec<u8>) -> Result<(), AllocError>
-    ensures ok { OnOk result (out.new.items ≡ out.old.items ++ record_members (log_record entry.now)) }
+pub fn append_record_members(
+    observed: Option<u64>,
+    entry: &Entry,
+    out: &mut Vec<u8>,
+) -> Result<(), AllocError>
+    ensures ok { OnOk result (out.new.items ≡ out.old.items ++ record_members observed (log_record entry.now)) }
     ensures front { HasFront out.old.items out.new.items }
 {
     append_attributes(&entry.attributes, out)?;
     append_body(&entry.body, out)?;
+    append_nanoseconds(b",\"observedTimeUnixNano\":\"", observed, out)?;
     append_severity_number(entry.severity.number, out)?;
     append_severity_name(entry.severity_text.as_str(), out)?;
-    append_time(entry.timestamp, out)
+    append_nanoseconds(b",\"timeUnixNano\":\"", entry.timestamp, out)
 }
 
 pub fn append_attributes(attributes: &Value, out: &mut Vec<u8>) -> Result<(), AllocError>
@@ -88,14 +93,20 @@ fn append_severity_name(name: &str, out: &mut Vec<u8>) -> Result<(), AllocError>
     out.extend_from_slice(b"\"")
 }
 
-fn append_time(time: Option<u64>, out: &mut Vec<u8>) -> Result<(), AllocError>
-    ensures ok { OnOk result (out.new.items ≡ out.old.items ++ time_text time) }
+/// `opening` is what stands ahead of the time.
+#[inline(always)]
+pub fn append_nanoseconds(
+    opening: &[u8],
+    time: Option<u64>,
+    out: &mut Vec<u8>,
+) -> Result<(), AllocError>
+    ensures ok { OnOk result (out.new.items ≡ out.old.items ++ nanoseconds_text opening.now time) }
     ensures front { HasFront out.old.items out.new.items }
 {
     let Some(nanoseconds) = time else {
         return Ok(());
     };
-    out.extend_from_slice(b",\"timeUnixNano\":\"")?;
+    out.extend_from_slice(opening)?;
     append_decimal(nanoseconds, out)?;
     out.extend_from_slice(b"\"")
 }

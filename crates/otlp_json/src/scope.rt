@@ -40,25 +40,37 @@ impl Scope {
     /// Appends the line of an entry, as [`crate::line`] does. `number` is the line's among the lines of its file, from 1.
     ///
     /// Fails where memory runs out, and `out` is then as it was.
-    pub fn line(&self, number: u64, entry: &Entry, out: &mut Vec<u8>) -> Result<(), AllocError>
+    pub fn line(
+        &self,
+        number: u64,
+        observed: Option<u64>,
+        entry: &Entry,
+        out: &mut Vec<u8>,
+    ) -> Result<(), AllocError>
         ensures ok { OnOk result (out.new.items
-            ≡ out.old.items ++ output_line self.now number (log_record entry.now)) }
+            ≡ out.old.items ++ output_line self.now number observed (log_record entry.now)) }
         ensures err { OnErr result (out.new.items ≡ out.old.items) }
     {
         let len = out.len();
-        let written = self.append_line(number, entry, out);
+        let written = self.append_line(number, observed, entry, out);
         if written.is_err() {
             out.truncate(len);
         }
         written
     }
 
-    fn append_line(&self, number: u64, entry: &Entry, out: &mut Vec<u8>) -> Result<(), AllocError>
+    fn append_line(
+        &self,
+        number: u64,
+        observed: Option<u64>,
+        entry: &Entry,
+        out: &mut Vec<u8>,
+    ) -> Result<(), AllocError>
         ensures ok { OnOk result (out.new.items
-            ≡ out.old.items ++ output_line self.now number (log_record entry.now)) }
+            ≡ out.old.items ++ output_line self.now number observed (log_record entry.now)) }
         ensures front { HasFront out.old.items out.new.items }
     {
-        append_entry(entry, out)?;
+        append_entry(observed, entry, out)?;
         out.extend_from_slice(&self.shared)?;
         append_end(number, out)
     }

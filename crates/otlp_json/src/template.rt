@@ -9,15 +9,15 @@ ghost use Rattle.otlp_json.specs.OutputLine.{output_line};
 ghost use Rattle.otlp_json.specs.Template.{IsTemplate, numbered, text_record, number_text, comma_behind, filled};
 ghost use Rattle.otlp_json.specs.ValueText.{members_text};
 
-use crate::record::append_fields;
+use crate::record::{append_fields, append_nanoseconds};
 use crate::string::{append_decimal, append_escaped};
 use crate::value::{append_members, append_opened_members};
 use crate::{append_end, append_scope};
 use entry_model::{Fields, Text};
 use std::alloc::{AllocError, Global};
 
-/// What the lines of texts share that are of one file and have the same resource and attributes, but for the record's
-/// number among these.
+/// What the lines of texts share that are of one file and have the same observed time, resource and attributes, but for
+/// the record's number among these.
 #[derive(Drop)]
 pub struct Template {
     /// Up to the record's number, or to the text where the records have none.
@@ -30,15 +30,16 @@ pub struct Template {
 }
 
 impl Template {
-    /// `id` is the file's. Where the records have a number, it is the attribute with this name, whatever else had the name.
+    /// `id` is the file's, and `observed` is as in [`crate::line`]. Where the records have a number, it is the attribute with this name, whatever else had the name.
     pub fn new(
         alloc: Global,
         id: u32,
+        observed: Option<u64>,
         resource: &Fields,
         attributes: Fields,
         number: Option<Text>,
     ) -> Result<Template, AllocError>
-        ensures { IfOk result (IsTemplate id (members_seen resource.now.entries) (members_seen attributes.entries) number) }
+        ensures { IfOk result (IsTemplate id observed (members_seen resource.now.entries) (members_seen attributes.entries) number) }
     {
         let mut front = Vec::new(alloc);
         front.extend_from_slice(b"{\"resourceLogs\":[{\"resource\":{\"attributes\":")?;
@@ -48,6 +49,7 @@ impl Template {
         let behind = append_attributes(alloc, attributes, number, &mut front)?;
         let mut back = Vec::new(alloc);
         back.extend_from_slice(b"\"}")?;
+        append_nanoseconds(b",\"observedTimeUnixNano\":\"", observed, &mut back)?;
         append_scope(id, &mut back)?;
         Ok(Template {
             front,
@@ -68,9 +70,9 @@ impl Template {
         text: &str,
         out: &mut Vec<u8>,
     ) -> Result<(), AllocError>
-        ensures ok { OnOk result ((id : ℕ) (resource attributes : Members) (name : Option (List ℕ))
-            → IsTemplate id resource attributes name self.now
-            → out.new.items ≡ out.old.items ++ output_line id number (text_record resource (numbered name record_number attributes) text.now)) }
+        ensures ok { OnOk result ((id : ℕ) (observed : Option ℕ) (resource attributes : Members) (name : Option (List ℕ))
+            → IsTemplate id observed resource attributes name self.now
+            → out.new.items ≡ out.old.items ++ output_line id number observed (text_record resource (numbered name record_number attributes) text.now)) }
         ensures err { OnErr result (out.new.items ≡ out.old.items) }
     {
         let len = out.len();

@@ -1,5 +1,5 @@
 -- What `list` answers, and what it adds to the history.
-use Rattle.std.specs.Prelude.{◌≡◌, ℕ, List, [], ◌∷◌, ◌++◌, Bool, false, ◌||◌, if◌then◌else◌, Option, None, Some, is_some, Result, Ok, Err, map, IsTrue, ◌↔◌, Contains}
+use Rattle.std.specs.Prelude.{◌≡◌, ℕ, List, [], ◌∷◌, ◌++◌, Bool, false, ◌||◌, if◌then◌else◌, Option, None, Some, is_some, option_map, Result, Ok, Err, map, IsTrue, ◌↔◌, Contains}
 use Rattle.std.specs.List.{list_any, IsDistinct}
 use Rattle.std.specs.Str.{bytes_eq}
 use Rattle.outside.specs.Count.{raised}
@@ -47,3 +47,13 @@ abbrev pub nameless_after : Result Listed CallFault → ℕ → ℕ
 nameless_after (Ok (Items _ unnamed)) count = raised count unnamed
 nameless_after (Ok Gone) count = count
 nameless_after (Err _) count = count
+
+-- the folder, whatever was answered but that memory ran out
+abbrev pub newly_listed : List ℕ → Result Listed CallFault → List (List ℕ)
+newly_listed folder (Ok _) = folder ∷ []
+newly_listed folder (Err Failed) = folder ∷ []
+newly_listed folder (Err Memory) = []
+
+-- it was put in front
+abbrev pub listed_after : List ℕ → Result Listed CallFault → Option (List (List ℕ)) → Option (List (List ℕ))
+listed_after folder result listed = option_map (λ folders. newly_listed folder result ++ folders) listed

@@ -1,5 +1,5 @@
 -- What a tree means: the world that it tells, and its counts.
-use Rattle.std.specs.Prelude.{ℕ, Option}
+use Rattle.std.specs.Prelude.{ℕ, List, Option}
 use Rattle.outside.specs.World.{World}
 use Rattle.outside.specs.Plan.{Plan}
 
@@ -18,3 +18,6 @@ pub record TreeMeaning (T : Type 0) : Type 1 where
   pub nameless : T → ℕ
   -- the length of the longest buffer that a read was given, where the tree tells it
   pub widest : T → Option ℕ
+  -- The folders for which `list` was called, the newest first, where the tree tells them. A call for which memory ran out isn't
+  -- among them.
+  pub listed : T → Option (List (List ℕ))

@@ -63,7 +63,7 @@ pub trait Tree {
 
     ghost meaning: { TreeMeaning Self };
 
-    ghost use Rattle.outside.specs.Listing.{Lists, nameless_after};
+    ghost use Rattle.outside.specs.Listing.{Lists, listed_after, nameless_after};
     ghost use Rattle.outside.specs.Opening.{Opens, IsSize};
     ghost use Rattle.outside.specs.Reading.{Reads, taken_after, widest_after};
     ghost use Rattle.outside.specs.Closing.{Closes};
@@ -75,6 +75,7 @@ pub trait Tree {
         ensures nameless { (meaning).nameless self.new ≡ nameless_after result ((meaning).nameless self.old) }
         ensures taken { (meaning).taken self.new ≡ (meaning).taken self.old }
         ensures widest { (meaning).widest self.new ≡ (meaning).widest self.old }
+        ensures listed { (meaning).listed self.new ≡ listed_after folder.now result ((meaning).listed self.old) }
         ensures plan { (meaning).plan self.new ≡ (meaning).plan self.old }
         ensures bound { (meaning).bound self.new ≡ (meaning).bound self.old };
 
@@ -86,6 +87,7 @@ pub trait Tree {
         ensures nameless { (meaning).nameless self.new ≡ (meaning).nameless self.old }
         ensures taken { (meaning).taken self.new ≡ (meaning).taken self.old }
         ensures widest { (meaning).widest self.new ≡ (meaning).widest self.old }
+        ensures listed { (meaning).listed self.new ≡ (meaning).listed self.old }
         ensures plan { (meaning).plan self.new ≡ (meaning).plan self.old }
         ensures bound { (meaning).bound self.new ≡ (meaning).bound self.old };
 
@@ -98,6 +100,7 @@ pub trait Tree {
         ensures nameless { (meaning).nameless self.new ≡ (meaning).nameless self.old }
         ensures taken { (meaning).taken self.new ≡ taken_after result ((meaning).taken self.old) }
         ensures widest { (meaning).widest self.new ≡ widest_after (length buf.new) ((meaning).widest self.old) }
+        ensures listed { (meaning).listed self.new ≡ (meaning).listed self.old }
         ensures plan { (meaning).plan self.new ≡ (meaning).plan self.old }
         ensures bound { (meaning).bound self.new ≡ (meaning).bound self.old };
 
@@ -108,6 +111,7 @@ pub trait Tree {
         ensures nameless { (meaning).nameless self.new ≡ (meaning).nameless self.old }
         ensures taken { (meaning).taken self.new ≡ (meaning).taken self.old }
         ensures widest { (meaning).widest self.new ≡ (meaning).widest self.old }
+        ensures listed { (meaning).listed self.new ≡ (meaning).listed self.old }
         ensures plan { (meaning).plan self.new ≡ (meaning).plan self.old }
         ensures bound { (meaning).bound self.new ≡ (meaning).bound self.old };
 

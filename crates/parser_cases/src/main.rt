@@ -48,6 +48,8 @@ fn answer(alloc: Global, call: &str, words: &str, text: &str) -> Result<String, 
     match call {
         "layout" => times::layout(alloc, text),
         "time" => times::time(alloc, words, text),
+        "go_layout" => times::go_layout(alloc, text),
+        "gotime" => times::go_time(alloc, words, text),
         "rfc3339" => times::rfc3339_time(alloc, words, text),
         "epoch" => times::epoch(alloc, words, text),
         "count" => times::count(alloc, words, text),

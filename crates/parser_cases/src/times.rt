@@ -22,6 +22,26 @@ pub fn time(alloc: Global, words: &str, text: &str) -> Result<String, AllocError
     }
 }
 
+/// `go_layout`, with a layout of Go's as the input: whether it is read, or its fault.
+pub fn go_layout(alloc: Global, text: &str) -> Result<String, AllocError> {
+    match Layout::read_go(alloc, text, 0) {
+        Ok(_) => String::from_str(alloc, "read"),
+        Err(fault) => format!(in alloc; "{fault:?}"),
+    }
+}
+
+/// `gotime LOCATION LAYOUT`, with a text as the input, and the location in seconds east of UTC.
+pub fn go_time(alloc: Global, words: &str, text: &str) -> Result<String, AllocError> {
+    let (location, spelling) = words.split_once(' ').unwrap_or((words, ""));
+    let Ok(location) = location.parse::<i32>() else {
+        return String::from_str(alloc, "no location");
+    };
+    match Layout::read_go(alloc, spelling, location) {
+        Ok(layout) => instant(alloc, layout.instant(text)),
+        Err(fault) => format!(in alloc; "{fault:?}"),
+    }
+}
+
 /// `rfc3339 DIGITS`, with a time as the input, and the greatest number of a fraction's digits.
 pub fn rfc3339_time(alloc: Global, words: &str, text: &str) -> Result<String, AllocError> {
     match words.parse::<u8>() {

@@ -113,17 +113,17 @@ one_more_fine operators place fine next k within = elim (cases_lt k place) [
 -- the operator at this place can't be made
 pub refused : (operators : List OpSpec) (place : ℕ) (spec : OpSpec) (found : OpCause) → ((k : ℕ) → k < place → IsFineAt operators k) → slice_get operators place ≡ Some spec → is_taken spec.id (ids_before operators place) ≡ false
     → Caused (readings spec) found → IsOperatorFault operators (refusal place found)
-refused operators place spec cause.Path fine there new_id given =
-    let some : cause.Path ≢ cause.Memory = λ is. cc is in
+refused operators place spec (cause.Path at) fine there new_id given =
+    let some : cause.Path at ≢ cause.Memory = λ is. cc is in
     (some, record { fine_before = fine; spec = spec; there = there; new_id = new_id; faulty = given some })
-refused operators place spec cause.Expr fine there new_id given =
-    let some : cause.Expr ≢ cause.Memory = λ is. cc is in
+refused operators place spec (cause.Expr at) fine there new_id given =
+    let some : cause.Expr at ≢ cause.Memory = λ is. cc is in
     (some, record { fine_before = fine; spec = spec; there = there; new_id = new_id; faulty = given some })
 refused operators place spec cause.Pattern fine there new_id given =
     let some : cause.Pattern ≢ cause.Memory = λ is. cc is in
     (some, record { fine_before = fine; spec = spec; there = there; new_id = new_id; faulty = given some })
-refused operators place spec cause.Layout fine there new_id given =
-    let some : cause.Layout ≢ cause.Memory = λ is. cc is in
+refused operators place spec (cause.Layout at) fine there new_id given =
+    let some : cause.Layout at ≢ cause.Memory = λ is. cc is in
     (some, record { fine_before = fine; spec = spec; there = there; new_id = new_id; faulty = given some })
 refused operators place spec cause.NoNames fine there new_id given =
     let some : cause.NoNames ≢ cause.Memory = λ is. cc is in
@@ -206,7 +206,7 @@ one_network operators network other is also = is.is ∙ same_networks operators 
 -- why operators give no network is why their settings give no pipeline, where the globs and the pattern of lines are read
 pub operators_refused : (settings : Settings) (found : BuildFault) → AreGlobs settings.include → AreGlobs settings.exclude → HasPattern settings.multiline
     → IsOperatorFault settings.operators found → IsBuildFault settings found
-operators_refused settings (fault.Glob exclude place) include exclude_too pattern is = absurd is
+operators_refused settings (fault.Glob exclude place at) include exclude_too pattern is = absurd is
 operators_refused settings fault.Multiline include exclude pattern is = absurd is
 operators_refused settings (fault.SameId place) include exclude pattern is = (include, (exclude, (pattern, is)))
 operators_refused settings (fault.Operator place cause) include exclude pattern is = (include, (exclude, (pattern, is)))

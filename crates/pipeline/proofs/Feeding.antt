@@ -2,26 +2,25 @@
 use Rattle.std.proofs.Common.{◌≡◌, ℕ, ◌+◌, ◌<◌, List, [], ◌∷◌, ◌++◌, length, drop, refl, sym, ◌∙◌, ap, subst, arith, append_assoc, length-append}
 use Rattle.std.proofs.lemmas.List.{append-nil, map-append}
 use Rattle.std.proofs.lemmas.List.Sums.{sum_by-cons}
-use Rattle.std.specs.Prelude.{Option}
+use Rattle.std.specs.Prelude.{Option, None}
 use Rattle.entry_model.specs.LogRecord.{LogRecord}
 use Rattle.graph_core.specs.declared.Target.{Target}
 use Rattle.graph_core.specs.Traces.{Network, states_after, outputs, start_states, inputs, Served}
 use Rattle.op_kinds.specs.Kept.{Kept}
-use Rattle.line_splitter.specs.Cuts.{Cut}
-use Rattle.line_splitter.specs.Cuts.{texts, used_by}
+use Rattle.line_splitter.specs.Cuts.{Cut, cuts, texts, used_by}
 use Rattle.otlp_json.specs.OutputLines.{output_lines}
 use Rattle.pipeline.specs.Entries.{records_of, record_with, records_behind, text_of}
 use Rattle.pipeline.specs.Fed.{Fed, GoesOn}
 use Rattle.pipeline.specs.GraphOutput.{graph_output, kept_from, given_from, StandsFor}
 use Rattle.pipeline.specs.NextToken.{BeginsWith}
-use Rattle.pipeline.specs.Tokens.{first_cut_of, cuts_of, tokens_of, used_of}
 use Rattle.pipeline.specs.declared.state.FileState.{FileState}
 use Rattle.settings_text.specs.declared.settings.Settings.{Settings}
 
 -- the laws of lines in a row and of requests after requests, as the crates that make them state them
 pub record LineLaws : Type 0 where
-  pub none : (id number : ℕ) → output_lines id number [] ≡ []
-  pub append : (id number : ℕ) (front back : List LogRecord) → output_lines id number (front ++ back) ≡ output_lines id number front ++ output_lines id (number + length front) back
+  pub none : (id number : ℕ) (observed : Option ℕ) → output_lines id number observed [] ≡ []
+  pub append : (id number : ℕ) (observed : Option ℕ) (front back : List LogRecord)
+      → output_lines id number observed (front ++ back) ≡ output_lines id number observed front ++ output_lines id (number + length front) observed back
 
 pub record GraphLaws (network : Network Kept LogRecord) : Type 0 where
   pub begin : (from : List Kept) (before : List LogRecord) → Served network from before (inputs network []) from before
@@ -48,7 +47,7 @@ module _ (settings : Settings) (network : Network Kept LogRecord) (path : List �
     served = graph.begin state.states.items [];
     records = omega arith;
     lines = omega arith;
-    written = sym (append-nil out) ∙ ap (λ t. out ++ t) (sym (lines.none id (state.lines + 1)));
+    written = sym (append-nil out) ∙ ap (λ t. out ++ t) (sym (lines.none id (state.lines + 1) None));
   }
 
   pub fed_then : (laws : LineLaws) (id : ℕ) (a b : List (List ℕ)) (s m t : FileState) (o q r : List ℕ) → Fed settings network id path a s m o q → Fed settings network id path b m t q r → Fed settings network id path (a ++ b) s t o r
@@ -68,9 +67,9 @@ module _ (settings : Settings) (network : Network Kept LogRecord) (path : List �
         records = omega (arith, first.records, next.records, length-append a b);
         lines = omega (arith, first.lines, next.lines, length-append first.made next.made);
         written =
-            next.written ∙ ap (λ x. x ++ output_lines id (m.lines + 1) next.made) first.written
-            ∙ append_assoc o (output_lines id (s.lines + 1) first.made) (output_lines id (m.lines + 1) next.made)
-            ∙ ap (λ x. o ++ x) (ap (λ n. output_lines id (s.lines + 1) first.made ++ output_lines id n next.made) (omega (arith, first.lines)) ∙ sym (laws.append id (s.lines + 1) first.made next.made));
+            next.written ∙ ap (λ x. x ++ output_lines id (m.lines + 1) None next.made) first.written
+            ∙ append_assoc o (output_lines id (s.lines + 1) None first.made) (output_lines id (m.lines + 1) None next.made)
+            ∙ ap (λ x. o ++ x) (ap (λ n. output_lines id (s.lines + 1) None first.made ++ output_lines id n None next.made) (omega (arith, first.lines)) ∙ sym (laws.append id (s.lines + 1) None first.made next.made));
       }
 
   pub goes_on : (id : ℕ) (earlier more : List (List ℕ)) (s t : FileState) (o r : List ℕ) → StandsFor settings network path earlier s → Fed settings network id path more s t o r → GoesOn settings network id path earlier more t o r
@@ -89,31 +88,31 @@ module _ (settings : Settings) (network : Network Kept LogRecord) (path : List �
         };
         made = fed.made;
         past = past;
-        written = fed.written ∙ ap (λ n. o ++ output_lines id (n + 1) fed.made) stands.lines;
+        written = fed.written ∙ ap (λ n. o ++ output_lines id (n + 1) None fed.made) stands.lines;
       }
 
 -- some tokens of the bytes were fed, and those of the rest are left
-pub record FeedsOn (settings : Settings) (network : Network Kept LogRecord) (id : ℕ) (path bytes rest : List ℕ) (at : ℕ) (before after : FileState) (out grown : List ℕ) : Type 0 where
+pub record FeedsOn (settings : Settings) (network : Network Kept LogRecord) (first : List ℕ → Option Cut) (id : ℕ) (path bytes rest : List ℕ) (at : ℕ) (before after : FileState) (out grown : List ℕ) : Type 0 where
   pub done : List (List ℕ)
-  pub left : tokens_of settings bytes ≡ done ++ tokens_of settings rest
-  pub used_so_far : used_of settings bytes ≡ at + used_of settings rest
+  pub left : texts (cuts first bytes) ≡ done ++ texts (cuts first rest)
+  pub used_so_far : used_by (cuts first bytes) ≡ at + used_by (cuts first rest)
   pub fed : Fed settings network id path done before after out grown
 
-module _ (settings : Settings) (network : Network Kept LogRecord) (id : ℕ) (path : List ℕ) (graph : GraphLaws network) (laws : LineLaws) (bytes : List ℕ) (s : FileState) (o : List ℕ) where
-  pub feeds_from_start : FeedsOn settings network id path bytes bytes 0 s s o o
+module _ (settings : Settings) (network : Network Kept LogRecord) (first : List ℕ → Option Cut) (id : ℕ) (path : List ℕ) (graph : GraphLaws network) (laws : LineLaws) (bytes : List ℕ) (s : FileState) (o : List ℕ) where
+  pub feeds_from_start : FeedsOn settings network first id path bytes bytes 0 s s o o
   feeds_from_start = record { done = []; left = refl; used_so_far = omega arith; fed = fed_none settings network path graph laws id s o }
 
-  pub feeds_token : (rest : List ℕ) (at : ℕ) (c : Cut) (m t : FileState) (q r : List ℕ) → BeginsWith (first_cut_of settings) rest c → FeedsOn settings network id path bytes rest at s m o q → Fed settings network id path (c.text ∷ []) m t q r → FeedsOn settings network id path bytes (drop c.used rest) (at + c.used) s t o r
+  pub feeds_token : (rest : List ℕ) (at : ℕ) (c : Cut) (m t : FileState) (q r : List ℕ) → BeginsWith first rest c → FeedsOn settings network first id path bytes rest at s m o q → Fed settings network id path (c.text ∷ []) m t q r → FeedsOn settings network first id path bytes (drop c.used rest) (at + c.used) s t o r
   feeds_token rest at c m t q r begins so_far next = record {
     done = so_far.done ++ c.text ∷ [];
-    left = so_far.left ∙ ap (λ cs. so_far.done ++ texts cs) begins.cuts_follow ∙ sym (append_assoc so_far.done (c.text ∷ []) (tokens_of settings (drop c.used rest)));
-    used_so_far = omega (arith, so_far.used_so_far, ap used_by begins.cuts_follow, sum_by-cons (λ (d : Cut). d.used) c (cuts_of settings (drop c.used rest)));
+    left = so_far.left ∙ ap (λ cs. so_far.done ++ texts cs) begins.cuts_follow ∙ sym (append_assoc so_far.done (c.text ∷ []) (texts (cuts first (drop c.used rest))));
+    used_so_far = omega (arith, so_far.used_so_far, ap used_by begins.cuts_follow, sum_by-cons (λ (d : Cut). d.used) c (cuts first (drop c.used rest)));
     fed = fed_then settings network path graph laws id so_far.done (c.text ∷ []) s m t o q r so_far.fed next;
   }
 
-  pub feeds_all : (rest : List ℕ) (at : ℕ) (t : FileState) (r : List ℕ) → cuts_of settings rest ≡ [] → FeedsOn settings network id path bytes rest at s t o r → (at ≡ used_of settings bytes) × Fed settings network id path (tokens_of settings bytes) s t o r
+  pub feeds_all : (rest : List ℕ) (at : ℕ) (t : FileState) (r : List ℕ) → cuts first rest ≡ [] → FeedsOn settings network first id path bytes rest at s t o r → (at ≡ used_by (cuts first bytes)) × Fed settings network id path (texts (cuts first bytes)) s t o r
   feeds_all rest at t r ends so_far =
-      let all : so_far.done ≡ tokens_of settings bytes = sym (so_far.left ∙ ap (λ cs. so_far.done ++ texts cs) ends ∙ append-nil so_far.done) in
+      let all : so_far.done ≡ texts (cuts first bytes) = sym (so_far.left ∙ ap (λ cs. so_far.done ++ texts cs) ends ∙ append-nil so_far.done) in
       (omega (arith, so_far.used_so_far, ap used_by ends), subst (λ ts. Fed settings network id path ts s t o r) all so_far.fed)
 
 pub prefix_kept : (settings : Settings) (network : Network Kept LogRecord) → GraphLaws network → (path : List ℕ) (earlier more : List (List ℕ)) → (rest : List LogRecord) × (graph_output settings network path (earlier ++ more) ≡ graph_output settings network path earlier ++ rest)
@@ -150,7 +149,7 @@ record_one settings path before token some = append-nil _ ∙ by (text_of settin
 -- a token with a record, which went through the network
 pub one_fed : (settings : Settings) (network : Network Kept LogRecord) (id : ℕ) (path token : List ℕ) (record_of_it : LogRecord) (made : List LogRecord) (s t : FileState) (o r : List ℕ)
     → records_behind settings path s.records (token ∷ []) ≡ record_of_it ∷ [] → Served network s.states.items [] (inputs network (record_of_it ∷ [])) t.states.items made
-    → t.records ≡ s.records + 1 → t.lines ≡ s.lines + length made → r ≡ o ++ output_lines id (s.lines + 1) made → Fed settings network id path (token ∷ []) s t o r
+    → t.records ≡ s.records + 1 → t.lines ≡ s.lines + length made → r ≡ o ++ output_lines id (s.lines + 1) None made → Fed settings network id path (token ∷ []) s t o r
 one_fed settings network id path token record_of_it made s t o r one served records lines written = record {
   made = made;
   served = subst (λ rs. Served network s.states.items [] (inputs network rs) t.states.items made) (sym one) served;

@@ -21,8 +21,6 @@ read_before texts patterns place many each k other before there =
     let found = some_at patterns k (omega (arith, before, many)) in
     (found.0, each k other found.0 there found.1)
 
--- where reading told a fault of the syntax, there is no pattern
-pub no_pattern : (text read : List ℕ) (fault : GlobFault) (at : ℕ) → read ≡ text → fault ≡ Syntax at → IsReadFault (chars read) fault → (pattern : Pattern) → IsPatternOf text pattern → ⊥
-no_pattern text read fault at same is told =
-    let there : IsReadFault (chars text) (Syntax at) = subst (λ t. IsReadFault (chars t) (Syntax at)) same (subst (λ f. IsReadFault (chars read) f) is told) in
-    there.1.no_glob
+-- the fault that reading told is one of this text
+pub told_fault : (text read : List ℕ) (fault : GlobFault) (at : ℕ) → read ≡ text → fault ≡ Syntax at → IsReadFault (chars read) fault → IsReadFault (chars text) (Syntax at)
+told_fault text read fault at same is told = subst (λ t. IsReadFault (chars t) (Syntax at)) same (subst (λ f. IsReadFault (chars read) f) is told)

@@ -1,7 +1,7 @@
 -- What feeding does to the state of a row.
-use Rattle.std.proofs.Common.{◌≡◌, ℕ, zero, suc, ◌+◌, ◌<◌, get_or, arith, List, [], ◌∷◌, ◌++◌, Bool, true, false, length, map, refl, sym, ap, subst, ◌∙◌}
+use Rattle.std.proofs.Common.{◌≡◌, ℕ, zero, suc, ◌+◌, ◌<◌, get_or, arith, List, [], ◌∷◌, ◌++◌, true, length, refl, sym, ap, subst, ◌∙◌}
 use Rattle.std.proofs.Math.Seq.{drop-append_seam}
-use Rattle.std.specs.Prelude.{flat_map}
+use Rattle.std.specs.Prelude.{Option, None, flat_map}
 use Rattle.entry_model.specs.LogRecord.{LogRecord}
 use Rattle.graph_core.specs.Traces.{network_of, start_states, states_after, outputs, inputs}
 use Rattle.graph_core.specs.declared.NodeSpec.{NodeSpec}
@@ -29,12 +29,13 @@ use Rattle.state_codec.proofs.Numbers.{IsBytes, bytes_after}
 
 -- the law of lines in a row, as the crate that makes them states it
 pub record RowLines : Type 0 where
-  pub none : (id number : ℕ) → output_lines id number [] ≡ []
-  pub more : (id number : ℕ) (first : LogRecord) (rest : List LogRecord) → output_lines id number (first ∷ rest) ≡ output_line id number first ++ output_lines id (number + 1) rest
+  pub none : (id number : ℕ) (observed : Option ℕ) → output_lines id number observed [] ≡ []
+  pub more : (id number : ℕ) (observed : Option ℕ) (first : LogRecord) (rest : List LogRecord)
+      → output_lines id number observed (first ∷ rest) ≡ output_line id number observed first ++ output_lines id (number + 1) observed rest
 
-marks_are_lines : RowLines → (id number : ℕ) (made : List LogRecord) → output_lines id number made ≡ flat_map (λ (mark : Mark). output_line mark.id mark.number mark.entry) (numbered id number made)
-marks_are_lines laws id number [] = laws.none id number
-marks_are_lines laws id number (first ∷ rest) = laws.more id number first rest ∙ ap (λ t. output_line id number first ++ t) (marks_are_lines laws id (number + 1) rest)
+marks_are_lines : RowLines → (id number : ℕ) (made : List LogRecord) → output_lines id number None made ≡ flat_map (λ (mark : Mark). output_line mark.id mark.number None mark.entry) (numbered id number made)
+marks_are_lines laws id number [] = laws.none id number None
+marks_are_lines laws id number (first ∷ rest) = laws.more id number None first rest ∙ ap (λ t. output_line id number None first ++ t) (marks_are_lines laws id (number + 1) rest)
 
 pub row_fed : RowLines → (pipeline : Pipeline) (settings_text bytes : List ℕ) (row : Row) (before after : FileState) (out_before out_after : List ℕ) → IsStateOfRow pipeline row before
     → Fed (settings_of pipeline) (network pipeline) row.id row.path (tokens_of (settings_of pipeline) bytes) before after out_before out_after
@@ -63,7 +64,7 @@ row_fed laws pipeline settings_text bytes row before after out_before out_after 
       written =
           went.written
           ∙ ap (λ t. out_before ++ t)
-          (ap (λ n. output_lines row.id (n + 1) went.made) is.lines_are ∙ ap (λ (m : List LogRecord). output_lines row.id (row.lines + 1) m) given
+          (ap (λ n. output_lines row.id (n + 1) None went.made) is.lines_are ∙ ap (λ (m : List LogRecord). output_lines row.id (row.lines + 1) None m) given
           ∙ marks_are_lines laws row.id (row.lines + 1) (given_from settings net row.path row.records from tokens));
     }
 

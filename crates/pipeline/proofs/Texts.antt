@@ -10,7 +10,7 @@ use Rattle.op_kinds.specs.Operator.{Operator, behavior_of}
 use Rattle.otlp_json.specs.IsOneLine.{IsOneLine}
 use Rattle.otlp_json.specs.OutputLine.{output_line}
 use Rattle.otlp_json.specs.OutputLines.{output_lines}
-use Rattle.otlp_json.specs.Template.{IsTemplate, numbered, text_record}
+use Rattle.otlp_json.specs.Template.{numbered, text_record}
 use Rattle.otlp_json.specs.declared.template.Template.{Template}
 use Rattle.pipeline.specs.Entries.{with_asked, file_attributes, attributes_at, record_with, text_of}
 use Rattle.pipeline.specs.Fed.{Fed}
@@ -24,7 +24,7 @@ use Rattle.pipeline.proofs.Feeding.{record_one, one_fed}
 use Rattle.pipeline.proofs.StateKinds.{kinds}
 
 -- what a call's success gives
-pub on_ok : {E : Type 0} (r : Result (Unit {0}) E) (A B : Type 0) → OnOk r A → (A → B) → OnOk r B
+pub on_ok : {T E : Type 0} (r : Result T E) (A B : Type 0) → OnOk r A → (A → B) → OnOk r B
 on_ok (Ok _) A B given step = step given
 on_ok (Err _) A B given step = tt
 
@@ -56,15 +56,20 @@ record_of_text settings path n body =
 
 -- the line of one record
 pub record OneLine : Type 0 where
-  pub lines : (id number : ℕ) (item : LogRecord) → output_lines id number (item ∷ []) ≡ output_line id number item
+  pub lines : (id number : ℕ) (observed : Option ℕ) (item : LogRecord) → output_lines id number observed (item ∷ []) ≡ output_line id number observed item
 
-pub one_line : ((id number : ℕ) → output_lines id number [] ≡ []) → ((id number : ℕ) (first : LogRecord) (rest : List LogRecord) → output_lines id number (first ∷ rest) ≡ output_line id number first ++ output_lines id (number + 1) rest) → OneLine
-one_line none more = record { lines = λ id number item. more id number item [] ∙ ap (λ t. output_line id number item ++ t) (none id (number + 1)) ∙ append-nil (output_line id number item) }
+pub one_line : ((id number : ℕ) (observed : Option ℕ) → output_lines id number observed [] ≡ [])
+    → ((id number : ℕ) (observed : Option ℕ) (first : LogRecord) (rest : List LogRecord) → output_lines id number observed (first ∷ rest) ≡ output_line id number observed first ++ output_lines id (number + 1) observed rest)
+    → OneLine
+one_line none more = record {
+  lines = λ id number observed item.
+      more id number observed item [] ∙ ap (λ t. output_line id number observed item ++ t) (none id (number + 1) observed) ∙ append-nil (output_line id number observed item);
+}
 
 pub text_fed : (pipeline : Pipeline) (id : ℕ) (path token text : List ℕ) (template : Template) (s t : FileState) (o r : List ℕ) → OneLine
     → IsSource pipeline id path (Lines template) → HaveKinds pipeline s.states.items → text ≡ text_of (settings_of pipeline) token → 0 < length text
     → t.records ≡ s.records + 1 → t.lines ≡ s.lines + 1 → t.states.items ≡ s.states.items
-    → r ≡ o ++ output_line id (s.lines + 1) (text_record (settings_of pipeline).resource (numbered (number_name (settings_of pipeline)) (s.records + 1) (file_attributes (settings_of pipeline) path)) text)
+    → r ≡ o ++ output_line id (s.lines + 1) None (text_record (settings_of pipeline).resource (numbered (number_name (settings_of pipeline)) (s.records + 1) (file_attributes (settings_of pipeline) path)) text)
     → Fed (settings_of pipeline) (network pipeline) id path (token ∷ []) s t o r
 text_fed pipeline id path token text template s t o r one is have text_is some records lines states written =
     let settings = settings_of pipeline in
@@ -75,10 +80,10 @@ text_fed pipeline id path token text template s t o r one is have text_is some r
     (record_one settings path s.records token (subst (λ (body : List ℕ). 0 < length body) text_is some))
     (subst (λ (after : List Kept). Served (network pipeline) s.states.items [] (inputs (network pipeline) (item ∷ [])) after (item ∷ [])) (sym states) (through_none pipeline.graph s.states.items item is.0 have))
     records lines
-    (written ∙ ap (λ line. o ++ line) (ap (output_line id (s.lines + 1)) told ∙ sym (one.lines id (s.lines + 1) item)))
+    (written ∙ ap (λ line. o ++ line) (ap (output_line id (s.lines + 1) None) told ∙ sym (one.lines id (s.lines + 1) None item)))
 
 -- a line is no fewer bytes than one
-pub line_counted : (id number : ℕ) (item : LogRecord) (o r : List ℕ) (before after : ℕ) → IsOneLine (output_line id number item) → r ≡ o ++ output_line id number item → after ≡ before + 1
+pub line_counted : (id number : ℕ) (item : LogRecord) (o r : List ℕ) (before after : ℕ) → IsOneLine (output_line id number None item) → r ≡ o ++ output_line id number None item → after ≡ before + 1
     → after + length o ≤ before + length r
 line_counted id number item o r before after one written counted =
-    omega (arith, counted, ap length written, length-append o (output_line id number item), ap length one.ends, length-append one.content (10 ∷ []))
+    omega (arith, counted, ap length written, length-append o (output_line id number None item), ap length one.ends, length-append one.content (10 ∷ []))

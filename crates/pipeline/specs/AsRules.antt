@@ -1,5 +1,5 @@
 -- A built pipeline as rules: what the promises on polls know of it.
-use Rattle.std.specs.Prelude.{ℕ, ◌^◌, ℤ, pos, negsuc, List, [], ◌∷◌, Bool, true, false, ◌&&◌, nat_lt, Option, None, Some}
+use Rattle.std.specs.Prelude.{ℕ, ◌^◌, ℤ, pos, negsuc, List, Bool, true, false, ◌&&◌, nat_lt, Option, None, Some}
 use Rattle.entry_model.specs.Datum.{Datum, null, boolean, int, text, list, fields, Items, no_items, item, Members, no_members, member}
 use Rattle.entry_model.specs.LogRecord.{LogRecord}
 use Rattle.graph_core.specs.Traces.{start_states}
@@ -65,7 +65,7 @@ rules_of settings_text pipeline = record {
   state_after = λ path before state tokens. state_text (kept_from (settings_of pipeline) (network pipeline) path before (states_in (kinds_of pipeline.graph) state) tokens);
   fresh = states_spelling (start_states (network pipeline));
   is_state = is_state_text (kinds_of pipeline.graph);
-  line = λ mark. output_line mark.id mark.number mark.entry;
+  line = λ mark. output_line mark.id mark.number None mark.entry;
   fits = fits;
   include = pipeline.include.items;
   exclude = pipeline.exclude.items;

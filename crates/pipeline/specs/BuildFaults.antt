@@ -1,5 +1,5 @@
 -- Why settings give no pipeline.
-use Rattle.std.specs.Prelude.{◌≡◌, ◌≢◌, ⊤, ℕ, ◌<◌, ◌≤◌, List, length, take, false, true, Some, slice_get}
+use Rattle.std.specs.Prelude.{◌≡◌, ◌≢◌, ⊤, ℕ, ◌<◌, List, length, take, false, true, Some, slice_get}
 use Rattle.graph_core.specs.Faults.{IsCause}
 use Rattle.graph_core.specs.Wiring.{edges_of, wiring_of}
 use Rattle.graph_core.specs.declared.GraphFault.{GraphFault}
@@ -57,7 +57,7 @@ pub record HasGraphFault (operators : List OpSpec) (fault : GraphFault) : Type 0
   pub cause : IsCause (edges_of (wiring_of nodes)) fault
 
 abbrev pub IsOperatorFault : List OpSpec → BuildFault → Type 0
-IsOperatorFault operators (Glob exclude place) = ⊥
+IsOperatorFault operators (Glob exclude place at) = ⊥
 IsOperatorFault operators Multiline = ⊥
 IsOperatorFault operators (SameId place) = HasSameId operators place
 IsOperatorFault operators (RefusesOperator place found) = IsRefusal operators place found
@@ -69,8 +69,8 @@ AreGlobs texts = (patterns : List Pattern) × ArePatterns texts patterns
 
 -- The includes are read before the excludes, then comes the pattern of lines, and then the operators.
 abbrev pub IsBuildFault : Settings → BuildFault → Type 0
-IsBuildFault settings (Glob false place) = IsNoGlobAt settings.include place
-IsBuildFault settings (Glob true place) = AreGlobs settings.include × IsNoGlobAt settings.exclude place
+IsBuildFault settings (Glob false place at) = IsNoGlobAt settings.include place at
+IsBuildFault settings (Glob true place at) = AreGlobs settings.include × IsNoGlobAt settings.exclude place at
 IsBuildFault settings Multiline = AreGlobs settings.include × (AreGlobs settings.exclude × HasNoPattern settings.multiline)
 IsBuildFault settings Memory = ⊤
 IsBuildFault settings fault =
@@ -79,10 +79,10 @@ IsBuildFault settings fault =
 -- the fault that tells why the operator at a place can't be made
 abbrev pub refusal : ℕ → OpCause → BuildFault
 refusal place cause.Memory = Memory
-refusal place cause.Path = RefusesOperator place cause.Path
-refusal place cause.Expr = RefusesOperator place cause.Expr
+refusal place (cause.Path at) = RefusesOperator place (cause.Path at)
+refusal place (cause.Expr at) = RefusesOperator place (cause.Expr at)
 refusal place cause.Pattern = RefusesOperator place cause.Pattern
-refusal place cause.Layout = RefusesOperator place cause.Layout
+refusal place (cause.Layout at) = RefusesOperator place (cause.Layout at)
 refusal place cause.NoNames = RefusesOperator place cause.NoNames
 
 -- each operator can be made, where the texts in it can be read

@@ -1,5 +1,5 @@
 -- What feeding does, from any state.
-use Rattle.std.specs.Prelude.{◌≡◌, ℕ, ◌+◌, List, [], ◌++◌, length}
+use Rattle.std.specs.Prelude.{◌≡◌, ℕ, ◌+◌, List, [], ◌++◌, None, length}
 use Rattle.entry_model.specs.LogRecord.{LogRecord}
 use Rattle.graph_core.specs.Traces.{Network, inputs, Served}
 use Rattle.op_kinds.specs.Kept.{Kept}
@@ -15,11 +15,11 @@ pub record Fed (settings : Settings) (network : Network Kept LogRecord) (id : �
   pub served : Served network before.states.items [] (inputs network (records_behind settings path before.records tokens)) after.states.items made
   pub records : after.records ≡ before.records + length tokens
   pub lines : after.lines ≡ before.lines + length made
-  pub written : out_after ≡ out_before ++ output_lines id (before.lines + 1) made
+  pub written : out_after ≡ out_before ++ output_lines id (before.lines + 1) None made
 
 -- From a state that stands for some tokens, the lines past theirs were appended.
 pub record GoesOn (settings : Settings) (network : Network Kept LogRecord) (id : ℕ) (path : List ℕ) (earlier tokens : List (List ℕ)) (after : FileState) (out_before out_after : List ℕ) : Type 0 where
   pub stands : StandsFor settings network path (earlier ++ tokens) after
   pub made : List LogRecord
   pub past : graph_output settings network path (earlier ++ tokens) ≡ graph_output settings network path earlier ++ made
-  pub written : out_after ≡ out_before ++ output_lines id (length (graph_output settings network path earlier) + 1) made
+  pub written : out_after ≡ out_before ++ output_lines id (length (graph_output settings network path earlier) + 1) None made

@@ -12,3 +12,4 @@ pub mod GraphOutput
 pub mod Fed
 pub mod AsRules
 pub mod RowStates
+pub mod Closed

@@ -23,5 +23,5 @@ pub record IsShared (settings : Settings) (id : ℕ) (path : List ℕ) (shared :
 -- where there are no operators, the template is that of the file's lines; else what is shared is what its records share
 abbrev pub IsSource : Pipeline → ℕ → List ℕ → Source → Type 0
 IsSource pipeline id path (Lines template) =
-    (pipeline.graph ≡ []) × IsTemplate id (settings_of pipeline).resource (file_attributes (settings_of pipeline) path) (number_name (settings_of pipeline)) template
+    (pipeline.graph ≡ []) × IsTemplate id None (settings_of pipeline).resource (file_attributes (settings_of pipeline) path) (number_name (settings_of pipeline)) template
 IsSource pipeline id path (Entries shared) = IsShared (settings_of pipeline) id path shared

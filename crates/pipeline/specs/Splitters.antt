@@ -1,5 +1,5 @@
 -- What cuts the bytes of a file into tokens.
-use Rattle.std.specs.Prelude.{◌≡◌, ⊤, ℕ, true, false, List}
+use Rattle.std.specs.Prelude.{◌≡◌, ⊤, true, false}
 use Rattle.multiline.specs.Cutting.{Cutting, starting, ending}
 use Rattle.multiline.specs.Patterns.{is_pattern}
 use Rattle.pipeline.specs.declared.fault.BuildFault.{BuildFault}

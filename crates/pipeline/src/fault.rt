@@ -7,18 +7,27 @@ use thiserror::Error;
 /// Why settings give no pipeline. Places count from 0.
 #[derive(Clone, Copy, Debug, PartialEq, Eq, Drop, Error)]
 pub enum BuildFault {
-    /// The pattern at this place of the includes, or of the excludes, is no glob.
-    #[error("pattern {place} is no glob (exclude: {exclude})")]
-    Glob { exclude: bool, place: u64 },
+    /// The pattern at this place of the includes, or of the excludes, is no glob. It goes wrong at this byte.
+    #[error("pattern {place} is no glob at byte {at} (exclude: {exclude})")]
+    Glob {
+        exclude: bool,
+        place: u64,
+        at: usize,
+    },
     /// The text at the key `multiline` is no pattern.
     #[error("the pattern of multiline can't be read")]
     Multiline,
     /// The operator at this place has the id of one before it.
     #[error("operator {place} has the id of one before it")]
-    SameId { place: u64 },
+    SameId {
+        place: u64,
+    },
     /// The operator at this place can't be made.
     #[error("operator {place}: {cause}")]
-    Operator { place: u64, cause: OpCause },
+    Operator {
+        place: u64,
+        cause: OpCause,
+    },
     /// The operators make no graph.
     #[error("{0}")]
     Graph(GraphFault),

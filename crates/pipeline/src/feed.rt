@@ -1,5 +1,5 @@
 // From bytes to lines.
-ghost use Rattle.std.specs.Prelude.{◌≡◌, ℕ, ◌+◌, ◌-◌, ◌^◌, ◌≤◌, [], ◌∷◌, ◌++◌, List, length, string_bytes, Option, OnOk, IfOk};
+ghost use Rattle.std.specs.Prelude.{◌≡◌, ℕ, ◌+◌, ◌-◌, ◌^◌, ◌≤◌, [], ◌∷◌, ◌++◌, List, length, string_bytes, Option, None, OnOk, IfOk};
 ghost use Rattle.entry_model.specs.Datum.{Members};
 ghost use Rattle.graph_core.specs.Traces.{inputs, Served};
 ghost use Rattle.otlp_json.specs.OutputLine.{output_line};
@@ -11,7 +11,8 @@ ghost use Rattle.pipeline.specs.GraphOutput.{StandsFor};
 ghost use Rattle.pipeline.specs.NextToken.{IsNext};
 ghost use Rattle.pipeline.specs.Parts.{settings_of, network, HaveKinds};
 ghost use Rattle.pipeline.specs.Sources.{IsShared, IsSource};
-ghost use Rattle.pipeline.specs.Tokens.{first_cut_of, tokens_of, used_of};
+ghost use Rattle.line_splitter.specs.Cuts.{cuts, texts, used_by};
+ghost use Rattle.pipeline.specs.Tokens.{rule_of, tokens_of, used_of};
 ghost use Rattle.pipeline.specs.declared.source.Source.TheVariants.{Lines};
 
 use crate::buffers::Buffers;
@@ -19,11 +20,21 @@ use crate::source::{Shared, Source};
 use crate::text::text_in;
 use crate::{FileState, Pipeline};
 use graph_core::laws as graph;
+use idle_flush::rest;
 use line_splitter::{Token, entry_text};
 use op_kinds::Record;
 use otlp_json::laws::{line_is_one_line, lines_append};
 use otlp_json::{Scope, Template};
 use std::alloc::{AllocError, Global};
+
+/// Which tokens of some bytes are taken.
+#[derive(Clone, Copy)]
+pub(crate) enum Cutting {
+    /// Those that more bytes can't change.
+    Whole,
+    /// Those of bytes behind which none come any more.
+    Rest,
+}
 
 impl Pipeline {
     /// Takes the tokens of the bytes, appends the lines of what comes out, and answers how many bytes the tokens used.
@@ -59,11 +70,39 @@ impl Pipeline {
     {
         graph::begin(&self.graph);
         graph::go_on(&self.graph);
+        self.feed_by(alloc, state, id, path, Cutting::Whole, bytes, out)
+    }
+
+    // Takes these tokens of the bytes, and answers how many bytes they used.
+    pub(crate) fn feed_by(
+        &self,
+        alloc: Global,
+        state: &mut FileState,
+        id: u32,
+        path: &str,
+        cutting: Cutting,
+        bytes: &[u8],
+        out: &mut Vec<u8>,
+    ) -> Result<usize, AllocError>
+        requires states { HaveKinds self.now state.old.states.items }
+        requires lines { state.old.lines ≤ 2 ^ 40 + length out.old.items }
+        requires records { state.old.records + length bytes.now ≤ 2 ^ 62 }
+        ensures used { IfOk result (λ count. count ≡ used_by (cuts (rule_of (settings_of self.now) cutting) bytes.now)) }
+        ensures within { IfOk result (λ count. count ≤ length bytes.now) }
+        ensures fed { OnOk result (Fed (settings_of self.now) (network self.now) id path.now
+            (texts (cuts (rule_of (settings_of self.now) cutting) bytes.now)) state.old state.new out.old.items out.new.items) }
+        ensures records { IfOk result (λ count. state.new.records ≤ state.old.records + count) }
+        ensures lines { OnOk result (state.new.lines + length out.old.items ≤ state.old.lines + length out.new.items) }
+        ensures states { OnOk result (HaveKinds self.now state.new.states.items) }
+        ensures many { length state.new.states.items ≡ length state.old.states.items }
+    {
+        graph::begin(&self.graph);
+        graph::go_on(&self.graph);
         lines_append();
         let source = self.source(alloc, id, path)?;
         let mut buffers = Buffers::new(alloc);
         let mut at = 0;
-        while let Some(token) = self.next_token(alloc, &bytes[at..])? {
+        while let Some(token) = self.next_token(alloc, cutting, &bytes[at..])? {
             let text = &bytes[at..][token.from..token.to];
             self.feed_token(alloc, state, &source, &mut buffers, text, out)?;
             at += token.after;
@@ -71,12 +110,20 @@ impl Pipeline {
         Ok(at)
     }
 
-    // The first token of the bytes.
-    fn next_token(&self, alloc: Global, bytes: &[u8]) -> Result<Option<Token>, AllocError>
-        ensures { IfOk result (IsNext (first_cut_of (settings_of self.now)) bytes.now) }
+    // The first of these tokens of the bytes.
+    fn next_token(
+        &self,
+        alloc: Global,
+        cutting: Cutting,
+        bytes: &[u8],
+    ) -> Result<Option<Token>, AllocError>
+        ensures { IfOk result (IsNext (rule_of (settings_of self.now) cutting) bytes.now) }
     {
-        self.splitter
-            .next(alloc, self.settings.max_log_size as usize, bytes)
+        let max = self.settings.max_log_size as usize;
+        match cutting {
+            Cutting::Whole => self.splitter.next(alloc, max, bytes),
+            Cutting::Rest => Ok(rest(max, bytes)),
+        }
     }
 
     fn feed_token(
@@ -192,8 +239,8 @@ fn append_text(
     out: &mut Vec<u8>,
 ) -> Result<(), AllocError>
     requires { state.old.lines ≤ 2 ^ 40 + length out.old.items }
-    ensures line { OnOk result ((id : ℕ) (resource attributes : Members) (name : Option (List ℕ)) → IsTemplate id resource attributes name template.now
-        → out.new.items ≡ out.old.items ++ output_line id (state.old.lines + 1) (text_record resource (numbered name state.old.records attributes) text.now)) }
+    ensures line { OnOk result ((id : ℕ) (resource attributes : Members) (name : Option (List ℕ)) → IsTemplate id None resource attributes name template.now
+        → out.new.items ≡ out.old.items ++ output_line id (state.old.lines + 1) None (text_record resource (numbered name state.old.records attributes) text.now)) }
     ensures lines { OnOk result (state.new.lines ≡ state.old.lines + 1) }
     ensures records { state.new.records ≡ state.old.records }
     ensures states { state.new.states.items ≡ state.old.states.items }
@@ -203,7 +250,7 @@ fn append_text(
 }
 
 // Appends the lines of the records, and counts them.
-fn append_lines(
+pub(crate) fn append_lines(
     scope: &Scope,
     lines: &mut u64,
     made: &[Record],
@@ -211,14 +258,14 @@ fn append_lines(
 ) -> Result<(), AllocError>
     requires { lines.old ≤ 2 ^ 40 + length out.old.items }
     ensures lines { OnOk result (lines.new ≡ lines.old + length made.now) }
-    ensures written { OnOk result (out.new.items ≡ out.old.items ++ output_lines scope.now (lines.old + 1) made.now) }
+    ensures written { OnOk result (out.new.items ≡ out.old.items ++ output_lines scope.now (lines.old + 1) None made.now) }
     ensures within { OnOk result (lines.new + length out.old.items ≤ lines.old + length out.new.items) }
 {
     lines_append();
     line_is_one_line();
     for record in made {
         *lines += 1;
-        scope.line(*lines, record.entry(), out)?;
+        scope.line(*lines, None, record.entry(), out)?;
     }
     Ok(())
 }

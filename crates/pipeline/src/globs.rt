@@ -21,10 +21,11 @@ pub(crate) fn globs_of(
         match Glob::read(alloc, text.as_str()) {
             Ok(glob) => globs.push(glob)?,
             Err(GlobFault::Memory) => return Err(BuildFault::Memory),
-            Err(GlobFault::Syntax { at: _ }) => {
+            Err(GlobFault::Syntax { at }) => {
                 return Err(BuildFault::Glob {
                     exclude,
                     place: place as u64,
+                    at,
                 });
             }
         }

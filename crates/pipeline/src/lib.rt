@@ -5,7 +5,8 @@
 //! `specs/GraphOutput` is what comes out for the tokens of a file: their records, through the graph's traces.
 //! [`Pipeline::feed`] takes the tokens of some bytes: from a state that stands for the tokens before, it appends the lines
 //! of what comes out past what those gave, and leaves the state that stands for all of them. So a file can be fed in
-//! pieces, each from the first byte that wasn't used. [`Pipeline::save`] spells what the operators keep, and
+//! pieces, each from the first byte that wasn't used. [`Pipeline::finish`] takes the last bytes whole and closes the operators, so that
+//! what they held back comes out (`specs/Closed`). [`Pipeline::save`] spells what the operators keep, and
 //! [`Pipeline::restore`] reads it back: a pipeline is rules for rows (`rules_of` of `specs/AsRules`), and what a feed does to
 //! the state of a row is what these say of it ([`laws`]).
 #![tactic(auto)]
@@ -15,6 +16,7 @@ ghost use Rattle.pipeline.specs.Splitters.{multiline_of};
 
 mod buffers;
 mod build;
+mod closing;
 mod entry;
 mod fault;
 mod feed;

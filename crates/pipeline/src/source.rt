@@ -50,7 +50,7 @@ impl Pipeline {
             }));
         }
         let resource = self.settings.resource.as_fields();
-        let template = Template::new(alloc, id, resource, attributes, number)?;
+        let template = Template::new(alloc, id, None, resource, attributes, number)?;
         Ok(Source::Lines(template))
     }
 

@@ -1,5 +1,5 @@
 -- What is made of one text is one.
-use Rattle.std.proofs.Common.{◌≡◌, ℕ, zero, suc, List, [], ◌∷◌, Bool, map, refl, sym, ap, ◌∙◌, subst, arith}
+use Rattle.std.proofs.Common.{◌≡◌, ℕ, zero, suc, None, List, [], ◌∷◌, Bool, map, refl, sym, ap, ◌∙◌, subst, arith}
 use Rattle.std.specs.Str.{chars}
 use Rattle.glob_match.specs.GlobText.{IsGlobText}
 use Rattle.glob_match.specs.Pattern.{Pattern}
@@ -49,7 +49,7 @@ module _ (spell_one : SpellOne) where
     state_after = λ path before state tokens. state_text (kept_from said made_of path before (states_in kinds state) tokens);
     fresh = states_spelling (start_states made_of);
     is_state = is_state_text kinds;
-    line = λ mark. output_line mark.id mark.number mark.entry;
+    line = λ mark. output_line mark.id mark.number None mark.entry;
     fits = fits;
     include = include;
     exclude = exclude;

@@ -1,7 +1,7 @@
 // The tables of names.
 use case_table::{
-    Row, aliases, directives, find, find_bytes, find_fold, find_fold_bytes, is_sorted, months,
-    severities,
+    Row, aliases, day_names, directives, find, find_bytes, find_fold, find_fold_bytes, gotime,
+    is_sorted, month_names, months, severities,
 };
 use std::alloc::{AllocError, Global};
 use std::str;
@@ -12,6 +12,9 @@ fn rows_of(alloc: Global, table: &str) -> Result<Vec<Row>, AllocError> {
         "severities" => Vec::from_slice(alloc, &severities()),
         "aliases" => Vec::from_slice(alloc, &aliases()),
         "directives" => Vec::from_slice(alloc, &directives()),
+        "gotime" => Vec::from_slice(alloc, &gotime()),
+        "month_names" => Vec::from_slice(alloc, &month_names()),
+        "day_names" => Vec::from_slice(alloc, &day_names()),
         _ => Ok(Vec::new(alloc)),
     }
 }

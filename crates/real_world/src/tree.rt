@@ -54,7 +54,7 @@ impl Tree for RealTree<'_> {
     ghost use Rattle.std.specs.Prelude.{None};
     ghost use Rattle.outside.specs.Opening.{IsSize};
 
-    ghost meaning = { record { world = λ _. None; plan = λ _. None; faults = λ tree. tree.faults; bound = λ _. None; taken = λ tree. tree.taken; nameless = λ tree. tree.nameless; widest = λ _. None } };
+    ghost meaning = { record { world = λ _. None; plan = λ _. None; faults = λ tree. tree.faults; bound = λ _. None; taken = λ tree. tree.taken; nameless = λ tree. tree.nameless; widest = λ _. None; listed = λ _. None } };
 
     ghost lawful = { λ _. tt };
 

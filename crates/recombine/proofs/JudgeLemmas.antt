@@ -6,7 +6,7 @@ use Rattle.entry_model.specs.Datum.{fields}
 use Rattle.entry_model.specs.Lawful.{nesting, NestsWithin}
 use Rattle.entry_model.specs.LogRecord.{LogRecord, log_record}
 use Rattle.entry_model.specs.declared.entry.Entry.{Entry}
-use Rattle.state_codec.specs.declared.TheConstants.{LEVELS}
+use Rattle.state_codec.specs.Limits.{levels}
 use Rattle.recombine.specs.Group.{Group}
 use Rattle.recombine.specs.Item.{Item}
 use Rattle.recombine.specs.Joining.{Joining}
@@ -17,24 +17,24 @@ use Rattle.recombine.specs.declared.fault.StepFault.TheVariants.{NotText, TooDee
 
 -- ---- how deep an entry is nested
 
-pub shallow_is : (e : LogRecord) → NestsWithin LEVELS e → is_shallow e ≡ true
+pub shallow_is : (e : LogRecord) → NestsWithin levels e → is_shallow e ≡ true
 unfolding is_shallow
 shallow_is e n =
-    and_from (leb (nesting e.body) LEVELS) (leb (nesting (fields e.attributes)) LEVELS && leb (nesting (fields e.resource)) LEVELS) (le-leb (nesting e.body) LEVELS n.body)
-    (and_from (leb (nesting (fields e.attributes)) LEVELS) (leb (nesting (fields e.resource)) LEVELS) (le-leb (nesting (fields e.attributes)) LEVELS n.attributes) (le-leb (nesting (fields e.resource)) LEVELS n.resource))
+    and_from (leb (nesting e.body) levels) (leb (nesting (fields e.attributes)) levels && leb (nesting (fields e.resource)) levels) (le-leb (nesting e.body) levels n.body)
+    (and_from (leb (nesting (fields e.attributes)) levels) (leb (nesting (fields e.resource)) levels) (le-leb (nesting (fields e.attributes)) levels n.attributes) (le-leb (nesting (fields e.resource)) levels n.resource))
 
-pub is_shallow_then : (e : LogRecord) → is_shallow e ≡ true → NestsWithin LEVELS e
+pub is_shallow_then : (e : LogRecord) → is_shallow e ≡ true → NestsWithin levels e
 unfolding is_shallow
 is_shallow_then e is =
-    let one = and_parts (leb (nesting e.body) LEVELS) (leb (nesting (fields e.attributes)) LEVELS && leb (nesting (fields e.resource)) LEVELS) is in
-    let two = and_parts (leb (nesting (fields e.attributes)) LEVELS) (leb (nesting (fields e.resource)) LEVELS) one.1 in
+    let one = and_parts (leb (nesting e.body) levels) (leb (nesting (fields e.attributes)) levels && leb (nesting (fields e.resource)) levels) is in
+    let two = and_parts (leb (nesting (fields e.attributes)) levels) (leb (nesting (fields e.resource)) levels) one.1 in
     record {
-      body = leb-true (nesting e.body) LEVELS one.0;
-      attributes = leb-true (nesting (fields e.attributes)) LEVELS two.0;
-      resource = leb-true (nesting (fields e.resource)) LEVELS two.1;
+      body = leb-true (nesting e.body) levels one.0;
+      attributes = leb-true (nesting (fields e.attributes)) levels two.0;
+      resource = leb-true (nesting (fields e.resource)) levels two.1;
     }
 
-pub deep_is : (e : LogRecord) (b : Bool) → (IsTrue b ↔ NestsWithin LEVELS e) → b ≡ false → is_shallow e ≡ false
+pub deep_is : (e : LogRecord) (b : Bool) → (IsTrue b ↔ NestsWithin levels e) → b ≡ false → is_shallow e ≡ false
 deep_is e b iff isnt = elim (cases_Bool (is_shallow e)) [
   | inl is ↦ absurd (true≢false (sym (iff.1 (is_shallow_then e is)) ∙ isnt))
   | inr other ↦ other

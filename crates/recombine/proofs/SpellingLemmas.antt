@@ -19,7 +19,7 @@ use Rattle.state_codec.proofs.Readers.{u32_reader, text_reader, entry_reader}
 use Rattle.state_codec.proofs.Fair.{Local, Blame, Fair, err_is, fair_wider, fair_bind, fair_ok}
 use Rattle.state_codec.proofs.FairReaders.{fair_u32, fair_text_byte, fair_entry_at}
 use Rattle.state_codec.proofs.TextEnds.{IsByte}
-use Rattle.recombine.specs.declared.TheConstants.{GROUP_LIMIT, BATCH_LIMIT}
+use Rattle.recombine.specs.Limits.{group_limit, batch_limit}
 use Rattle.recombine.specs.Group.{Group}
 use Rattle.recombine.specs.Reading.{such_that, number_within, source_at, group_at, groups_behind, groups_at}
 use Rattle.recombine.specs.Restores.{IsPart, IsDeadEnd, FailsAt, Restores}
@@ -134,7 +134,7 @@ abbrev last_two : List ℕ → ℕ → List ℕ → Reading Group
 last_two source entries bytes = text_at bytes >>= λ text. last_part source entries text.0 text.1
 
 abbrev last_three : List ℕ → List ℕ → Reading Group
-last_three source bytes = number_within 1 BATCH_LIMIT bytes >>= λ entries. last_two source entries.0 entries.1
+last_three source bytes = number_within 1 batch_limit bytes >>= λ entries. last_two source entries.0 entries.1
 
 group_is : (before : List Group) (bytes : List ℕ) → group_at before bytes ≡ (source_at before bytes >>= λ source. last_three source.0 source.1)
 unfolding group_at
@@ -144,7 +144,7 @@ pub fair_group : (before : List Group) → Fair IsPart (λ (bytes : List ℕ). g
 unfolding group_at
 fair_group before =
     fair_bind (λ (bytes : List ℕ). source_at before bytes) (λ source. last_three source.0 source.1) (fair_source before)
-    (λ source. fair_bind (λ (bytes : List ℕ). number_within 1 BATCH_LIMIT bytes) (λ entries. last_two source entries.0 entries.1) (fair_number 1 BATCH_LIMIT)
+    (λ source. fair_bind (λ (bytes : List ℕ). number_within 1 batch_limit bytes) (λ entries. last_two source entries.0 entries.1) (fair_number 1 batch_limit)
     (λ entries. fair_bind text_at (λ text. last_part source entries text.0 text.1) fair_short
     (λ text. fair_bind entry_at (λ base. Ok (record { source = source; entries = entries; text = text; base = base.0 }, base.1)) fair_base
     (λ base. fair_ok (record { source = source; entries = entries; text = text; base = base })))))
@@ -159,26 +159,26 @@ group_takes : (before : List Group) (bytes : List ℕ) (x : Group × List ℕ) �
 group_takes before bytes x fits e =
     let source = bind_ok (source_at before bytes) (λ s. last_three s.0 s.1) x (sym (group_is before bytes) ∙ e) in
     let t1 = such_takes bytes_spelling IsShortText text_at text_reader (λ s. not (list_any (is_of s) before)) bytes source.0 fits source.1 in
-    let entries = bind_ok (number_within 1 BATCH_LIMIT source.0.1) (λ n. last_two source.0.0 n.0 n.1) x source.2 in
-    let t2 = such_takes (to_be_bytes w32) (λ n. n < 2 ^ 32) (number_at w32) u32_reader (λ n. leb 1 n && leb n BATCH_LIMIT) source.0.1 entries.0 t1.0.0.left entries.1 in
+    let entries = bind_ok (number_within 1 batch_limit source.0.1) (λ n. last_two source.0.0 n.0 n.1) x source.2 in
+    let t2 = such_takes (to_be_bytes w32) (λ n. n < 2 ^ 32) (number_at w32) u32_reader (λ n. leb 1 n && leb n batch_limit) source.0.1 entries.0 t1.0.0.left entries.1 in
     let text = bind_ok (text_at entries.0.1) (λ t. last_part source.0.0 entries.0.0 t.0 t.1) x entries.2 in
     let t3 = text_reader.takes entries.0.1 text.0 t2.0.0.left text.1 in
     let base = bind_ok (entry_at text.0.1) (λ b. Ok (record { source = source.0.0; entries = entries.0.0; text = text.0.0; base = b.0 }, b.1)) x text.2 in
     let t4 = entry_reader.takes text.0.1 base.0 t3.0.left base.1 in
-    let between = and_parts (leb 1 entries.0.0) (leb entries.0.0 BATCH_LIMIT) t2.1 in
+    let between = and_parts (leb 1 entries.0.0) (leb entries.0.0 batch_limit) t2.1 in
     subst (λ (p : Group × List ℕ). GroupTaken before bytes p.0 p.1)
     (ok_is (record { source = source.0.0; entries = entries.0.0; text = text.0.0; base = base.0.0 }, base.0.1) x base.2)
     (record {
       takes = takes_both bytes (bytes_spelling source.0.0) source.0.1 (to_be_bytes w32 entries.0.0 ++ (bytes_spelling text.0.0 ++ entry_spelling base.0.0)) base.0.1 t1.0.0
           (takes_both source.0.1 (to_be_bytes w32 entries.0.0) entries.0.1 (bytes_spelling text.0.0 ++ entry_spelling base.0.0) base.0.1 t2.0.0
           (takes_both entries.0.1 (bytes_spelling text.0.0) text.0.1 (entry_spelling base.0.0) base.0.1 t3.0 t4.0));
-      keeps = record { source = t1.0.1; some = leb-true 1 entries.0.0 between.0; most = leb-true entries.0.0 BATCH_LIMIT between.1; text = t3.1; base = t4.1 };
+      keeps = record { source = t1.0.1; some = leb-true 1 entries.0.0 between.0; most = leb-true entries.0.0 batch_limit between.1; text = t3.1; base = t4.1 };
       new = none_among source.0.0 before (not-true (list_any (is_of source.0.0) before) t1.1);
     })
 
 -- what is read part by part is read whole
 pub group_step : (before : List Group) (bytes : List ℕ) (source : List ℕ) (a : List ℕ) (entries : ℕ) (b : List ℕ) (text : List ℕ) (c : List ℕ) (base : LogRecord) (d : List ℕ)
-    → source_at before bytes ≡ Ok (source, a) → number_within 1 BATCH_LIMIT a ≡ Ok (entries, b) → text_at b ≡ Ok (text, c) → entry_at c ≡ Ok (base, d)
+    → source_at before bytes ≡ Ok (source, a) → number_within 1 batch_limit a ≡ Ok (entries, b) → text_at b ≡ Ok (text, c) → entry_at c ≡ Ok (base, d)
     → group_at before bytes ≡ Ok (record { source = source; entries = entries; text = text; base = base }, d)
 group_step before bytes source a entries b text c base d one two three four =
     group_is before bytes ∙ ap (λ (r : Reading (List ℕ)). r >>= λ s. last_three s.0 s.1) one ∙ ap (λ (r : Reading ℕ). r >>= λ n. last_two source n.0 n.1) two
@@ -197,8 +197,8 @@ group_again before g rest keeps new =
     ∙ group_step before (bytes_spelling g.source ++ (to_be_bytes w32 g.entries ++ (bytes_spelling g.text ++ (entry_spelling g.base ++ rest)))) g.source
     (to_be_bytes w32 g.entries ++ (bytes_spelling g.text ++ (entry_spelling g.base ++ rest))) g.entries (bytes_spelling g.text ++ (entry_spelling g.base ++ rest)) g.text (entry_spelling g.base ++ rest) g.base rest
     (such_again bytes_spelling IsShortText text_at text_reader (λ s. not (list_any (is_of s) before)) g.source (to_be_bytes w32 g.entries ++ (bytes_spelling g.text ++ (entry_spelling g.base ++ rest))) keeps.source (ap not (among_none g.source before new)))
-    (such_again (to_be_bytes w32) (λ n. n < 2 ^ 32) (number_at w32) u32_reader (λ n. leb 1 n && leb n BATCH_LIMIT) g.entries (bytes_spelling g.text ++ (entry_spelling g.base ++ rest)) (omega (arith, keeps.most))
-    (and_from (leb 1 g.entries) (leb g.entries BATCH_LIMIT) (le-leb 1 g.entries keeps.some) (le-leb g.entries BATCH_LIMIT keeps.most)))
+    (such_again (to_be_bytes w32) (λ n. n < 2 ^ 32) (number_at w32) u32_reader (λ n. leb 1 n && leb n batch_limit) g.entries (bytes_spelling g.text ++ (entry_spelling g.base ++ rest)) (omega (arith, keeps.most))
+    (and_from (leb 1 g.entries) (leb g.entries batch_limit) (le-leb 1 g.entries keeps.some) (le-leb g.entries batch_limit keeps.most)))
     (text_reader.again g.text (entry_spelling g.base ++ rest) keeps.text) (entry_reader.again g.base rest keeps.base)
 
 -- ---- so many groups
@@ -258,23 +258,23 @@ behind_again before (g ∷ gs) rest keep =
 
 -- ---- all groups
 
-groups_is : (bytes : List ℕ) → groups_at bytes ≡ (number_within 0 GROUP_LIMIT bytes >>= λ count. groups_behind [] count.0 count.1)
+groups_is : (bytes : List ℕ) → groups_at bytes ≡ (number_within 0 group_limit bytes >>= λ count. groups_behind [] count.0 count.1)
 unfolding groups_at
 groups_is bytes = refl
 
 pub fair_groups : Fair IsPart (λ (bytes : List ℕ). groups_at bytes)
 unfolding groups_at
-fair_groups = fair_bind (λ (bytes : List ℕ). number_within 0 GROUP_LIMIT bytes) (λ count. groups_behind [] count.0 count.1) (fair_number 0 GROUP_LIMIT) (λ count. fair_behind count [])
+fair_groups = fair_bind (λ (bytes : List ℕ). number_within 0 group_limit bytes) (λ count. groups_behind [] count.0 count.1) (fair_number 0 group_limit) (λ count. fair_behind count [])
 
 groups_take : (bytes : List ℕ) (x : List Group × List ℕ) → IsBytes bytes → groups_at bytes ≡ Ok x → Takes bytes (groups_spelling x.0) x.1 × AreSpellable x.0
 groups_take bytes x fits e =
-    let count = bind_ok (number_within 0 GROUP_LIMIT bytes) (λ n. groups_behind [] n.0 n.1) x (sym (groups_is bytes) ∙ e) in
-    let t = such_takes (to_be_bytes w32) (λ n. n < 2 ^ 32) (number_at w32) u32_reader (λ n. leb 0 n && leb n GROUP_LIMIT) bytes count.0 fits count.1 in
-    let between = and_parts (leb 0 count.0.0) (leb count.0.0 GROUP_LIMIT) t.1 in
+    let count = bind_ok (number_within 0 group_limit bytes) (λ n. groups_behind [] n.0 n.1) x (sym (groups_is bytes) ∙ e) in
+    let t = such_takes (to_be_bytes w32) (λ n. n < 2 ^ 32) (number_at w32) u32_reader (λ n. leb 0 n && leb n group_limit) bytes count.0 fits count.1 in
+    let between = and_parts (leb 0 count.0.0) (leb count.0.0 group_limit) t.1 in
     let more = behind_takes count.0.0 [] count.0.1 x t.0.0.left tt count.2 in (
       subst (λ (n : ℕ). Takes bytes (to_be_bytes w32 n ++ flat_map group_spelling x.0) x.1) (sym more.count)
           (takes_both bytes (to_be_bytes w32 count.0.0) count.0.1 (flat_map group_spelling x.0) x.1 t.0.0 more.takes),
-      record { few = omega (arith, more.count, leb-true count.0.0 GROUP_LIMIT between.1); each = more.keep },
+      record { few = omega (arith, more.count, leb-true count.0.0 group_limit between.1); each = more.keep },
     )
 
 groups_again : (gs : List Group) (rest : List ℕ) → AreSpellable gs → groups_at (groups_spelling gs ++ rest) ≡ Ok (gs, rest)
@@ -282,8 +282,8 @@ groups_again gs rest spellable =
     ap groups_at (append_assoc (to_be_bytes w32 (length gs)) (flat_map group_spelling gs) rest)
     ∙ groups_is (to_be_bytes w32 (length gs) ++ (flat_map group_spelling gs ++ rest))
     ∙ ap (λ (r : Reading ℕ). r >>= λ count. groups_behind [] count.0 count.1)
-    (such_again (to_be_bytes w32) (λ n. n < 2 ^ 32) (number_at w32) u32_reader (λ n. leb 0 n && leb n GROUP_LIMIT) (length gs) (flat_map group_spelling gs ++ rest) (omega (arith, spellable.few))
-    (and_from (leb 0 (length gs)) (leb (length gs) GROUP_LIMIT) (le-leb 0 (length gs) (omega arith)) (le-leb (length gs) GROUP_LIMIT spellable.few)))
+    (such_again (to_be_bytes w32) (λ n. n < 2 ^ 32) (number_at w32) u32_reader (λ n. leb 0 n && leb n group_limit) (length gs) (flat_map group_spelling gs ++ rest) (omega (arith, spellable.few))
+    (and_from (leb 0 (length gs)) (leb (length gs) group_limit) (le-leb 0 (length gs) (omega arith)) (le-leb (length gs) group_limit spellable.few)))
     ∙ behind_again [] gs rest spellable.each
 
 pub groups_reader : IsReader groups_spelling AreSpellable (λ (bytes : List ℕ). groups_at bytes)
@@ -362,7 +362,7 @@ module _ (before : List Group) (bytes : List ℕ) (at : ℕ) where
   source_fails view seen Memory r = tt
 
   pub entries_fail : {X Y : Type 0} (view : X → Group) (seen : Y → ℕ) (source : List ℕ) (next : ℕ) (fault : CodecFault) → IsRead (source_at before) bytes at source next
-      → Finds {X = Y} seen (number_within 1 BATCH_LIMIT) bytes next (Err fault) → Finds {X = X} view (group_at before) bytes at (Err fault)
+      → Finds {X = Y} seen (number_within 1 batch_limit) bytes next (Err fault) → Finds {X = X} view (group_at before) bytes at (Err fault)
   entries_fail view seen source next (Malformed fault) one r = record {
     left = r.left;
     given = group_is before (drop at bytes) ∙ ap (λ (s : Reading (List ℕ)). s >>= λ x. last_three x.0 x.1) one.given ∙ ap (λ (s : Reading ℕ). s >>= λ x. last_two source x.0 x.1) r.given;
@@ -371,7 +371,7 @@ module _ (before : List Group) (bytes : List ℕ) (at : ℕ) where
   entries_fail view seen source next Memory one r = tt
 
   pub text_fails : {X Y : Type 0} (view : X → Group) (seen : Y → List ℕ) (source : List ℕ) (next : ℕ) (entries : ℕ) (over : ℕ) (fault : CodecFault) → IsRead (source_at before) bytes at source next
-      → IsRead (number_within 1 BATCH_LIMIT) bytes next entries over → Finds {X = Y} seen text_at bytes over (Err fault) → Finds {X = X} view (group_at before) bytes at (Err fault)
+      → IsRead (number_within 1 batch_limit) bytes next entries over → Finds {X = Y} seen text_at bytes over (Err fault) → Finds {X = X} view (group_at before) bytes at (Err fault)
   text_fails view seen source next entries over (Malformed fault) one two r = record {
     left = r.left;
     given = group_is before (drop at bytes) ∙ ap (λ (s : Reading (List ℕ)). s >>= λ x. last_three x.0 x.1) one.given ∙ ap (λ (s : Reading ℕ). s >>= λ x. last_two source x.0 x.1) two.given
@@ -381,7 +381,7 @@ module _ (before : List Group) (bytes : List ℕ) (at : ℕ) where
   text_fails view seen source next entries over Memory one two r = tt
 
   pub base_fails : {X Y : Type 0} (view : X → Group) (seen : Y → LogRecord) (source : List ℕ) (next : ℕ) (entries : ℕ) (over : ℕ) (text : List ℕ) (last : ℕ) (fault : CodecFault) → IsRead (source_at before) bytes at source next
-      → IsRead (number_within 1 BATCH_LIMIT) bytes next entries over → IsRead text_at bytes over text last → Finds {X = Y} seen entry_at bytes last (Err fault) → Finds {X = X} view (group_at before) bytes at (Err fault)
+      → IsRead (number_within 1 batch_limit) bytes next entries over → IsRead text_at bytes over text last → Finds {X = Y} seen entry_at bytes last (Err fault) → Finds {X = X} view (group_at before) bytes at (Err fault)
   base_fails view seen source next entries over text last (Malformed fault) one two three r = record {
     left = r.left;
     given = group_is before (drop at bytes) ∙ ap (λ (s : Reading (List ℕ)). s >>= λ x. last_three x.0 x.1) one.given ∙ ap (λ (s : Reading ℕ). s >>= λ x. last_two source x.0 x.1) two.given
@@ -391,7 +391,7 @@ module _ (before : List Group) (bytes : List ℕ) (at : ℕ) where
   }
   base_fails view seen source next entries over text last Memory one two three r = tt
 
-  pub group_found : (source : List ℕ) (next : ℕ) (entries : ℕ) (over : ℕ) (text : List ℕ) (last : ℕ) (base : LogRecord) (end : ℕ) → IsRead (source_at before) bytes at source next → IsRead (number_within 1 BATCH_LIMIT) bytes next entries over
+  pub group_found : (source : List ℕ) (next : ℕ) (entries : ℕ) (over : ℕ) (text : List ℕ) (last : ℕ) (base : LogRecord) (end : ℕ) → IsRead (source_at before) bytes at source next → IsRead (number_within 1 batch_limit) bytes next entries over
       → IsRead text_at bytes over text last → IsRead entry_at bytes last base end → IsRead (group_at before) bytes at (record { source = source; entries = entries; text = text; base = base }) end
   group_found source next entries over text last base end one two three four = record {
     given = group_step before (drop at bytes) source (drop next bytes) entries (drop over bytes) text (drop last bytes) base (drop end bytes) one.given two.given three.given four.given;
@@ -427,7 +427,7 @@ pub record SoFar (bytes : List ℕ) (at : ℕ) (groups : List Group) (todo place
   pub within : place ≤ length bytes
   pub given : groups_at (drop at bytes) ≡ with_front groups (groups_behind groups todo (drop place bytes))
 
-pub first_so_far : (bytes : List ℕ) (at count first : ℕ) → IsRead (number_within 0 GROUP_LIMIT) bytes at count first → SoFar bytes at [] count first
+pub first_so_far : (bytes : List ℕ) (at count first : ℕ) → IsRead (number_within 0 group_limit) bytes at count first → SoFar bytes at [] count first
 first_so_far bytes at count first r = record {
   within = r.within;
   given = groups_is (drop at bytes) ∙ ap (λ (s : Reading ℕ). s >>= λ n. groups_behind [] n.0 n.1) r.given ∙ sym (with_none (groups_behind [] count (drop first bytes)));
@@ -443,7 +443,7 @@ pub all_so_far : (bytes : List ℕ) (at : ℕ) (groups : List Group) (todo place
 all_so_far bytes at groups todo place fits none so =
     restores_ok bytes at place groups fits so.within (so.given ∙ ap (λ (n : ℕ). with_front groups (groups_behind groups n (drop place bytes))) none ∙ front_ends groups (drop place bytes))
 
-pub count_refused : {X : Type 0} (view : X → ℕ) (bytes : List ℕ) (at : ℕ) (fault : CodecFault) → IsBytes bytes → Finds {X = X} view (number_within 0 GROUP_LIMIT) bytes at (Err fault) → Restores bytes at (Err fault)
+pub count_refused : {X : Type 0} (view : X → ℕ) (bytes : List ℕ) (at : ℕ) (fault : CodecFault) → IsBytes bytes → Finds {X = X} view (number_within 0 group_limit) bytes at (Err fault) → Restores bytes at (Err fault)
 count_refused view bytes at (Malformed fault) fits r =
     restores_err bytes at r.left fault fits (groups_is (drop at bytes) ∙ ap (λ (s : Reading ℕ). s >>= λ n. groups_behind [] n.0 n.1) r.given) r.place
 count_refused view bytes at Memory fits r = tt
@@ -483,7 +483,7 @@ keep_all (g ∷ gs) are each = (each.0, (are.1.0, keep_all gs are.1.1 each.1))
 pub each_all : (items : List OpenGroup) (gs : List Group) (n : ℕ) → length items ≤ n → groups_seen items ≡ gs → EachKeeps (groups_seen (take n items)) → EachKeeps gs
 each_all items gs n all seen each = subst EachKeeps (ap groups_seen (take_all n items all) ∙ seen) each
 
-pub start_so_far : (bytes : List ℕ) (at count first todo : ℕ) (gs : List Group) → gs ≡ [] → todo ≡ count → IsRead (number_within 0 GROUP_LIMIT) bytes at count first → SoFar bytes at gs todo first
+pub start_so_far : (bytes : List ℕ) (at count first todo : ℕ) (gs : List Group) → gs ≡ [] → todo ≡ count → IsRead (number_within 0 group_limit) bytes at count first → SoFar bytes at gs todo first
 start_so_far bytes at count first todo gs none all r =
     subst (λ (hs : List Group). SoFar bytes at hs todo first) (sym none) (subst (λ (n : ℕ). SoFar bytes at [] n first) (sym all) (first_so_far bytes at count first r))
 

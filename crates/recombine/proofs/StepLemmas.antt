@@ -6,7 +6,7 @@ use Rattle.std.proofs.lemmas.List.{append-nil, length-append, length_push, map-a
 use Rattle.std.proofs.lemmas.List.Elements.{filter-append}
 use Rattle.entry_model.specs.LogRecord.{LogRecord, log_record}
 use Rattle.entry_model.specs.declared.entry.Entry.{Entry}
-use Rattle.recombine.specs.declared.TheConstants.{GROUP_LIMIT, BYTE_LIMIT}
+use Rattle.recombine.specs.Limits.{group_limit, byte_limit}
 use Rattle.recombine.specs.Group.{Group}
 use Rattle.recombine.specs.Item.{Item, is_first, is_last}
 use Rattle.recombine.specs.Joining.{Joining}
@@ -79,17 +79,17 @@ pub no_room : (j : Joining) (x : Item) (gs : List Group) → has_no_room j gs x 
 unfolding after_room ended_by_room
 no_room j x gs is = (ap (λ (b : Bool). cond b [] gs) is, ap (λ (b : Bool). cond b gs []) is)
 
-too_many_by : (gs : List Group) (n bytes : ℕ) → length gs ≡ n → text_bytes gs ≡ bytes → are_too_many gs ≡ (nat_lt GROUP_LIMIT n || nat_lt BYTE_LIMIT bytes)
+too_many_by : (gs : List Group) (n bytes : ℕ) → length gs ≡ n → text_bytes gs ≡ bytes → are_too_many gs ≡ (nat_lt group_limit n || nat_lt byte_limit bytes)
 too_many_by gs n bytes count size = rw (count, size) refl
 
-room_none : (j : Joining) (x : Item) (gs : List Group) → AreOfOthers x.source gs → has_no_room j gs x ≡ (nat_lt GROUP_LIMIT (length gs + 1) || nat_lt BYTE_LIMIT (text_bytes gs + length x.text))
+room_none : (j : Joining) (x : Item) (gs : List Group) → AreOfOthers x.source gs → has_no_room j gs x ≡ (nat_lt group_limit (length gs + 1) || nat_lt byte_limit (text_bytes gs + length x.text))
 unfolding has_no_room
 room_none j x gs are =
     let all = joined_none j x gs are in
     too_many_by (joined j gs x) (length gs + 1) (text_bytes gs + length x.text) (ap length all ∙ length_push gs (opened x))
     (ap text_bytes all ∙ bytes_append gs (opened x ∷ []) ∙ ap (λ n. text_bytes gs + n) (bytes_cons (opened x) [] ∙ omega arith))
 
-room_at : (j : Joining) (x : Item) (gs : List Group) (place : ℕ) → IsAt x.source gs place → has_no_room j gs x ≡ (nat_lt GROUP_LIMIT (length gs) || nat_lt BYTE_LIMIT (text_bytes gs + length j.separator + length x.text))
+room_at : (j : Joining) (x : Item) (gs : List Group) (place : ℕ) → IsAt x.source gs place → has_no_room j gs x ≡ (nat_lt group_limit (length gs) || nat_lt byte_limit (text_bytes gs + length j.separator + length x.text))
 unfolding has_no_room
 room_at j x gs place a =
     let all = joined_at j x gs place a in
@@ -100,31 +100,31 @@ room_at j x gs place a =
     (omega (arith, ap length all, ap length a.parts, length-append a.before (with_item j a.group x ∷ a.behind), length-append a.before (a.group ∷ a.behind)))
     (omega (arith, old, new, length-append a.group.text (j.separator ++ x.text), length-append j.separator x.text))
 
-pub full_none : (j : Joining) (x : Item) (gs : List Group) → AreOfOthers x.source gs → GROUP_LIMIT ≤ length gs → has_no_room j gs x ≡ true
+pub full_none : (j : Joining) (x : Item) (gs : List Group) → AreOfOthers x.source gs → group_limit ≤ length gs → has_no_room j gs x ≡ true
 full_none j x gs are full =
-    room_none j x gs are ∙ ap (λ (b : Bool). b || nat_lt BYTE_LIMIT (text_bytes gs + length x.text)) (lt-ltb GROUP_LIMIT (length gs + 1) (omega (arith, full)))
+    room_none j x gs are ∙ ap (λ (b : Bool). b || nat_lt byte_limit (text_bytes gs + length x.text)) (lt-ltb group_limit (length gs + 1) (omega (arith, full)))
 
-pub room_by_bytes : (j : Joining) (x : Item) (gs : List Group) → AreOfOthers x.source gs → length gs < GROUP_LIMIT → has_no_room j gs x ≡ nat_lt BYTE_LIMIT (text_bytes gs + 0 + length x.text)
+pub room_by_bytes : (j : Joining) (x : Item) (gs : List Group) → AreOfOthers x.source gs → length gs < group_limit → has_no_room j gs x ≡ nat_lt byte_limit (text_bytes gs + 0 + length x.text)
 room_by_bytes j x gs are few =
     let same : text_bytes gs + length x.text ≡ text_bytes gs + 0 + length x.text = omega arith in
-    room_none j x gs are ∙ ap (λ (b : Bool). b || nat_lt BYTE_LIMIT (text_bytes gs + length x.text)) (le-ltb GROUP_LIMIT (length gs + 1) (omega (arith, few))) ∙ ap (nat_lt BYTE_LIMIT) same
+    room_none j x gs are ∙ ap (λ (b : Bool). b || nat_lt byte_limit (text_bytes gs + length x.text)) (le-ltb group_limit (length gs + 1) (omega (arith, few))) ∙ ap (nat_lt byte_limit) same
 
-pub room_by_bytes_at : (j : Joining) (x : Item) (gs : List Group) (place : ℕ) → IsAt x.source gs place → length gs ≤ GROUP_LIMIT → has_no_room j gs x ≡ nat_lt BYTE_LIMIT (text_bytes gs + length j.separator + length x.text)
+pub room_by_bytes_at : (j : Joining) (x : Item) (gs : List Group) (place : ℕ) → IsAt x.source gs place → length gs ≤ group_limit → has_no_room j gs x ≡ nat_lt byte_limit (text_bytes gs + length j.separator + length x.text)
 room_by_bytes_at j x gs place a few =
-    room_at j x gs place a ∙ ap (λ (b : Bool). b || nat_lt BYTE_LIMIT (text_bytes gs + length j.separator + length x.text)) (le-ltb GROUP_LIMIT (length gs) (omega (arith, few)))
+    room_at j x gs place a ∙ ap (λ (b : Bool). b || nat_lt byte_limit (text_bytes gs + length j.separator + length x.text)) (le-ltb group_limit (length gs) (omega (arith, few)))
 
 some_there : (s : List ℕ) (gs : List Group) (place : ℕ) → IsAt s gs place → gs ≡ [] → ⊥
 some_there s gs place a none = absurd (omega (arith, ap length (sym a.parts ∙ none), length-append a.before (a.group ∷ a.behind)))
 
-pub has_bytes_left : (j : Joining) (x : Item) (gs : List Group) (place : ℕ) → IsAt x.source gs place → HasRoom j gs x → text_bytes gs + length j.separator + length x.text ≤ BYTE_LIMIT
+pub has_bytes_left : (j : Joining) (x : Item) (gs : List Group) (place : ℕ) → IsAt x.source gs place → HasRoom j gs x → text_bytes gs + length j.separator + length x.text ≤ byte_limit
 has_bytes_left j x gs place a (inl none) = absurd (some_there x.source gs place a none)
-has_bytes_left j x gs place a (inr room) = ltb-false BYTE_LIMIT (text_bytes gs + length j.separator + length x.text) (or_parts (nat_lt GROUP_LIMIT (length gs)) (nat_lt BYTE_LIMIT (text_bytes gs + length j.separator + length x.text)) (sym (room_at j x gs place a) ∙ room)).1
+has_bytes_left j x gs place a (inr room) = ltb-false byte_limit (text_bytes gs + length j.separator + length x.text) (or_parts (nat_lt group_limit (length gs)) (nat_lt byte_limit (text_bytes gs + length j.separator + length x.text)) (sym (room_at j x gs place a) ∙ room)).1
 
-pub has_place_left : (j : Joining) (x : Item) (gs : List Group) → AreOfOthers x.source gs → HasRoom j gs x → (length gs < GROUP_LIMIT) × (text_bytes gs ≤ BYTE_LIMIT)
+pub has_place_left : (j : Joining) (x : Item) (gs : List Group) → AreOfOthers x.source gs → HasRoom j gs x → (length gs < group_limit) × (text_bytes gs ≤ byte_limit)
 has_place_left j x gs are (inl none) = (omega (arith, ap length none), omega (arith, ap text_bytes none))
 has_place_left j x gs are (inr room) =
-    let parts = or_parts (nat_lt GROUP_LIMIT (length gs + 1)) (nat_lt BYTE_LIMIT (text_bytes gs + length x.text)) (sym (room_none j x gs are) ∙ room) in
-    (omega (arith, ltb-false GROUP_LIMIT (length gs + 1) parts.0), omega (arith, ltb-false BYTE_LIMIT (text_bytes gs + length x.text) parts.1))
+    let parts = or_parts (nat_lt group_limit (length gs + 1)) (nat_lt byte_limit (text_bytes gs + length x.text)) (sym (room_none j x gs are) ∙ room) in
+    (omega (arith, ltb-false group_limit (length gs + 1) parts.0), omega (arith, ltb-false byte_limit (text_bytes gs + length x.text) parts.1))
 
 -- ---- the last step
 
@@ -207,8 +207,8 @@ on_ok_then (Err e) P Q f p = tt
 
 -- ---- the group of an entry, changed in memory
 
-pub short_text : (j : Joining) (x : Item) (n : ℕ) → is_done j x n ≡ false → length x.text ≤ BYTE_LIMIT
-short_text j x n isnt = ltb-false BYTE_LIMIT (length x.text) (or_parts (is_last j x) (nat_lt BYTE_LIMIT (length x.text)) (or_parts (leb j.most_entries n) (is_last j x || nat_lt BYTE_LIMIT (length x.text)) isnt).1).1
+pub short_text : (j : Joining) (x : Item) (n : ℕ) → is_done j x n ≡ false → length x.text ≤ byte_limit
+short_text j x n isnt = ltb-false byte_limit (length x.text) (or_parts (is_last j x) (nat_lt byte_limit (length x.text)) (or_parts (leb j.most_entries n) (is_last j x || nat_lt byte_limit (length x.text)) isnt).1).1
 
 -- the group with the entry, but for its count
 abbrev pub uncounted : Joining → Group → Item → Group
@@ -239,7 +239,7 @@ module _ (j : Joining) (x : Item) (gs : List Group) (place : ℕ) (a : IsAt x.so
       (same_text a.group ((a.group.text ++ j.separator) ++ piece) (a.group.text ++ (j.separator ++ x.text))
       (ap (λ (t : List ℕ). (a.group.text ++ j.separator) ++ t) is ∙ append_assoc a.group.text j.separator x.text))
 
-  pub piece_fits : (one : List Group) → one ≡ a.before ++ record a.group { text = a.group.text ++ j.separator } ∷ a.behind → HasRoom j gs x → (place < length one) × (text_bytes one + length x.text ≤ BYTE_LIMIT)
+  pub piece_fits : (one : List Group) → one ≡ a.before ++ record a.group { text = a.group.text ++ j.separator } ∷ a.behind → HasRoom j gs x → (place < length one) × (text_bytes one + length x.text ≤ byte_limit)
   piece_fits one one_is room =
       let old : text_bytes gs ≡ text_bytes a.before + (length a.group.text + text_bytes a.behind) = ap text_bytes a.parts ∙ bytes_around a.before a.behind a.group in
       let new : text_bytes one ≡ text_bytes a.before + (length (a.group.text ++ j.separator) + text_bytes a.behind) =

@@ -5,7 +5,7 @@ use Rattle.std.proofs.lemmas.Bool.{cases_Bool}
 use Rattle.std.proofs.lemmas.List.{map-append, map-set, set_at, take_at, drop_at, length-map, length-append, length-set, length_push}
 use Rattle.std.proofs.lemmas.List.Sums.{sum_by-cons, sum_by-append}
 use Rattle.std.proofs.lemmas.Slice.Eq.{bytes_eq-Decides}
-use Rattle.recombine.specs.declared.TheConstants.{GROUP_LIMIT, BATCH_LIMIT}
+use Rattle.recombine.specs.Limits.{group_limit, batch_limit}
 use Rattle.recombine.specs.declared.group.OpenGroup.{OpenGroup}
 use Rattle.recombine.specs.Group.{Group}
 use Rattle.recombine.specs.Sources.{is_of, AreOfOthers}
@@ -199,7 +199,7 @@ changes_remove items place g in_range is =
 pub seen_push : (items : List OpenGroup) (g : OpenGroup) → groups_seen (items ++ g ∷ []) ≡ groups_seen items ++ group_seen g ∷ []
 seen_push items g = map-append group_seen items (g ∷ [])
 
-pub table_push : (items : List OpenGroup) (bytes : ℕ) (g : OpenGroup) → IsTable (groups_seen items) bytes → AreOfOthers g.source (groups_seen items) → IsOpen (group_seen g) → length (groups_seen items) < GROUP_LIMIT
+pub table_push : (items : List OpenGroup) (bytes : ℕ) (g : OpenGroup) → IsTable (groups_seen items) bytes → AreOfOthers g.source (groups_seen items) → IsOpen (group_seen g) → length (groups_seen items) < group_limit
     → IsTable (groups_seen (items ++ g ∷ [])) (bytes + length (string_bytes g.text))
 table_push items bytes g table new one room =
     let put = seen_push items g in
@@ -250,7 +250,7 @@ seen_changes items gs place change then is changes = subst (λ (hs : List Group)
 pub group_at : (items : List OpenGroup) (gs : List Group) (place : ℕ) (g : OpenGroup) → groups_seen items ≡ gs → place < length gs → g ≡ get_or items place g → Tells gs place (λ group. group ≡ group_seen g)
 group_at items gs place g seen in_range is before behind group parts count = sym ((changes_remove items place g (seen_range items gs place seen in_range) is).1 before behind group (seen ∙ parts) count)
 
-pub entries_most : (items : List OpenGroup) (bytes place : ℕ) (g : OpenGroup) → IsTable (groups_seen items) bytes → place < length items → g ≡ get_or items place g → g.entries ≤ BATCH_LIMIT
+pub entries_most : (items : List OpenGroup) (bytes place : ℕ) (g : OpenGroup) → IsTable (groups_seen items) bytes → place < length items → g ≡ get_or items place g → g.entries ≤ batch_limit
 entries_most items bytes place g table in_range is =
     let a = around items place g in_range is in
     (open_at (groups_seen a.before) (groups_seen a.behind) (group_seen g) (subst AreOpen (seen_around items place g a) table.are_open)).most

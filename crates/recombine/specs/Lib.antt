@@ -1,3 +1,4 @@
+pub mod Limits
 pub mod Group
 pub mod Joining
 pub mod Item

@@ -3,7 +3,7 @@ use Rattle.std.specs.Prelude.{ℕ, zero, suc, Bool, ◌&&◌, not, if◌then◌e
 use Rattle.std.specs.Int.{w32}
 use Rattle.std.specs.List.{list_any}
 use Rattle.state_codec.specs.Reading.{Reading, ◌>>=◌, number_at, text_at, entry_at}
-use Rattle.recombine.specs.declared.TheConstants.{GROUP_LIMIT, BATCH_LIMIT}
+use Rattle.recombine.specs.Limits.{group_limit, batch_limit}
 use Rattle.recombine.specs.Group.{Group}
 use Rattle.recombine.specs.Sources.{is_of}
 
@@ -25,7 +25,7 @@ source_at before bytes = such_that text_at (λ source. not (list_any (is_of sour
 unfoldable pub group_at : List Group → List ℕ → Reading Group
 group_at before bytes = do
   source ← source_at before bytes
-  entries ← number_within 1 BATCH_LIMIT source.1
+  entries ← number_within 1 batch_limit source.1
   text ← text_at entries.1
   base ← entry_at text.1
   Ok (record { source = source.0; entries = entries.0; text = text.0; base = base.0 }, base.1)
@@ -40,5 +40,5 @@ groups_behind before (suc n) bytes = do
 
 unfoldable pub groups_at : List ℕ → Reading (List Group)
 groups_at bytes = do
-  count ← number_within 0 GROUP_LIMIT bytes
+  count ← number_within 0 group_limit bytes
   groups_behind [] count.0 count.1

@@ -6,7 +6,7 @@ use Rattle.entry_model.specs.Lawful.{nesting}
 use Rattle.entry_model.specs.LogRecord.{LogRecord}
 use Rattle.field_paths.specs.Change.{set_at}
 use Rattle.field_paths.specs.ValueAt.{datum_at}
-use Rattle.state_codec.specs.declared.TheConstants.{LEVELS}
+use Rattle.state_codec.specs.Limits.{levels}
 use Rattle.recombine.specs.Group.{Group}
 use Rattle.recombine.specs.Item.{Item}
 use Rattle.recombine.specs.Joining.{Joining}
@@ -40,7 +40,7 @@ joined_text joining entry = option_and_then text_in (datum_at joining.field entr
 
 -- body, attributes and resource are nested no deeper than what is saved may be
 unfoldable pub is_shallow : LogRecord → Bool
-is_shallow entry = nat_le (nesting entry.body) LEVELS && (nat_le (nesting (fields entry.attributes)) LEVELS && nat_le (nesting (fields entry.resource)) LEVELS)
+is_shallow entry = nat_le (nesting entry.body) levels && (nat_le (nesting (fields entry.attributes)) levels && nat_le (nesting (fields entry.resource)) levels)
 
 abbrev pub item_of : Arrival → List ℕ → Item
 item_of arrival found = record { source = arrival.source; text = found; mark = arrival.mark; entry = arrival.entry }

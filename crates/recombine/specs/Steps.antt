@@ -1,6 +1,6 @@
 -- What becomes of the open groups, in order of opening, when an entry comes: four steps.
 use Rattle.std.specs.Prelude.{ℕ, suc, Bool, ◌||◌, ◌&&◌, not, nat_lt, nat_le, if◌then◌else◌, List, [], ◌∷◌, ◌++◌, length, filter, sum_by}
-use Rattle.recombine.specs.declared.TheConstants.{GROUP_LIMIT, BYTE_LIMIT}
+use Rattle.recombine.specs.Limits.{group_limit, byte_limit}
 use Rattle.recombine.specs.Group.{Group}
 use Rattle.recombine.specs.Item.{Item, is_first, is_last}
 use Rattle.recombine.specs.Joining.{Joining}
@@ -38,7 +38,7 @@ abbrev pub text_bytes : List Group → ℕ
 text_bytes groups = sum_by (λ group. length group.text) groups
 
 abbrev pub are_too_many : List Group → Bool
-are_too_many groups = nat_lt GROUP_LIMIT (length groups) || nat_lt BYTE_LIMIT (text_bytes groups)
+are_too_many groups = nat_lt group_limit (length groups) || nat_lt byte_limit (text_bytes groups)
 
 unfoldable pub has_no_room : Joining → List Group → Item → Bool
 has_no_room joining groups x = are_too_many (joined joining groups x)
@@ -52,7 +52,7 @@ ended_by_room joining groups x = if has_no_room joining groups x then groups els
 -- ---- 4: its group is ended where it has entries enough, where the entry ends it, or where the entry's text alone is too long
 
 abbrev pub is_done : Joining → Item → ℕ → Bool
-is_done joining x entries = nat_le joining.most_entries entries || (is_last joining x || nat_lt BYTE_LIMIT (length x.text))
+is_done joining x entries = nat_le joining.most_entries entries || (is_last joining x || nat_lt byte_limit (length x.text))
 
 abbrev pub is_ended : Joining → Item → Group → Bool
 is_ended joining x group = is_of x.source group && is_done joining x group.entries

@@ -3,8 +3,8 @@ use Rattle.std.specs.Prelude.{◌≡◌, ◌⊎◌, ℕ, ◌≤◌, Option, None
 use Rattle.entry_model.specs.Lawful.{NestsWithin}
 use Rattle.entry_model.specs.LogRecord.{log_record}
 use Rattle.entry_model.specs.declared.entry.Entry.{Entry}
-use Rattle.state_codec.specs.declared.TheConstants.{LEVELS}
-use Rattle.recombine.specs.declared.TheConstants.{GROUP_LIMIT, BATCH_LIMIT}
+use Rattle.state_codec.specs.Limits.{levels}
+use Rattle.recombine.specs.Limits.{group_limit, batch_limit}
 use Rattle.recombine.specs.declared.group.Coming.{Coming}
 use Rattle.recombine.specs.declared.group.OpenGroup.{OpenGroup}
 use Rattle.recombine.specs.Group.{Group}
@@ -26,8 +26,8 @@ item_seen x = record { source = x.source; text = x.text; mark = x.mark; entry = 
 
 pub record IsOpen (group : Group) : Type 0 where
   pub some : 1 ≤ group.entries
-  pub most : group.entries ≤ BATCH_LIMIT
-  pub shallow : NestsWithin LEVELS group.base
+  pub most : group.entries ≤ batch_limit
+  pub shallow : NestsWithin levels group.base
 
 -- each is one, and no two are of one source
 abbrev pub AreOpen : List Group → Type 0
@@ -37,7 +37,7 @@ AreOpen (group ∷ groups) = IsOpen group × (AreOfOthers group.source groups ×
 -- with the number of bytes that their texts have together
 pub record IsTable (groups : List Group) (bytes : ℕ) : Type 0 where
   pub are_open : AreOpen groups
-  pub few : length groups ≤ GROUP_LIMIT
+  pub few : length groups ≤ group_limit
   pub counted : bytes ≡ text_bytes groups
 
 -- ---- where the group of a source is

@@ -2,8 +2,8 @@
 ghost use Rattle.std.specs.Prelude.{◌≡◌, ◌+◌, ◌<◌, ◌≤◌, ◌^◌, ◌↔◌, [], ◌∷◌, ◌++◌, length, IsTrue, OnOk, string_bytes};
 ghost use Rattle.entry_model.specs.Lawful.{NestsWithin};
 ghost use Rattle.entry_model.specs.LogRecord.{log_record};
-ghost use Rattle.state_codec.specs.declared.TheConstants.{LEVELS};
-ghost use Rattle.recombine.specs.declared.TheConstants.{GROUP_LIMIT, BATCH_LIMIT};
+ghost use Rattle.state_codec.specs.Limits.{levels};
+ghost use Rattle.recombine.specs.Limits.{group_limit, batch_limit};
 ghost use Rattle.recombine.specs.Sources.{AreOfOthers};
 ghost use Rattle.recombine.specs.Steps.{text_bytes};
 ghost use Rattle.recombine.specs.Table.{group_seen, groups_seen, IsOpen, AreOpen, IsPlace, Changes, Tells, with_piece, with_entries, with_base, without};
@@ -59,7 +59,7 @@ impl Groups {
     /// How many groups are open.
     pub(crate) fn len(&self) -> usize
         ensures value { result ≡ length self.now }
-        ensures few { result ≤ GROUP_LIMIT }
+        ensures few { result ≤ group_limit }
     {
         self.in_order.len()
     }
@@ -67,7 +67,7 @@ impl Groups {
     /// How many bytes their texts have together.
     pub(crate) fn bytes(&self) -> usize
         ensures value { result ≡ text_bytes self.now }
-        ensures few { length self.now ≤ GROUP_LIMIT }
+        ensures few { length self.now ≤ group_limit }
     {
         self.bytes
     }
@@ -96,7 +96,7 @@ impl Groups {
     pub(crate) fn entries_at(&self, place: usize) -> u32
         requires { place < length self.now }
         ensures value { Tells self.now place (λ group. group.entries ≡ result) }
-        ensures most { result ≤ BATCH_LIMIT }
+        ensures most { result ≤ batch_limit }
     {
         self.in_order[place].entries
     }
@@ -116,7 +116,7 @@ impl Groups {
     pub(crate) fn set_entries(&mut self, place: usize, entries: u32)
         requires in_range { place < length self.old }
         requires some { 1 ≤ entries }
-        requires most { entries ≤ BATCH_LIMIT }
+        requires most { entries ≤ batch_limit }
         ensures { Changes self.old place (with_entries entries) self.new }
     {
         let group = &mut self.in_order[place];
@@ -126,7 +126,7 @@ impl Groups {
     /// Makes another entry the base of the group at a place, and hands the old one out.
     pub(crate) fn set_base(&mut self, place: usize, base: Entry) -> Entry
         requires in_range { place < length self.old }
-        requires shallow { NestsWithin LEVELS (log_record base) }
+        requires shallow { NestsWithin levels (log_record base) }
         ensures { Changes self.old place (with_base base) self.new }
     {
         let group = &mut self.in_order[place];
@@ -148,7 +148,7 @@ impl Groups {
     pub(crate) fn push(&mut self, group: OpenGroup) -> Result<(), AllocError>
         requires new { AreOfOthers group.source self.old }
         requires is_open { IsOpen (group_seen group) }
-        requires few { length self.old < GROUP_LIMIT }
+        requires few { length self.old < group_limit }
         requires fits { text_bytes self.old + length (string_bytes group.text) < 2 ^ 64 }
         ensures { OnOk result (self.new ≡ self.old ++ group_seen group ∷ []) }
     {

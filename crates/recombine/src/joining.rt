@@ -3,7 +3,7 @@ ghost use Rattle.std.specs.Prelude.{◌≡◌, ◌≤◌, ◌∷◌, ◌++◌, [
 ghost use Rattle.entry_model.specs.LogRecord.{log_record};
 ghost use Rattle.entry_model.specs.Datum.{datum, text};
 ghost use Rattle.field_paths.specs.Change.{set_at};
-ghost use Rattle.recombine.specs.declared.TheConstants.{BATCH_LIMIT};
+ghost use Rattle.recombine.specs.Limits.{batch_limit};
 ghost use Rattle.recombine.specs.Item.{is_first};
 ghost use Rattle.recombine.specs.Recombined.{joined_text, text_in, recombined, entries_of};
 ghost use Rattle.recombine.specs.Steps.{is_done};
@@ -30,14 +30,14 @@ pub struct Recombine {
 
 impl Model for Recombine {
     ghost use Rattle.std.specs.Prelude.{◌≤◌};
-    ghost use Rattle.recombine.specs.declared.TheConstants.{BATCH_LIMIT};
+    ghost use Rattle.recombine.specs.Limits.{batch_limit};
     ghost use Rattle.recombine.specs.Joining.{Joining};
 
     ghost Value = { Joining };
 
     ghost view = { λ op. record { first_marks = op.first; field = op.field; separator = op.with; most_entries = op.max; newest = op.newest } };
 
-    ghost invariant = { λ op. (1 ≤ op.max) × (op.max ≤ BATCH_LIMIT) };
+    ghost invariant = { λ op. (1 ≤ op.max) × (op.max ≤ batch_limit) };
 }
 
 impl Recombine {
@@ -45,7 +45,7 @@ impl Recombine {
     /// last ones; a group of `max` entries is ended. What goes on is the group's newest entry or its oldest.
     pub fn new(first: bool, field: FieldPath, with: Text, max: u32, newest: bool) -> Recombine
         requires some { 1 ≤ max }
-        requires most { max ≤ BATCH_LIMIT }
+        requires most { max ≤ batch_limit }
         ensures { result ≡ record { first_marks = first; field = field; separator = with; most_entries = max; newest = newest } }
     {
         Recombine {
@@ -159,7 +159,7 @@ impl Recombine {
     /// Whether a group that has so many entries with this one is ended.
     pub(crate) fn is_done(&self, x: &Coming, entries: u32) -> bool
         ensures value { result ≡ is_done self.now (item_seen x.now) entries }
-        ensures few { result ≡ false → entries ≤ BATCH_LIMIT }
+        ensures few { result ≡ false → entries ≤ batch_limit }
     {
         if entries >= self.max {
             return true;

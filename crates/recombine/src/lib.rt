@@ -12,6 +12,9 @@
 //! order in which groups are ended, are this product's own.
 #![tactic(auto)]
 
+ghost use Rattle.std.specs.Prelude.{◌≡◌};
+ghost use Rattle.recombine.specs.Limits.{batch_limit, byte_limit, group_limit};
+
 mod fault;
 mod group;
 mod groups;
@@ -33,3 +36,10 @@ pub const BYTE_LIMIT: usize = 1_048_576;
 
 /// The most entries that a group may be asked to have.
 pub const BATCH_LIMIT: u32 = 1_000_000;
+
+/// The constants are the limits that the definitions have.
+pub fn constants_are_the_limits()
+    ensures groups { GROUP_LIMIT ≡ group_limit }
+    ensures bytes { BYTE_LIMIT ≡ byte_limit }
+    ensures batch { BATCH_LIMIT ≡ batch_limit }
+{}

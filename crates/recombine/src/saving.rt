@@ -1,5 +1,6 @@
 // Open groups as bytes, and back.
 ghost use Rattle.std.specs.Prelude.{◌≡◌, ◌≤◌, ◌++◌, IfOk, OnOk};
+ghost use Rattle.recombine.specs.Limits.{batch_limit, group_limit};
 ghost use Rattle.recombine.specs.Reading.{number_within, source_at, group_at};
 ghost use Rattle.recombine.specs.Restores.{Restores};
 ghost use Rattle.recombine.specs.Rules.{AreSpellable, KeepsRules};
@@ -103,8 +104,8 @@ fn get_source(
 
 /// The number of groups at a place.
 fn get_count(bytes: &[u8], at: usize) -> Result<(u32, usize), CodecFault>
-    ensures told { Finds (λ n. n) (number_within 0 GROUP_LIMIT) bytes.now at result }
-    ensures few { IfOk result (λ x. x.0 ≤ GROUP_LIMIT) }
+    ensures told { Finds (λ n. n) (number_within 0 group_limit) bytes.now at result }
+    ensures few { IfOk result (λ x. x.0 ≤ group_limit) }
 {
     let (count, next) = get_u32(bytes, at)?;
     if count as usize > GROUP_LIMIT {
@@ -115,7 +116,7 @@ fn get_count(bytes: &[u8], at: usize) -> Result<(u32, usize), CodecFault>
 
 /// How many entries a group at a place has.
 fn get_entries(bytes: &[u8], at: usize) -> Result<(u32, usize), CodecFault>
-    ensures { Finds (λ n. n) (number_within 1 BATCH_LIMIT) bytes.now at result }
+    ensures { Finds (λ n. n) (number_within 1 batch_limit) bytes.now at result }
 {
     let (entries, next) = get_u32(bytes, at)?;
     if entries < 1 || entries > BATCH_LIMIT {

@@ -2,7 +2,8 @@
 ghost use Rattle.std.specs.Prelude.{◌≡◌, ◌+◌, ◌<◌, ◌++◌, length, nat_lt, OnOk, IfOk};
 ghost use Rattle.entry_model.specs.Lawful.{NestsWithin};
 ghost use Rattle.entry_model.specs.LogRecord.{log_record};
-ghost use Rattle.state_codec.specs.declared.TheConstants.{LEVELS};
+ghost use Rattle.state_codec.specs.Limits.{levels};
+ghost use Rattle.recombine.specs.Limits.{byte_limit};
 ghost use Rattle.recombine.specs.Recombined.{entries_of};
 ghost use Rattle.recombine.specs.Sources.{AreOfOthers};
 ghost use Rattle.recombine.specs.Steps.{after_mark, ended_by_mark, after_room, ended_by_room, has_no_room, joined, after_end, ended_by_end, after, ended};
@@ -23,7 +24,7 @@ impl Recombine {
         x: Coming,
         out: &mut Vec<Entry>,
     ) -> Result<(), AllocError>
-        requires { NestsWithin LEVELS (log_record x.entry) }
+        requires { NestsWithin levels (log_record x.entry) }
         ensures groups { OnOk result (groups.new ≡ after self.now groups.old (item_seen x)) }
         ensures sent { OnOk result (seen out.new.items ≡ seen out.old.items ++ entries_of self.now (ended self.now groups.old (item_seen x))) }
     {
@@ -106,7 +107,7 @@ impl Recombine {
     ) -> Result<(), AllocError>
         requires new { AreOfOthers x.source groups.old }
         requires room { HasRoom self.now groups.old (item_seen x) }
-        requires shallow { NestsWithin LEVELS (log_record x.entry) }
+        requires shallow { NestsWithin levels (log_record x.entry) }
         ensures groups { OnOk result (groups.new ≡ after_end self.now (joined self.now groups.old (item_seen x)) (item_seen x)) }
         ensures sent { OnOk result (seen out.new.items ≡ seen out.old.items
             ++ entries_of self.now (ended_by_end self.now (joined self.now groups.old (item_seen x)) (item_seen x))) }
@@ -134,7 +135,7 @@ impl Recombine {
     ) -> Result<(), AllocError>
         requires at { IsAt x.source groups.old place }
         requires room { HasRoom self.now groups.old (item_seen x) }
-        requires shallow { NestsWithin LEVELS (log_record x.entry) }
+        requires shallow { NestsWithin levels (log_record x.entry) }
         ensures groups { OnOk result (groups.new ≡ after_end self.now (joined self.now groups.old (item_seen x)) (item_seen x)) }
         ensures sent { OnOk result (seen out.new.items ≡ seen out.old.items
             ++ entries_of self.now (ended_by_end self.now (joined self.now groups.old (item_seen x)) (item_seen x))) }
@@ -155,7 +156,7 @@ impl Recombine {
     /// Makes the entry the base of the group at a place, where the newest one is.
     fn rebase(&self, groups: &mut Groups, place: usize, entry: Entry)
         requires in_range { place < length groups.old }
-        requires shallow { NestsWithin LEVELS (log_record entry) }
+        requires shallow { NestsWithin levels (log_record entry) }
         ensures { Changes groups.old place (with_newest self.now.newest entry) groups.new }
     {
         if self.is_newest() {
@@ -165,7 +166,7 @@ impl Recombine {
 }
 
 fn is_too_long(bytes: usize, more: usize, most: usize) -> bool
-    ensures { result ≡ nat_lt BYTE_LIMIT (bytes + more + most) }
+    ensures { result ≡ nat_lt byte_limit (bytes + more + most) }
 {
     bytes.saturating_add(more).saturating_add(most) > BYTE_LIMIT
 }

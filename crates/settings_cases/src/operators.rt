@@ -31,6 +31,7 @@ fn show_time(time: &TimeSpec, out: &mut String) -> Result<(), AllocError> {
     } = time;
     let layout_type = match layout_type {
         LayoutType::Strptime => "strptime",
+        LayoutType::Gotime => "gotime",
         LayoutType::Epoch => "epoch",
     };
     write!(

@@ -7,7 +7,7 @@ use Rattle.serde_json.specs.Find.{as_object}
 use Rattle.settings_text.specs.declared.fault.SettingsFault.{SettingsFault}
 use Rattle.settings_text.specs.declared.fault.SettingsFault.TheVariants.{WrongKind, OutOfRange}
 use Rattle.settings_text.specs.declared.parsing.LayoutType.{LayoutType}
-use Rattle.settings_text.specs.declared.parsing.LayoutType.TheVariants.{Strptime, Epoch}
+use Rattle.settings_text.specs.declared.parsing.LayoutType.TheVariants.{Strptime, Gotime, Epoch}
 use Rattle.settings_text.specs.declared.parsing.TimeSpec.{TimeSpec}
 use Rattle.settings_text.specs.Kinds.{Kind, must, may, known, name, text}
 use Rattle.settings_text.specs.Outcome.{◌>>=◌, or_fault}
@@ -19,7 +19,10 @@ is_key name =
 -- ---- layouts
 
 abbrev pub type_named : List ℕ → Option LayoutType
-type_named name = if bytes_eq name (codes "strptime") then Some Strptime else (if bytes_eq name (codes "epoch") then Some Epoch else None)
+type_named name =
+    if bytes_eq name (codes "strptime") then Some Strptime else (
+    if bytes_eq name (codes "gotime") then Some Gotime else (
+    if bytes_eq name (codes "epoch") then Some Epoch else None))
 
 -- what a count since 1970 counts, and behind a point what its fraction has digits down to
 abbrev pub is_count : List ℕ → Bool
@@ -27,9 +30,10 @@ is_count layout =
     bytes_eq layout (codes "s") || bytes_eq layout (codes "ms") || bytes_eq layout (codes "us") || bytes_eq layout (codes "ns")
     || bytes_eq layout (codes "s.ms") || bytes_eq layout (codes "s.us") || bytes_eq layout (codes "s.ns")
 
--- directives are read later
+-- directives and reference times are read later
 abbrev pub fits : LayoutType → List ℕ → Bool
 fits Strptime layout = true
+fits Gotime layout = true
 fits Epoch layout = is_count layout
 
 abbrev pub fitting : LayoutType → List ℕ → List ℕ → Result (List ℕ) SettingsFault

@@ -7,6 +7,8 @@ use entry_model::Text;
 pub enum LayoutType {
     /// By directives, as those of POSIX `strptime`.
     Strptime,
+    /// As Go's package `time` writes its reference time.
+    Gotime,
     /// As counts since 1970.
     Epoch,
 }
@@ -16,7 +18,7 @@ pub enum LayoutType {
 pub struct TimeSpec {
     pub parse_from: Text,
     pub layout_type: LayoutType,
-    /// Directives, or for `Epoch` one of `s`, `ms`, `us`, `ns`, `s.ms`, `s.us` and `s.ns`.
+    /// Directives, for `Gotime` the reference time, or for `Epoch` one of `s`, `ms`, `us`, `ns`, `s.ms`, `s.us` and `s.ns`.
     pub layout: Text,
     /// In seconds east of UTC.
     pub location: i32,

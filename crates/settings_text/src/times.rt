@@ -40,6 +40,7 @@ fn layout_type(alloc: Global, object: &Value, at: &str) -> Result<LayoutType, Se
 {
     let words = [
         ("strptime", LayoutType::Strptime),
+        ("gotime", LayoutType::Gotime),
         ("epoch", LayoutType::Epoch),
     ];
     named_or(
@@ -66,7 +67,7 @@ impl Words for LayoutType {
 
     fn has(&self, layout: &str) -> bool {
         match self {
-            LayoutType::Strptime => true,
+            LayoutType::Strptime | LayoutType::Gotime => true,
             LayoutType::Epoch => is_count(layout),
         }
     }

@@ -7,7 +7,7 @@ use Rattle.state_codec.specs.DeadEnds.{IsUnit}
 use Rattle.state_codec.specs.Spelling.{bytes_spelling}
 use Rattle.state_codec.specs.Rules.{IsShortText}
 use Rattle.state_codec.specs.Reading.{Reading, DatumReader, ◌>>=◌, number_at, bytes_at, text_at, items_at, members_at, is_behind, list_at, map_at, leaf_at, value_at, fields_at, severity_at, time_at, entry_within, entry_at}
-use Rattle.state_codec.specs.declared.TheConstants.{LEVELS}
+use Rattle.state_codec.specs.Limits.{levels}
 use Rattle.state_codec.proofs.Numbers.{IsBytes, bind_ok, err_or_ok, text_takes, text_again}
 use Rattle.state_codec.proofs.ValueLaws.{leaf_other, value_behind}
 use Rattle.state_codec.proofs.EntryLaws.{time_other}
@@ -232,4 +232,4 @@ fair_entry levels inside =
     (λ time. fair_ok (made body attributes resource severity name time)))))))
 
 pub fair_entry_at : Fair IsUnit entry_at
-fair_entry_at = fair_entry LEVELS (LEVELS - 1)
+fair_entry_at = fair_entry levels (levels - 1)

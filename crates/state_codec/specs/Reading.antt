@@ -7,7 +7,7 @@ use Rattle.std.specs.Ordering.{nat_cmp, is_lt}
 use Rattle.std.specs.Cmp.Lexicographic.{slice_cmp}
 use Rattle.entry_model.specs.Datum.{Datum, null, boolean, int, text, list, fields, items_of, members_of}
 use Rattle.entry_model.specs.LogRecord.{LogRecord}
-use Rattle.state_codec.specs.declared.TheConstants.{LEVELS}
+use Rattle.state_codec.specs.Limits.{levels}
 
 abbrev pub Reading : Type 0 → Type 0
 Reading A = Result (A × List ℕ) ℕ
@@ -151,4 +151,4 @@ entry_within levels inside bytes = do
   )
 
 abbrev pub entry_at : List ℕ → Reading LogRecord
-entry_at bytes = entry_within LEVELS (LEVELS - 1) bytes
+entry_at bytes = entry_within levels (levels - 1) bytes

@@ -5,7 +5,7 @@ use Rattle.entry_model.specs.Datum.{Datum, null, boolean, int, text, list, field
 use Rattle.entry_model.specs.LogRecord.{LogRecord}
 use Rattle.entry_model.specs.Lawful.{KeysAscend, NestsWithin}
 use Rattle.state_codec.specs.Spelling.{item_count, member_count}
-use Rattle.state_codec.specs.declared.TheConstants.{LEVELS}
+use Rattle.state_codec.specs.Limits.{levels}
 
 -- a text whose length is below 2^32
 pub record IsShortText (bytes : List ℕ) : Type 0 where
@@ -41,4 +41,4 @@ pub record IsSpellableEntry (r : LogRecord) : Type 0 where
 -- what is put, and what is read
 pub record IsReadable (r : LogRecord) : Type 0 where
   pub lawful : IsSpellableEntry r
-  pub shallow : NestsWithin LEVELS r
+  pub shallow : NestsWithin levels r

@@ -11,6 +11,9 @@
 //! attributes and resource, a severity byte, the severity text, and a byte 0, or a byte 1 and a u64 time.
 #![tactic(auto)]
 
+ghost use Rattle.std.specs.Prelude.{◌≡◌};
+ghost use Rattle.state_codec.specs.Limits.{levels};
+
 pub mod cursor;
 mod entry;
 mod get;
@@ -25,6 +28,11 @@ use thiserror::Error;
 
 /// The most lists and maps that stand around a value inside an entry.
 pub const LEVELS: usize = 4_096;
+
+/// The constant is the limit that the definitions have.
+pub fn constants_are_the_limits()
+    ensures { LEVELS ≡ levels }
+{}
 
 /// Why nothing is read.
 #[derive(Clone, Copy, Debug, Error, PartialEq, Eq)]

@@ -4,7 +4,7 @@ ghost use Rattle.std.specs.Int.{w32, w64, to_be_bytes};
 ghost use Rattle.entry_model.specs.Datum.{datum, items_of, members_of};
 ghost use Rattle.entry_model.specs.LogRecord.{log_record};
 ghost use Rattle.entry_model.specs.Seen.{seen};
-ghost use Rattle.state_codec.specs.declared.TheConstants.{LEVELS};
+ghost use Rattle.state_codec.specs.Limits.{levels};
 ghost use Rattle.state_codec.specs.Spelling.{bytes_spelling, value_spelling, items_spelling, members_spelling, time_spelling, entry_spelling};
 ghost use Rattle.entry_model.specs.Lawful.{KeysAscend, NestsWithin};
 ghost use Rattle.state_codec.specs.Rules.{IsShortText, IsSpellable, AreSpellable, AreSpellableMembers, IsSpellableEntry};
@@ -127,7 +127,7 @@ fn put_time(alloc: Global, time: Option<u64>, out: &mut Vec<u8>) -> Result<(), A
 /// Appends an entry, of which no part may be nested more than [`crate::LEVELS`] deep. A text, list or map of 2^32 bytes,
 /// values or members and more finds no memory.
 pub fn put_entry(alloc: Global, entry: &Entry, out: &mut Vec<u8>) -> Result<(), AllocError>
-    requires { NestsWithin LEVELS (log_record entry.now) }
+    requires { NestsWithin levels (log_record entry.now) }
     ensures ok { OnOk result (out.new.items ≡ out.old.items ++ entry_spelling (log_record entry.now)) }
     ensures lawful { OnOk result (IsSpellableEntry (log_record entry.now)) }
 {

@@ -2,15 +2,17 @@
 use Rattle.std.proofs.Common.{◌≡◌, ◌≢◌, ◌∙◌, sym, ap, refl, ℕ, ◌+◌, min, List, [], ◌∷◌, ◌++◌, length, drop, false, Ok, ℤ, ◌⊎◌, inl, inr, arith, zero-add, eq-eqb}
 use Rattle.std.proofs.Math.ListN.{length-append}
 use Rattle.std.proofs.lemmas.Bool.{le-ltb, ne_eqb}
-use Rattle.case_table.specs.Tables.{month_table}
+use Rattle.case_table.specs.Tables.{month_table, month_name_table, day_name_table}
 use Rattle.time_layout.specs.declared.parts.Part.{Part}
-use Rattle.time_layout.specs.declared.parts.Part.TheVariants.{Literal, Year, ShortYear, Month, MonthName, Day, PaddedDay, WeekdayName, Hour, TwelveHour, Meridiem, Minute, Second, Fraction, PointFraction, Zone}
+use Rattle.time_layout.specs.declared.parts.Part.TheVariants.{Literal, Year, ShortYear, Month, MonthName, Day, PaddedDay, WeekdayName, Hour, TwelveHour, Meridiem, Minute, Second, Fraction, PointFraction, Zone, UnpaddedMonth, FullMonthName, UnpaddedDay, FullWeekdayName, UnpaddedTwelveHour, FixedFraction, FractionPoint, Offset, ZoneName}
 use Rattle.time_layout.specs.declared.parts.Said.{Said}
 use Rattle.time_layout.specs.Atoms.{Reading, and_then, optional_fraction, stands}
 use Rattle.time_layout.specs.Names.{weekday_table, meridiem_table}
 use Rattle.time_layout.specs.Parts.{part_read, parts_read, layout_read, nothing_said, full_year, clock_of}
 use Rattle.time_layout.specs.Texts.{Spells, IsTextOf, IsFraction}
-use Rattle.time_layout.proofs.Completes.{stands_is, stands_nowhere, behind, behind_one, number_reads, fraction_reads, name_reads, padded_day_reads, zone_reads}
+use Rattle.time_layout.proofs.CompleteForms.{fixed_fraction_reads, fraction_point_reads, zone_name_reads}
+use Rattle.time_layout.proofs.Completes.{stands_is, stands_nowhere, behind, behind_one, number_reads, fraction_reads, name_reads, unpadded_reads, padded_day_reads, signed_reads, zone_reads}
+use Rattle.time_layout.proofs.FullNames.{months_apart, days_apart, full_name_reads}
 
 through : {A : Type 0} (reading : Reading A) (value : A) (next : ℕ) (say : A → Said) (said : Said) → reading ≡ Ok (value, next) → said ≡ say value
     → and_then reading (λ v n. Ok (say v, n)) ≡ Ok (said, next)
@@ -73,6 +75,24 @@ part_reads (PointFraction most) at text own rest before said is (inr some) =
     (optional_reads (min most 9) at some.1 text own rest is (inr (some.0, some.2, some.3))) some.4
 part_reads (Zone colon) at text own rest before said is spelled =
     through _ spelled.0 (at + length own) (λ v. record before { offset = v }) said (zone_reads colon at spelled.0 text own rest is spelled.1) spelled.2
+part_reads UnpaddedMonth at text own rest before said is spelled =
+    through _ spelled.0 (at + length own) (λ v. record before { month = v }) said (unpadded_reads 12 at spelled.0 text own rest is spelled.1) spelled.2
+part_reads FullMonthName at text own rest before said is spelled =
+    through _ spelled.0 (at + length own) (λ v. record before { month = v }) said (full_name_reads month_name_table at spelled.0 text own rest months_apart is spelled.1) spelled.2
+part_reads UnpaddedDay at text own rest before said is spelled =
+    through _ spelled.0 (at + length own) (λ v. record before { day = v }) said (unpadded_reads 31 at spelled.0 text own rest is spelled.1) spelled.2
+part_reads FullWeekdayName at text own rest before said is spelled =
+    through _ spelled.0 (at + length own) (λ v. before) said (full_name_reads day_name_table at spelled.0 text own rest days_apart is spelled.1) spelled.2
+part_reads UnpaddedTwelveHour at text own rest before said is spelled =
+    through _ spelled.0 (at + length own) (λ v. record before { hour = v }) said (unpadded_reads 12 at spelled.0 text own rest is spelled.1) spelled.2
+part_reads (FixedFraction digits) at text own rest before said is spelled =
+    through _ spelled.0 (at + length own) (λ v. record before { nanosecond = v }) said (fixed_fraction_reads (min digits 9) at spelled.0 text own rest is spelled.1) spelled.2
+part_reads FractionPoint at text own rest before said is spelled =
+    through _ spelled.0 (at + length own) (λ v. record before { nanosecond = v }) said (fraction_point_reads at spelled.0 text own rest is spelled.1) spelled.2
+part_reads (Offset colon) at text own rest before said is spelled =
+    through _ spelled.0 (at + length own) (λ v. record before { offset = v }) said (signed_reads colon at spelled.0 text own rest is spelled.1) spelled.2
+part_reads ZoneName at text own rest before said is spelled =
+    through _ spelled.0 (at + length own) (λ v. record before { offset = v }) said (zone_name_reads at spelled.0 text own rest is spelled.1) spelled.2
 
 pub parts_reads : (parts : List Part) (at : ℕ) (text own : List ℕ) (before said : Said) → drop at text ≡ own → IsTextOf parts own before said
     → parts_read parts text at before ≡ Ok (said, at + length own)

@@ -1,5 +1,5 @@
 -- A text of a part is read as it.
-use Rattle.std.proofs.Common.{◌≡◌, ◌∙◌, sym, ap, refl, ℕ, zero, suc, ◌+◌, ◌-◌, ◌≤◌, List, [], ◌∷◌, ◌++◌, length, take, drop, get_or, Bool, true, false, cond, nat_lt, nat_le, ◌==◌, ◌&&◌, Ok, Err, ℤ, ◌⊎◌, inl, inr, arith, append_assoc}
+use Rattle.std.proofs.Common.{◌≡◌, ◌∙◌, sym, ap, refl, ℕ, zero, suc, ◌+◌, ◌-◌, ◌≤◌, List, [], ◌∷◌, ◌++◌, length, take, drop, get_or, Bool, true, false, cond, nat_lt, ◌==◌, Ok, Err, ℤ, ◌⊎◌, inl, inr, arith, append_assoc}
 use Rattle.std.proofs.lemmas.Bool.{lt-ltb, le-ltb, ne_eqb, false≢true}
 use Rattle.std.proofs.Math.Seq.{take-append_seam, drop-append_seam, take-append-add, drop-drop, get_or-drop}
 use Rattle.std.proofs.Math.ListN.{length-drop, length-append}
@@ -10,9 +10,9 @@ use Rattle.std.specs.List.{prefix_len}
 use Rattle.time_layout.specs.declared.fault.TimeFault.TheVariants.{Mismatch}
 use Rattle.case_table.specs.Rows.{Named}
 use Rattle.time_layout.specs.declared.parts.Colon.{Colon}
-use Rattle.time_layout.specs.declared.parts.Colon.TheVariants.{Optional, Required}
-use Rattle.time_layout.specs.Atoms.{Reading, stands, number, fraction, name_at, padded_day, minutes_behind, offset, zone}
-use Rattle.time_layout.specs.Texts.{AreDigits, BeginsNoDigit, IsNumber, IsFraction, IsName, IsPaddedDay, AreMinutes, IsOffset, IsZone}
+use Rattle.time_layout.specs.declared.parts.Colon.TheVariants.{Optional, Required, Missing}
+use Rattle.time_layout.specs.Atoms.{Reading, value_of, stands, may_lie, number, fraction, name_at, unpadded, padded_day, minutes_behind, offset, signed, zone}
+use Rattle.time_layout.specs.Texts.{AreDigits, BeginsNoDigit, IsNumber, IsFraction, IsName, IsUnpadded, IsPaddedDay, AreMinutes, IsOffset, IsSigned, IsZone}
 
 -- at a place where a byte stands
 pub stands_is : (byte at : ℕ) (text : List ℕ) (first : ℕ) (rest : List ℕ) → drop at text ≡ first ∷ rest → stands byte text at ≡ (first == byte)
@@ -38,8 +38,7 @@ pub front_whole : (own rest : List ℕ) (size : ℕ) → length own ≡ size →
 front_whole own rest size is = ap (λ n. take n (own ++ rest)) (sym is) ∙ take-append_seam own rest
 
 number_of_digits : (digits low high at value : ℕ) → low ≤ value → value ≤ high
-    → cond {A = Reading ℕ} (nat_lt digits digits) (Err (Mismatch (at + digits)))
-    (cond {A = Reading ℕ} (nat_le low value && nat_le value high) (Ok (value, at + digits)) (Err (Mismatch at)))
+    → cond {A = Reading ℕ} (may_lie 0 low high value) (cond {A = Reading ℕ} (nat_lt digits digits) (Err (Mismatch (at + digits))) (Ok (value, at + digits))) (Err (Mismatch at))
     ≡ Ok (value, at + digits)
 number_of_digits digits low high at value least greatest = grind (arith, nat_tests)
 
@@ -48,14 +47,16 @@ pub number_reads : (digits low high at value : ℕ) (text own rest : List ℕ) �
 unfolding number
 number_reads digits low high at value text own rest is n =
     let whole : take digits (drop at text) ≡ own = ap (take digits) is ∙ front_whole own rest digits n.size in
-    let count : prefix_len is_ascii_digit own ≡ digits = n.all ∙ n.size in
-    rw (whole, count, n.value_is, n.size) (number_of_digits digits low high at value n.least n.greatest)
+    let count : prefix_len is_ascii_digit (take digits (drop at text)) ≡ digits = ap (prefix_len is_ascii_digit) whole ∙ n.all ∙ n.size in
+    let value_is : value_of (take digits (drop at text)) ≡ value = ap value_of whole ∙ n.value_is in
+    let none : digits - digits ≡ 0 = omega arith in
+    rw (count, value_is, none, n.size) (number_of_digits digits low high at value n.least n.greatest)
 
 no_longer : (test : Bool) (m n : ℕ) → cond test (1 + m) 0 ≡ 0 → cond test (1 + n) 0 ≡ 0
 no_longer true m n none = absurd (omega arith)
 no_longer false m n none = refl
 
-none_in_front : (k : ℕ) (text : List ℕ) → BeginsNoDigit text → BeginsNoDigit (take k text)
+pub none_in_front : (k : ℕ) (text : List ℕ) → BeginsNoDigit text → BeginsNoDigit (take k text)
 none_in_front zero [] none = refl
 none_in_front (suc k) [] none = refl
 none_in_front zero (byte ∷ text) none = refl
@@ -65,7 +66,7 @@ either_way : (test : Bool) (n : ℕ) → cond test (n + 0) n ≡ n
 either_way true n = omega arith
 either_way false n = refl
 
-first_passes : (test : Bool) (m n : ℕ) → cond test (1 + m) 0 ≡ suc n → test ≡ true
+pub first_passes : (test : Bool) (m n : ℕ) → cond test (1 + m) 0 ≡ suc n → test ≡ true
 first_passes true m n is = refl
 first_passes false m n is = absurd (omega arith)
 
@@ -108,6 +109,17 @@ digits_begin byte at text (first ∷ own) rest other is all some =
     let digit : is_ascii_digit first ≡ true = first_passes (is_ascii_digit first) (prefix_len is_ascii_digit own) (length own) all in
     stands_is byte at text first (own ++ rest) is ∙ ne_eqb first byte (λ same. false≢true (sym other ∙ ap is_ascii_digit (sym same) ∙ digit))
 
+pub unpadded_reads : (high at value : ℕ) (text own rest : List ℕ) → drop at text ≡ own ++ rest → IsUnpadded high own rest value
+    → unpadded high text at ≡ Ok (value, at + length own)
+unpadded_reads high at value text own rest is (inl two) =
+    let count : prefix_len is_ascii_digit (take 2 (drop at text)) ≡ 2 =
+    ap (λ bytes. prefix_len is_ascii_digit (take 2 bytes)) is ∙ ap (prefix_len is_ascii_digit) (front_whole own rest 2 two.size) ∙ two.all ∙ two.size in
+    rw count (number_reads 2 1 high at value text own rest is two)
+unpadded_reads high at value text own rest is (inr one) =
+    let count : prefix_len is_ascii_digit (take 2 (drop at text)) ≡ 1 =
+    ap (λ bytes. prefix_len is_ascii_digit (take 2 bytes)) is ∙ count_is own rest 2 one.0.all (omega (arith, one.0.size)) (inr one.1) ∙ one.0.size in
+    rw count (number_reads 1 1 high at value text own rest is one.0)
+
 pub padded_day_reads : (at day : ℕ) (text own rest : List ℕ) → drop at text ≡ own ++ rest → IsPaddedDay own rest day
     → padded_day text at ≡ Ok (day, at + length own)
 padded_day_reads at day text own rest is (inl spaced) =
@@ -116,13 +128,9 @@ padded_day_reads at day text own rest is (inl spaced) =
     let size : at + 1 + length spaced.0 ≡ at + length own = omega (arith, ap length spaced.1) in
     rw (stands_is 32 at text 32 (spaced.0 ++ rest) begins) (after ∙ ap (λ next. Ok (day, next)) size)
 padded_day_reads at day text own rest is (inr (inl two)) =
-    let count : prefix_len is_ascii_digit (take 2 (drop at text)) ≡ 2 =
-    ap (λ bytes. prefix_len is_ascii_digit (take 2 bytes)) is ∙ ap (prefix_len is_ascii_digit) (front_whole own rest 2 two.size) ∙ two.all ∙ two.size in
-    rw (digits_begin 32 at text own rest refl is two.all (omega (arith, two.size)), count) (number_reads 2 1 31 at day text own rest is two)
+    rw (digits_begin 32 at text own rest refl is two.all (omega (arith, two.size))) (unpadded_reads 31 at day text own rest is (inl two))
 padded_day_reads at day text own rest is (inr (inr one)) =
-    let count : prefix_len is_ascii_digit (take 2 (drop at text)) ≡ 1 =
-    ap (λ bytes. prefix_len is_ascii_digit (take 2 bytes)) is ∙ count_is own rest 2 one.0.all (omega (arith, one.0.size)) (inr one.1) ∙ one.0.size in
-    rw (digits_begin 32 at text own rest refl is one.0.all (omega (arith, one.0.size)), count) (number_reads 1 1 31 at day text own rest is one.0)
+    rw (digits_begin 32 at text own rest refl is one.0.all (omega (arith, one.0.size))) (unpadded_reads 31 at day text own rest is (inr one))
 
 colon_reads : (at minutes : ℕ) (text digits rest : List ℕ) → drop at text ≡ 58 ∷ (digits ++ rest) → IsNumber 2 0 59 digits minutes
     → number 2 0 59 text (at + 1) ≡ Ok (minutes, at + suc (length digits))
@@ -139,6 +147,7 @@ minutes_read Optional at minutes text own rest is (inr n) =
 minutes_read Required at minutes text own rest is colon =
     let begins : drop at text ≡ 58 ∷ (colon.0 ++ rest) = is ∙ ap (λ bytes. bytes ++ rest) colon.1 in
     rw (stands_is 58 at text 58 (colon.0 ++ rest) begins, colon.1) (colon_reads at minutes text colon.0 rest begins colon.2)
+minutes_read Missing at minutes text own rest is n = number_reads 2 0 59 at minutes text own rest is n
 
 pub offset_reads : (colon : Colon) (at seconds : ℕ) (text own rest : List ℕ) → drop at text ≡ own ++ rest → IsOffset colon own seconds
     → offset colon text at ≡ Ok (seconds, at + length own)
@@ -152,12 +161,27 @@ offset_reads colon at seconds text own rest is o =
     omega (arith, ap length o.is, length-append o.hours_text o.minutes_text) in
     rw (hours, minutes, size, o.seconds_are) refl
 
-signed_reads : (colon : Colon) (sign at seconds : ℕ) (text own behind_sign rest : List ℕ) → drop at text ≡ own ++ rest → own ≡ sign ∷ behind_sign
+behind_sign_reads : (colon : Colon) (sign at seconds : ℕ) (text own behind_sign rest : List ℕ) → drop at text ≡ own ++ rest → own ≡ sign ∷ behind_sign
     → IsOffset colon behind_sign seconds → offset colon text (at + 1) ≡ Ok (seconds, at + length own)
-signed_reads colon sign at seconds text own behind_sign rest is own_is o =
+behind_sign_reads colon sign at seconds text own behind_sign rest is own_is o =
     let begins : drop at text ≡ sign ∷ (behind_sign ++ rest) = is ∙ ap (λ bytes. bytes ++ rest) own_is in
     offset_reads colon (at + 1) seconds text behind_sign rest (behind_one at text sign (behind_sign ++ rest) begins) o
     ∙ ap (λ next. Ok (seconds, next)) (omega (arith, ap length own_is))
+
+pub signed_reads : (colon : Colon) (at : ℕ) (offset_is : ℤ) (text own rest : List ℕ) → drop at text ≡ own ++ rest → IsSigned colon own offset_is
+    → signed colon text at ≡ Ok (offset_is, at + length own)
+unfolding signed
+signed_reads colon at offset_is text own rest is (inl east) =
+    let begins : drop at text ≡ 43 ∷ (east.0 ++ rest) = is ∙ ap (λ bytes. bytes ++ rest) east.2 in
+    rw (stands_is 43 at text 43 (east.0 ++ rest) begins, behind_sign_reads colon 43 at east.1 text own east.0 rest is east.2 east.4, east.3) refl
+signed_reads colon at offset_is text own rest is (inr west) =
+    let begins : drop at text ≡ 45 ∷ (west.0 ++ rest) = is ∙ ap (λ bytes. bytes ++ rest) west.2 in
+    rw (
+      stands_is 43 at text 45 (west.0 ++ rest) begins,
+      stands_is 45 at text 45 (west.0 ++ rest) begins,
+      behind_sign_reads colon 45 at west.1 text own west.0 rest is west.2 west.4,
+      west.3,
+    ) refl
 
 pub zone_reads : (colon : Colon) (at : ℕ) (offset_is : ℤ) (text own rest : List ℕ) → drop at text ≡ own ++ rest → IsZone colon own offset_is
     → zone colon text at ≡ Ok (offset_is, at + length own)
@@ -167,18 +191,7 @@ zone_reads colon at offset_is text own rest is (inl utc) =
     rw (stands_is 90 at text 90 rest begins, utc.0, utc.1) refl
 zone_reads colon at offset_is text own rest is (inr (inl east)) =
     let begins : drop at text ≡ 43 ∷ (east.0 ++ rest) = is ∙ ap (λ bytes. bytes ++ rest) east.2 in
-    rw (
-      stands_is 90 at text 43 (east.0 ++ rest) begins,
-      stands_is 43 at text 43 (east.0 ++ rest) begins,
-      signed_reads colon 43 at east.1 text own east.0 rest is east.2 east.4,
-      east.3,
-    ) refl
+    rw (stands_is 90 at text 43 (east.0 ++ rest) begins) (signed_reads colon at offset_is text own rest is (inl east))
 zone_reads colon at offset_is text own rest is (inr (inr west)) =
     let begins : drop at text ≡ 45 ∷ (west.0 ++ rest) = is ∙ ap (λ bytes. bytes ++ rest) west.2 in
-    rw (
-      stands_is 90 at text 45 (west.0 ++ rest) begins,
-      stands_is 43 at text 45 (west.0 ++ rest) begins,
-      stands_is 45 at text 45 (west.0 ++ rest) begins,
-      signed_reads colon 45 at west.1 text own west.0 rest is west.2 west.4,
-      west.3,
-    ) refl
+    rw (stands_is 90 at text 45 (west.0 ++ rest) begins) (signed_reads colon at offset_is text own rest is (inr west))

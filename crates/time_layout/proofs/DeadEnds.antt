@@ -1,16 +1,16 @@
 -- Where a part can't be read, no text that begins alike has it.
-use Rattle.std.proofs.Common.{◌≡◌, ◌∙◌, sym, ap, refl, subst, ℕ, ◌+◌, ◌-◌, ◌*◌, ◌^◌, ◌<◌, ◌≤◌, List, [], ◌∷◌, ◌++◌, length, take, drop, get_or, Bool, true, false, cond, nat_lt, nat_le, ◌==◌, ◌&&◌, Ok, Err, ◌⊎◌, inl, inr, arith, eq-eqb}
+use Rattle.std.proofs.Common.{◌≡◌, ◌∙◌, sym, ap, refl, subst, ℕ, ◌+◌, ◌-◌, ◌*◌, ◌^◌, ◌<◌, ◌≤◌, List, [], ◌∷◌, ◌++◌, length, take, drop, get_or, Bool, true, false, cond, nat_lt, ◌==◌, Ok, Err, ◌⊎◌, inl, inr, arith, eq-eqb}
 use Rattle.std.proofs.Math.Seq.{get_or-drop, get_or-take, take-append-le}
 use Rattle.std.proofs.Math.ListN.{length-append, length-take}
 use Rattle.std.proofs.lemmas.List.{get_or_append_left}
-use Rattle.std.proofs.lemmas.List.Sums.{prefix_len_passes, prefix_len_stops}
-use Rattle.std.proofs.lemmas.Bool.{ltb-true, ltb-false, eqb-true, false≢true}
-use Rattle.std.proofs.lemmas.Bool.Decides.{nat_tests}
+use Rattle.std.proofs.lemmas.List.Sums.{prefix_len-le-length, prefix_len_passes, prefix_len_stops}
+use Rattle.std.proofs.lemmas.Bool.{ltb-true, eqb-true, cases_lt, false≢true}
 use Rattle.std.specs.Char.{is_ascii_digit}
 use Rattle.std.specs.List.{prefix_len}
 use Rattle.time_layout.specs.declared.fault.TimeFault.TheVariants.{Mismatch, OutOfRange}
-use Rattle.time_layout.specs.Atoms.{Reading, value_of, stands, number, fraction}
-use Rattle.time_layout.proofs.Completes.{front_whole, stands_is, behind_one}
+use Rattle.time_layout.specs.Atoms.{Reading, value_of, stands, may_lie, number, fraction}
+use Rattle.time_layout.proofs.Completes.{stands_is, behind_one}
+use Rattle.time_layout.proofs.Numbers.{may_begin}
 use Rattle.time_layout.proofs.Sounds.{standing}
 use Rattle.time_layout.specs.Texts.{AreDigits, IsNumber, IsFraction}
 
@@ -73,62 +73,83 @@ short_dead digits low high text at few front x splits size more own rest is numb
     let none : is_ascii_digit (get_or (front ++ x) count 0) ≡ false = rw (← splits) (stops_at (drop at text) digits few inside) in
     no_digit front x more own rest count (omega arith) (omega (arith, number.1.size)) number.1.all is none
 
-in_range : (low value high : ℕ) → low ≤ value → value ≤ high → nat_le low value && nat_le value high ≡ true
-in_range low value high least greatest = grind (arith, nat_tests)
+-- the digits that stand there begin no number
+pub range_dead : (width digits low high : ℕ) (text : List ℕ) (at : ℕ) → prefix_len is_ascii_digit (take digits (drop at text)) ≤ width
+    → may_lie (digits - prefix_len is_ascii_digit (take digits (drop at text))) low high (value_of (take (prefix_len is_ascii_digit (take digits (drop at text))) (drop at text))) ≡ false
+    → Dead width text at at (λ own rest. (value : ℕ) × IsNumber digits low high own value)
+range_dead width digits low high text at few out front x splits size more own rest is number =
+    let count : ℕ = prefix_len is_ascii_digit (take digits (drop at text)) in
+    let some : count ≤ digits = omega (arith, prefix_len-le-length is_ascii_digit (take digits (drop at text)), length-take digits (drop at text)) in
+    let one : take count (drop at text) ≡ take count front = ap (take count) splits ∙ take-append-le count front x (omega arith) in
+    let other : take count front ≡ take count own =
+    sym (take-append-le count front more (omega arith)) ∙ ap (take count) is ∙ take-append-le count own rest (omega (arith, number.1.size)) in
+    false≢true (sym out ∙ ap (λ bytes. may_lie (digits - count) low high (value_of bytes)) (one ∙ other)
+    ∙ may_begin digits low high count own number.0 number.1 some)
 
--- a number out of its range
-pub range_dead : (digits low high : ℕ) (text : List ℕ) (at : ℕ) → digits ≤ 2
-    → nat_le low (value_of (take digits (drop at text))) && nat_le (value_of (take digits (drop at text))) high ≡ false
-    → Dead 2 text at at (λ own rest. (value : ℕ) × IsNumber digits low high own value)
-range_dead digits low high text at few out front x splits size more own rest is number =
-    let two : length front ≡ 2 = omega arith in
-    let one : take digits (drop at text) ≡ take digits front = ap (take digits) splits ∙ take-append-le digits front x (omega arith) in
-    let other : take digits front ≡ own =
-    sym (take-append-le digits front more (omega arith)) ∙ ap (take digits) is ∙ front_whole own rest digits number.1.size in
-    let value : value_of (take digits (drop at text)) ≡ number.0 = ap value_of (one ∙ other) ∙ number.1.value_is in
-    false≢true (sym out ∙ in_range low (value_of (take digits (drop at text))) high (omega (arith, number.1.least)) (omega (arith, number.1.greatest)))
+-- why there is no number: one of its digits is missing, or those that stand there begin none
+abbrev pub IsNumberFault : ℕ → ℕ → ℕ → List ℕ → ℕ → ℕ → Type 0
+IsNumberFault digits low high bytes at fault =
+    ((may_lie (digits - prefix_len is_ascii_digit (take digits bytes)) low high (value_of (take (prefix_len is_ascii_digit (take digits bytes)) bytes)) ≡ true)
+    × (prefix_len is_ascii_digit (take digits bytes) < digits) × (at + prefix_len is_ascii_digit (take digits bytes) ≡ fault))
+    ⊎ ((may_lie (digits - prefix_len is_ascii_digit (take digits bytes)) low high (value_of (take (prefix_len is_ascii_digit (take digits bytes)) bytes)) ≡ false)
+    × (at ≡ fault))
 
-pub number_fault_cases : (short fits : Bool) (digits at value fault place : ℕ)
-    → cond {A = Reading ℕ} short (Err (Mismatch place)) (cond {A = Reading ℕ} fits (Ok (value, at + digits)) (Err (Mismatch at))) ≡ Err (Mismatch fault)
-    → ((short ≡ true) × (place ≡ fault)) ⊎ ((short ≡ false) × (fits ≡ false) × (at ≡ fault))
-number_fault_cases true fits digits at value fault place is = inl (refl, same_place place fault is)
-number_fault_cases false true digits at value fault place is = cc
-number_fault_cases false false digits at value fault place is = inr (refl, refl, same_place at fault is)
+number_fault_cases : (may short : Bool) (at place next value fault : ℕ)
+    → cond {A = Reading ℕ} may (cond {A = Reading ℕ} short (Err (Mismatch place)) (Ok (value, next))) (Err (Mismatch at)) ≡ Err (Mismatch fault)
+    → ((may ≡ true) × (short ≡ true) × (place ≡ fault)) ⊎ ((may ≡ false) × (at ≡ fault))
+number_fault_cases true true at place next value fault is = inl (refl, refl, same_place place fault is)
+number_fault_cases true false at place next value fault is = cc
+number_fault_cases false short at place next value fault is = inr (refl, same_place at fault is)
+
+fault_of : (may : Bool) (count digits at fault : ℕ) → ((may ≡ true) × (nat_lt count digits ≡ true) × (at + count ≡ fault)) ⊎ ((may ≡ false) × (at ≡ fault))
+    → ((may ≡ true) × (count < digits) × (at + count ≡ fault)) ⊎ ((may ≡ false) × (at ≡ fault))
+fault_of may count digits at fault (inl short) = inl (short.0, ltb-true count digits short.1, short.2)
+fault_of may count digits at fault (inr out) = inr out
+
+pub number_faults : (digits low high : ℕ) (text : List ℕ) (at fault : ℕ) → number digits low high text at ≡ Err (Mismatch fault)
+    → IsNumberFault digits low high (drop at text) at fault
+unfolding number
+number_faults digits low high text at fault is =
+    let count : ℕ = prefix_len is_ascii_digit (take digits (drop at text)) in
+    let found : ℕ = value_of (take count (drop at text)) in
+    let may : Bool = may_lie (digits - count) low high found in
+    fault_of may count digits at fault (number_fault_cases may (nat_lt count digits) at (at + count) (at + digits) found fault is)
 
 -- the first of the digits that stand there
-pub first_digit : (digits : ℕ) (text : List ℕ) (at : ℕ) → 1 ≤ digits → digits ≤ prefix_len is_ascii_digit (take digits (drop at text))
+pub first_digit : (digits : ℕ) (text : List ℕ) (at : ℕ) → 1 ≤ digits → 1 ≤ prefix_len is_ascii_digit (take digits (drop at text))
     → is_ascii_digit (get_or text at 0) ≡ true
 first_digit digits text at some all =
     let here : get_or (take digits (drop at text)) 0 0 ≡ get_or text at 0 =
     get_or-take digits (drop at text) 0 0 some ∙ get_or-drop at text 0 0 ∙ ap (λ n. get_or text n 0) (omega arith) in
     sym (ap is_ascii_digit here) ∙ prefix_len_passes is_ascii_digit (take digits (drop at text)) 0 0 (omega arith)
 
-number_cases_dead : (digits low high : ℕ) (text : List ℕ) (at fault : ℕ) → 1 ≤ digits → digits ≤ 2
-    → ((nat_lt (prefix_len is_ascii_digit (take digits (drop at text))) digits ≡ true) × (at + prefix_len is_ascii_digit (take digits (drop at text)) ≡ fault))
-    ⊎ ((nat_lt (prefix_len is_ascii_digit (take digits (drop at text))) digits ≡ false)
-    × (nat_le low (value_of (take digits (drop at text))) && nat_le (value_of (take digits (drop at text))) high ≡ false) × (at ≡ fault))
+-- the digits that stand there, one or two, begin no number
+begun_dead : (digits low high : ℕ) (text : List ℕ) (at : ℕ) → 1 ≤ digits → digits ≤ 2
+    → may_lie (digits - prefix_len is_ascii_digit (take digits (drop at text))) low high (value_of (take (prefix_len is_ascii_digit (take digits (drop at text))) (drop at text))) ≡ false
+    → (prefix_len is_ascii_digit (take digits (drop at text)) < 2) ⊎ (2 ≤ prefix_len is_ascii_digit (take digits (drop at text)))
+    → IsDead text at at (λ own rest. (value : ℕ) × IsNumber digits low high own value)
+begun_dead digits low high text at some few out (inl one) = (omega arith, inl (range_dead 1 digits low high text at (omega arith) out))
+begun_dead digits low high text at some few out (inr two) = (
+  omega arith,
+  inr (
+    first_digit digits text at some (omega arith),
+    range_dead 2 digits low high text at (omega (arith, prefix_len-le-length is_ascii_digit (take digits (drop at text)), length-take digits (drop at text))) out,
+  ),
+)
+
+number_cases_dead : (digits low high : ℕ) (text : List ℕ) (at fault : ℕ) → 1 ≤ digits → digits ≤ 2 → IsNumberFault digits low high (drop at text) at fault
     → IsDead text at fault (λ own rest. (value : ℕ) × IsNumber digits low high own value)
 number_cases_dead digits low high text at fault some few (inl short) = (
-  omega (arith, short.1),
-  inl (subst (λ place. Dead 1 text at place (λ own rest. (value : ℕ) × IsNumber digits low high own value)) short.1
-      (short_dead digits low high text at (ltb-true (prefix_len is_ascii_digit (take digits (drop at text))) digits short.0))),
+  omega (arith, short.2),
+  inl (subst (λ place. Dead 1 text at place (λ own rest. (value : ℕ) × IsNumber digits low high own value)) short.2 (short_dead digits low high text at short.1)),
 )
-number_cases_dead digits low high text at fault some few (inr out) = (
-  omega (arith, out.2),
-  inr (subst (λ place. (is_ascii_digit (get_or text place 0) ≡ true) × Dead 2 text at place (λ own rest. (value : ℕ) × IsNumber digits low high own value)) out.2 (
-    first_digit digits text at some (ltb-false (prefix_len is_ascii_digit (take digits (drop at text))) digits out.0),
-    range_dead digits low high text at few out.1,
-  )),
-)
+number_cases_dead digits low high text at fault some few (inr out) =
+    subst (λ place. IsDead text at place (λ own rest. (value : ℕ) × IsNumber digits low high own value)) out.1
+    (begun_dead digits low high text at some few out.0 (cases_lt (prefix_len is_ascii_digit (take digits (drop at text))) 2))
 
 pub number_dead : (digits low high : ℕ) (text : List ℕ) (at fault : ℕ) → 1 ≤ digits → digits ≤ 2 → number digits low high text at ≡ Err (Mismatch fault)
     → IsDead text at fault (λ own rest. (value : ℕ) × IsNumber digits low high own value)
-unfolding number
-number_dead digits low high text at fault some few is =
-    number_cases_dead digits low high text at fault some few
-    (number_fault_cases (nat_lt (prefix_len is_ascii_digit (take digits (drop at text))) digits)
-    (nat_le low (value_of (take digits (drop at text))) && nat_le (value_of (take digits (drop at text))) high)
-    digits at (value_of (take digits (drop at text))) fault (at + prefix_len is_ascii_digit (take digits (drop at text))) is)
+number_dead digits low high text at fault some few is = number_cases_dead digits low high text at fault some few (number_faults digits low high text at fault is)
 
 -- of two alternatives, one of which is never there
 pub or_never : (text : List ℕ) (at fault : ℕ) (A B : List ℕ → List ℕ → Type 0) → IsDead text at fault A → NeverThere text at B
@@ -156,7 +177,7 @@ less_dead text at fault A B weaken (within, inl dead) =
 less_dead text at fault A B weaken (within, inr dead) =
     (within, inr (dead.0, λ front x splits size more own rest is holds. dead.1 front x splits size more own rest is (weaken own rest holds)))
 
-fraction_fault_cases : (none : Bool) (at nanos count fault : ℕ)
+pub fraction_fault_cases : (none : Bool) (at nanos count fault : ℕ)
     → cond {A = Reading ℕ} none (Err (Mismatch at)) (Ok (nanos, at + count)) ≡ Err (Mismatch fault) → (none ≡ true) × (at ≡ fault)
 fraction_fault_cases true at nanos count fault is = (refl, same_place at fault is)
 fraction_fault_cases false at nanos count fault is = cc

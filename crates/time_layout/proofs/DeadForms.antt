@@ -1,22 +1,22 @@
 -- Where a day, a zone or another part can't be read, no text that begins alike has one.
-use Rattle.std.proofs.Common.{◌≡◌, ◌≢◌, ◌∙◌, sym, ap, refl, subst, ℕ, ◌+◌, ◌*◌, ◌<◌, ◌≤◌, List, [], ◌∷◌, ◌++◌, length, take, drop, get_or, Bool, true, false, cond, nat_lt, nat_le, ◌==◌, ◌&&◌, Ok, Err, ℤ, pos, neg_ℤ, ◌⊎◌, inl, inr, arith, append_assoc}
+use Rattle.std.proofs.Common.{◌≡◌, ◌≢◌, ◌∙◌, sym, ap, refl, subst, ℕ, ◌+◌, ◌-◌, ◌*◌, ◌<◌, ◌≤◌, List, [], ◌∷◌, ◌++◌, length, take, drop, get_or, Bool, true, false, cond, ◌==◌, Ok, Err, ℤ, pos, neg_ℤ, ◌⊎◌, inl, inr, arith, append_assoc}
 use Rattle.std.specs.Prelude.{⊤}
 use Rattle.std.proofs.Math.Seq.{take-append-le, take-append_seam, drop-append_seam, get_or-take}
 use Rattle.std.proofs.Math.ListN.{length-append}
 use Rattle.std.proofs.lemmas.List.{get_or_append_left, take-append-drop}
 use Rattle.std.proofs.lemmas.List.Sums.{prefix_len_passes}
-use Rattle.std.proofs.lemmas.Bool.{ltb-true, ltb-false, eqb-true, eqb-false, false≢true}
+use Rattle.std.proofs.lemmas.Bool.{eqb-true, eqb-false, cases_lt, false≢true}
 use Rattle.std.specs.Char.{is_ascii_digit}
 use Rattle.std.specs.List.{prefix_len}
 use Rattle.time_layout.specs.declared.fault.TimeFault.{TimeFault}
 use Rattle.time_layout.specs.declared.fault.TimeFault.TheVariants.{Mismatch}
 use Rattle.time_layout.specs.declared.parts.Colon.{Colon}
-use Rattle.time_layout.specs.declared.parts.Colon.TheVariants.{Optional, Required}
-use Rattle.time_layout.specs.Atoms.{Reading, and_then, value_of, stands, number, padded_day, minutes_behind, offset, zone}
-use Rattle.time_layout.specs.Texts.{AreDigits, BeginsNoDigit, IsNumber, IsPaddedDay, AreMinutes, IsOffset, IsZone}
-use Rattle.time_layout.proofs.DeadEnds.{Dead, IsDead, NeverThere, same_place, number_dead, number_fault_cases, stops_at, no_digit, range_dead, first_digit, or_never, never_dead, less_dead, other_byte, no_digits, deeper}
+use Rattle.time_layout.specs.declared.parts.Colon.TheVariants.{Optional, Required, Missing}
+use Rattle.time_layout.specs.Atoms.{Reading, and_then, value_of, stands, may_lie, number, unpadded, padded_day, minutes_behind, offset, signed, zone}
+use Rattle.time_layout.specs.Texts.{AreDigits, BeginsNoDigit, IsNumber, IsUnpadded, IsPaddedDay, AreMinutes, IsOffset, IsSigned, IsZone}
+use Rattle.time_layout.proofs.DeadEnds.{Dead, IsDead, NeverThere, same_place, number_dead, number_faults, IsNumberFault, stops_at, no_digit, range_dead, first_digit, or_never, never_dead, less_dead, other_byte, no_digits, deeper}
 use Rattle.time_layout.proofs.Completes.{front_whole, stands_is}
-use Rattle.time_layout.proofs.Sounds.{number_sound, standing}
+use Rattle.time_layout.proofs.Sounds.{number_sound, standing, front_digits}
 
 -- what was read before a fault
 pub record Faulted {A B : Type 0} (reading : Reading A) (rest : A → ℕ → Reading B) (fault : ℕ) : Type 0 where
@@ -53,7 +53,7 @@ digits_never : (byte : ℕ) (digits low high : ℕ) (text : List ℕ) (at : ℕ)
 digits_never byte digits low high text at some none there front x splits begins more own rest is number =
     no_digits byte text at none there front x splits begins more own rest is (number.1.all, omega (arith, number.1.size))
 
-behind_never : (byte : ℕ) (Holds : List ℕ → List ℕ → Type 0) (text : List ℕ) (at : ℕ) → stands byte text at ≡ false
+pub behind_never : (byte : ℕ) (Holds : List ℕ → List ℕ → Type 0) (text : List ℕ) (at : ℕ) → stands byte text at ≡ false
     → NeverThere text at (λ own rest. (behind : List ℕ) × (own ≡ byte ∷ behind) × Holds behind rest)
 behind_never byte Holds text at other front x splits begins more own rest is holds =
     other_byte byte text at other front x splits begins more own rest is (holds.0, holds.1)
@@ -79,6 +79,7 @@ minutes_cases Required false text at fault there is =
     subst (λ place. IsDead text at place (λ own rest. (minutes : ℕ) × AreMinutes Required own minutes)) (same_place at fault (rw there at is))
     (never_dead text at (λ own rest. (minutes : ℕ) × AreMinutes Required own minutes)
     (λ front x splits begins more own rest start m. other_byte 58 text at there front x splits begins more own rest start (m.1.0, m.1.1)))
+minutes_cases Missing there text at fault begins is = number_dead 2 0 59 text at fault (omega arith) (omega arith) is
 
 -- the first of two that stand one behind the other
 first_front : (width : ℕ) (text : List ℕ) (at fault : ℕ) (A B : List ℕ → List ℕ → Type 0)
@@ -163,20 +164,19 @@ offset_dead colon text at fault is =
     (faulted (number 2 0 23 text at) (λ hours behind. and_then (minutes_behind colon text behind) (λ minutes next. Ok (hours * 3600 + minutes * 60, next))) fault is)
 
 -- a byte that begins another alternative
-another_byte : (mine byte : ℕ) (text : List ℕ) (at : ℕ) → (mine == byte) ≡ false → stands mine text at ≡ true → stands byte text at ≡ false
+pub another_byte : (mine byte : ℕ) (text : List ℕ) (at : ℕ) → (mine == byte) ≡ false → stands mine text at ≡ true → stands byte text at ≡ false
 another_byte mine byte text at other there = stands_is byte at text mine (drop (at + 1) text) (standing mine at text there) ∙ other
 
-zone_of : (colon : Colon) (own rest : List ℕ) → ((offset : ℤ) × IsZone colon own offset)
+sign_of : (colon : Colon) (own rest : List ℕ) → ((offset : ℤ) × IsSigned colon own offset)
     → ((behind : List ℕ) × (own ≡ 43 ∷ behind) × ((seconds : ℕ) × IsOffset colon behind seconds))
-    ⊎ (((behind : List ℕ) × (own ≡ 45 ∷ behind) × ((seconds : ℕ) × IsOffset colon behind seconds)) ⊎ ((behind : List ℕ) × (own ≡ 90 ∷ behind) × ⊤))
-zone_of colon own rest (offset, inl utc) = inr (inr ([], utc.0, tt))
-zone_of colon own rest (offset, inr (inl east)) = inl (east.0, east.2, (east.1, east.4))
-zone_of colon own rest (offset, inr (inr west)) = inr (inl (west.0, west.2, (west.1, west.4)))
+    ⊎ ((behind : List ℕ) × (own ≡ 45 ∷ behind) × ((seconds : ℕ) × IsOffset colon behind seconds))
+sign_of colon own rest (offset, inl east) = inl (east.0, east.2, (east.1, east.4))
+sign_of colon own rest (offset, inr west) = inr (west.0, west.2, (west.1, west.4))
 
-turned : {A B C : Type 0} → A ⊎ (B ⊎ C) → B ⊎ (A ⊎ C)
-turned (inl a) = inr (inl a)
-turned (inr (inl b)) = inl b
-turned (inr (inr c)) = inr (inr c)
+zone_of : (colon : Colon) (own rest : List ℕ) → ((offset : ℤ) × IsZone colon own offset)
+    → ((offset : ℤ) × IsSigned colon own offset) ⊎ ((behind : List ℕ) × (own ≡ 90 ∷ behind) × ⊤)
+zone_of colon own rest (offset, inl utc) = inr ([], utc.0, tt)
+zone_of colon own rest (offset, inr sign) = inl (offset, sign)
 
 either_never : (text : List ℕ) (at : ℕ) (A B : List ℕ → List ℕ → Type 0) → NeverThere text at A → NeverThere text at B → NeverThere text at (λ own rest. A own rest ⊎ B own rest)
 either_never text at A B no_a no_b front x splits some more own rest is (inl a) = no_a front x splits some more own rest is a
@@ -188,39 +188,48 @@ signed_fault : (colon : Colon) (text : List ℕ) (at fault : ℕ) (sign : ℕ �
 signed_fault colon text at fault sign (inl is) = offset_dead colon text at fault is
 signed_fault colon text at fault sign (inr read) = let never = read.then in cc
 
-signed_cases : (colon : Colon) (text : List ℕ) (at fault : ℕ) (sign : ℕ → ℤ)
+behind_sign : (colon : Colon) (text : List ℕ) (at fault : ℕ) (sign : ℕ → ℤ)
     → and_then (offset colon text (at + 1)) (λ seconds end. Ok (sign seconds, end)) ≡ Err (Mismatch fault)
     → IsDead text (at + 1) fault (λ own rest. (seconds : ℕ) × IsOffset colon own seconds)
-signed_cases colon text at fault sign is =
+behind_sign colon text at fault sign is =
     signed_fault colon text (at + 1) fault sign (faulted (offset colon text (at + 1)) (λ seconds end. Ok (sign seconds, end)) fault is)
 
-zone_cases : (utc east west : Bool) (colon : Colon) (text : List ℕ) (at fault : ℕ)
-    → stands 90 text at ≡ utc → stands 43 text at ≡ east → stands 45 text at ≡ west → zone colon text at ≡ Err (Mismatch fault)
+signed_cases : (east west : Bool) (colon : Colon) (text : List ℕ) (at fault : ℕ)
+    → stands 43 text at ≡ east → stands 45 text at ≡ west → signed colon text at ≡ Err (Mismatch fault)
+    → IsDead text at fault (λ own rest. (offset : ℤ) × IsSigned colon own offset)
+unfolding signed
+signed_cases true west colon text at fault is_east is_west is =
+    let behind = behind_sign colon text at fault (λ seconds. pos seconds) (rw is_east at is) in
+    let No : List ℕ → List ℕ → Type 0 = λ own rest. (seconds : ℕ) × IsOffset colon own seconds in
+    less_dead text at fault _ (λ own rest. (offset : ℤ) × IsSigned colon own offset) (sign_of colon)
+    (or_never text at fault _ _ (deeper 43 text at fault No behind) (behind_never 45 No text at (another_byte 43 45 text at refl is_east)))
+signed_cases false true colon text at fault is_east is_west is =
+    let behind = behind_sign colon text at fault (λ seconds. neg_ℤ (pos seconds)) (rw (is_east, is_west) at is) in
+    let No : List ℕ → List ℕ → Type 0 = λ own rest. (seconds : ℕ) × IsOffset colon own seconds in
+    less_dead text at fault _ (λ own rest. (offset : ℤ) × IsSigned colon own offset) (λ own rest sign. swapped (sign_of colon own rest sign))
+    (or_never text at fault _ _ (deeper 45 text at fault No behind) (behind_never 43 No text at is_east))
+signed_cases false false colon text at fault is_east is_west is =
+    let No : List ℕ → List ℕ → Type 0 = λ own rest. (seconds : ℕ) × IsOffset colon own seconds in
+    subst (λ place. IsDead text at place (λ own rest. (offset : ℤ) × IsSigned colon own offset)) (same_place at fault (rw (is_east, is_west) at is))
+    (less_dead text at at _ (λ own rest. (offset : ℤ) × IsSigned colon own offset) (sign_of colon)
+    (never_dead text at _ (either_never text at _ _ (behind_never 43 No text at is_east) (behind_never 45 No text at is_west))))
+
+pub signed_dead : (colon : Colon) (text : List ℕ) (at fault : ℕ) → signed colon text at ≡ Err (Mismatch fault)
+    → IsDead text at fault (λ own rest. (offset : ℤ) × IsSigned colon own offset)
+signed_dead colon text at fault is = signed_cases (stands 43 text at) (stands 45 text at) colon text at fault refl refl is
+
+zone_cases : (utc : Bool) (colon : Colon) (text : List ℕ) (at fault : ℕ) → stands 90 text at ≡ utc → zone colon text at ≡ Err (Mismatch fault)
     → IsDead text at fault (λ own rest. (offset : ℤ) × IsZone colon own offset)
 unfolding zone
-zone_cases true east west colon text at fault is_utc is_east is_west is = let never = rw is_utc at is in cc
-zone_cases false true west colon text at fault is_utc is_east is_west is =
-    let behind = signed_cases colon text at fault (λ seconds. pos seconds) (rw (is_utc, is_east) at is) in
-    let No : List ℕ → List ℕ → Type 0 = λ own rest. (seconds : ℕ) × IsOffset colon own seconds in
+zone_cases true colon text at fault is_utc is = let never = rw is_utc at is in cc
+zone_cases false colon text at fault is_utc is =
     less_dead text at fault _ (λ own rest. (offset : ℤ) × IsZone colon own offset) (zone_of colon)
-    (or_never text at fault _ _ (deeper 43 text at fault No behind)
-    (either_never text at _ _ (behind_never 45 No text at (another_byte 43 45 text at refl is_east)) (behind_never 90 (λ own rest. ⊤) text at is_utc)))
-zone_cases false false true colon text at fault is_utc is_east is_west is =
-    let behind = signed_cases colon text at fault (λ seconds. neg_ℤ (pos seconds)) (rw (is_utc, is_east, is_west) at is) in
-    let No : List ℕ → List ℕ → Type 0 = λ own rest. (seconds : ℕ) × IsOffset colon own seconds in
-    less_dead text at fault _ (λ own rest. (offset : ℤ) × IsZone colon own offset) (λ own rest zone. turned (zone_of colon own rest zone))
-    (or_never text at fault _ _ (deeper 45 text at fault No behind)
-    (either_never text at _ _ (behind_never 43 No text at is_east) (behind_never 90 (λ own rest. ⊤) text at is_utc)))
-zone_cases false false false colon text at fault is_utc is_east is_west is =
-    let No : List ℕ → List ℕ → Type 0 = λ own rest. (seconds : ℕ) × IsOffset colon own seconds in
-    subst (λ place. IsDead text at place (λ own rest. (offset : ℤ) × IsZone colon own offset)) (same_place at fault (rw (is_utc, is_east, is_west) at is))
-    (less_dead text at at _ (λ own rest. (offset : ℤ) × IsZone colon own offset) (zone_of colon)
-    (never_dead text at _ (either_never text at _ _ (behind_never 43 No text at is_east)
-    (either_never text at _ _ (behind_never 45 No text at is_west) (behind_never 90 (λ own rest. ⊤) text at is_utc)))))
+    (or_never text at fault (λ own rest. (offset : ℤ) × IsSigned colon own offset) _ (signed_dead colon text at fault (rw is_utc at is))
+    (behind_never 90 (λ own rest. ⊤) text at is_utc))
 
 pub zone_dead : (colon : Colon) (text : List ℕ) (at fault : ℕ) → zone colon text at ≡ Err (Mismatch fault)
     → IsDead text at fault (λ own rest. (offset : ℤ) × IsZone colon own offset)
-zone_dead colon text at fault is = zone_cases (stands 90 text at) (stands 43 text at) (stands 45 text at) colon text at fault refl refl refl is
+zone_dead colon text at fault is = zone_cases (stands 90 text at) colon text at fault refl is
 
 fails : (test : Bool) (n : ℕ) → cond {A = ℕ} test (1 + n) 0 ≡ 0 → test ≡ false
 fails true n is = absurd (omega arith)
@@ -238,30 +247,27 @@ two_digits text at all =
     sym (ap is_ascii_digit (get_or-take 2 (drop at text) 1 0 (omega arith))) ∙ prefix_len_passes is_ascii_digit (take 2 (drop at text)) 1 0 (omega arith)
 
 -- two digits are out of range
-two_dead : (text : List ℕ) (at : ℕ) → 2 ≤ prefix_len is_ascii_digit (take 2 (drop at text))
-    → nat_le 1 (value_of (take 2 (drop at text))) && nat_le (value_of (take 2 (drop at text))) 31 ≡ false → stands 32 text at ≡ false
-    → Dead 2 text at at (λ own rest. (day : ℕ) × IsPaddedDay own rest day)
-two_dead text at all out other front x splits size more own rest is (day, inl spaced) =
-    other_byte 32 text at other front x splits (omega arith) more own rest is (spaced.0, spaced.1)
-two_dead text at all out other front x splits size more own rest is (day, inr (inl two)) =
-    range_dead 2 1 31 text at (omega arith) out front x splits size more own rest is (day, two)
-two_dead text at all out other front x splits size more own rest is (day, inr (inr one)) =
+two_dead : (high : ℕ) (text : List ℕ) (at : ℕ) → 2 ≤ prefix_len is_ascii_digit (take 2 (drop at text))
+    → may_lie (2 - prefix_len is_ascii_digit (take 2 (drop at text))) 1 high (value_of (take (prefix_len is_ascii_digit (take 2 (drop at text))) (drop at text))) ≡ false
+    → Dead 2 text at at (λ own rest. (value : ℕ) × IsUnpadded high own rest value)
+two_dead high text at all out front x splits size more own rest is (value, inl two) =
+    range_dead 2 2 1 high text at (front_digits 2 (drop at text)).2 out front x splits size more own rest is (value, two)
+two_dead high text at all out front x splits size more own rest is (value, inr one) =
     let mine : get_or (drop at text) 1 0 ≡ get_or front 1 0 = ap (λ bytes. get_or bytes 1 0) splits ∙ get_or_append_left front x 0 1 (omega arith) in
     let theirs : get_or front 1 0 ≡ get_or (own ++ rest) 1 0 = sym (get_or_append_left front more 0 1 (omega arith)) ∙ ap (λ bytes. get_or bytes 1 0) is in
     false≢true (sym (digit_behind own rest one.0.size one.1) ∙ sym (ap is_ascii_digit (mine ∙ theirs)) ∙ two_digits text at all)
 
 -- one digit is out of range
-one_dead : (text : List ℕ) (at : ℕ) → prefix_len is_ascii_digit (take 2 (drop at text)) ≢ 2
-    → nat_le 1 (value_of (take 1 (drop at text))) && nat_le (value_of (take 1 (drop at text))) 31 ≡ false → stands 32 text at ≡ false
-    → Dead 2 text at at (λ own rest. (day : ℕ) × IsPaddedDay own rest day)
-one_dead text at few out other front x splits size more own rest is (day, inl spaced) =
-    other_byte 32 text at other front x splits (omega arith) more own rest is (spaced.0, spaced.1)
-one_dead text at few out other front x splits size more own rest is (day, inr (inl two)) =
+one_dead : (high : ℕ) (text : List ℕ) (at : ℕ) → prefix_len is_ascii_digit (take 2 (drop at text)) ≢ 2
+    → may_lie (1 - prefix_len is_ascii_digit (take 1 (drop at text))) 1 high (value_of (take (prefix_len is_ascii_digit (take 1 (drop at text))) (drop at text))) ≡ false
+    → Dead 2 text at at (λ own rest. (value : ℕ) × IsUnpadded high own rest value)
+one_dead high text at few out front x splits size more own rest is (value, inl two) =
     let mine : take 2 (drop at text) ≡ take 2 front = ap (take 2) splits ∙ take-append-le 2 front x (omega arith) in
     let theirs : take 2 front ≡ own = sym (take-append-le 2 front more (omega arith)) ∙ ap (take 2) is ∙ front_whole own rest 2 two.size in
     absurd (few (ap (prefix_len is_ascii_digit) (mine ∙ theirs) ∙ two.all ∙ two.size))
-one_dead text at few out other front x splits size more own rest is (day, inr (inr one)) =
-    range_dead 1 1 31 text at (omega arith) out front x splits size more own rest is (day, one.0)
+one_dead high text at few out front x splits size more own rest is (value, inr one) =
+    let small = (front_digits 1 (drop at text)).2 in
+    range_dead 2 1 1 high text at (omega (arith, small)) out front x splits size more own rest is (value, one.0)
 
 first_no_digit : (bytes : List ℕ) → prefix_len is_ascii_digit (take 1 bytes) < 1 → 1 ≤ length bytes → is_ascii_digit (get_or bytes 0 0) ≡ false
 first_no_digit bytes none some =
@@ -275,72 +281,73 @@ no_digits_there text at none front x splits some more own rest is digits =
     no_digit front x more own rest 0 some digits.1 digits.0 is (ap (λ bytes. is_ascii_digit (get_or bytes 0 0)) (sym splits) ∙ other)
 
 -- no digit stands there
-day_never : (text : List ℕ) (at : ℕ) → prefix_len is_ascii_digit (take 1 (drop at text)) < 1 → stands 32 text at ≡ false
-    → NeverThere text at (λ own rest. (day : ℕ) × IsPaddedDay own rest day)
-day_never text at none other front x splits some more own rest is (day, inl spaced) =
-    other_byte 32 text at other front x splits some more own rest is (spaced.0, spaced.1)
-day_never text at none other front x splits some more own rest is (day, inr (inl two)) =
+unpadded_never : (high : ℕ) (text : List ℕ) (at : ℕ) → prefix_len is_ascii_digit (take 1 (drop at text)) < 1
+    → NeverThere text at (λ own rest. (value : ℕ) × IsUnpadded high own rest value)
+unpadded_never high text at none front x splits some more own rest is (value, inl two) =
     no_digits_there text at none front x splits some more own rest is (two.all, omega (arith, two.size))
-day_never text at none other front x splits some more own rest is (day, inr (inr one)) =
+unpadded_never high text at none front x splits some more own rest is (value, inr one) =
     no_digits_there text at none front x splits some more own rest is (one.0.all, omega (arith, one.0.size))
 
+two_cases : (high : ℕ) (text : List ℕ) (at fault : ℕ) → prefix_len is_ascii_digit (take 2 (drop at text)) ≡ 2 → IsNumberFault 2 1 high (drop at text) at fault
+    → IsDead text at fault (λ own rest. (value : ℕ) × IsUnpadded high own rest value)
+two_cases high text at fault count (inl short) = absurd (omega (arith, short.1))
+two_cases high text at fault count (inr out) =
+    subst (λ place. IsDead text at place (λ own rest. (value : ℕ) × IsUnpadded high own rest value)) out.1
+    (omega arith, inr (first_digit 2 text at (omega arith) (omega arith), two_dead high text at (omega arith) out.0))
+
+nowhere_dead : (high : ℕ) (text : List ℕ) (at fault : ℕ) → prefix_len is_ascii_digit (take 1 (drop at text)) < 1 → at ≡ fault
+    → IsDead text at fault (λ own rest. (value : ℕ) × IsUnpadded high own rest value)
+nowhere_dead high text at fault none here =
+    subst (λ place. IsDead text at place (λ own rest. (value : ℕ) × IsUnpadded high own rest value)) here
+    (never_dead text at (λ own rest. (value : ℕ) × IsUnpadded high own rest value) (unpadded_never high text at none))
+
+one_cases : (high : ℕ) (text : List ℕ) (at fault : ℕ) → prefix_len is_ascii_digit (take 2 (drop at text)) ≢ 2
+    → (prefix_len is_ascii_digit (take 1 (drop at text)) < 1) ⊎ (1 ≤ prefix_len is_ascii_digit (take 1 (drop at text)))
+    → IsNumberFault 1 1 high (drop at text) at fault
+    → IsDead text at fault (λ own rest. (value : ℕ) × IsUnpadded high own rest value)
+one_cases high text at fault few some (inl short) = nowhere_dead high text at fault short.1 (omega (arith, short.1, short.2))
+one_cases high text at fault few (inl none) (inr out) = nowhere_dead high text at fault none out.1
+one_cases high text at fault few (inr some) (inr out) =
+    subst (λ place. IsDead text at place (λ own rest. (value : ℕ) × IsUnpadded high own rest value)) out.1
+    (omega arith, inr (first_digit 1 text at (omega arith) some, one_dead high text at few out.0))
+
+unpadded_cases : (two : Bool) (high : ℕ) (text : List ℕ) (at fault : ℕ) → (prefix_len is_ascii_digit (take 2 (drop at text)) == 2) ≡ two
+    → number (cond two 2 1) 1 high text at ≡ Err (Mismatch fault) → IsDead text at fault (λ own rest. (value : ℕ) × IsUnpadded high own rest value)
+unpadded_cases true high text at fault count is =
+    two_cases high text at fault (eqb-true (prefix_len is_ascii_digit (take 2 (drop at text))) 2 count) (number_faults 2 1 high text at fault is)
+unpadded_cases false high text at fault count is =
+    one_cases high text at fault (eqb-false (prefix_len is_ascii_digit (take 2 (drop at text))) 2 count) (cases_lt (prefix_len is_ascii_digit (take 1 (drop at text))) 1)
+    (number_faults 1 1 high text at fault is)
+
+pub unpadded_dead : (high : ℕ) (text : List ℕ) (at fault : ℕ) → unpadded high text at ≡ Err (Mismatch fault)
+    → IsDead text at fault (λ own rest. (value : ℕ) × IsUnpadded high own rest value)
+unpadded_dead high text at fault is = unpadded_cases (prefix_len is_ascii_digit (take 2 (drop at text)) == 2) high text at fault refl is
+
+-- a day behind a space, or digits
 day_of : (own rest : List ℕ) → ((day : ℕ) × IsPaddedDay own rest day)
     → ((behind : List ℕ) × (own ≡ 32 ∷ behind) × ((value : ℕ) × IsNumber 1 1 31 behind value)) ⊎ (AreDigits own × (1 ≤ length own))
 day_of own rest (day, inl spaced) = inl (spaced.0, spaced.1, (day, spaced.2))
 day_of own rest (day, inr (inl two)) = inr (two.all, omega (arith, two.size))
 day_of own rest (day, inr (inr one)) = inr (one.0.all, omega (arith, one.0.size))
 
-two_cases : (text : List ℕ) (at fault : ℕ) → (prefix_len is_ascii_digit (take 2 (drop at text)) == 2) ≡ true → stands 32 text at ≡ false
-    → ((nat_lt (prefix_len is_ascii_digit (take 2 (drop at text))) 2 ≡ true) × (at + prefix_len is_ascii_digit (take 2 (drop at text)) ≡ fault))
-    ⊎ ((nat_lt (prefix_len is_ascii_digit (take 2 (drop at text))) 2 ≡ false)
-    × (nat_le 1 (value_of (take 2 (drop at text))) && nat_le (value_of (take 2 (drop at text))) 31 ≡ false) × (at ≡ fault))
-    → IsDead text at fault (λ own rest. (day : ℕ) × IsPaddedDay own rest day)
-two_cases text at fault count other (inl short) =
-    absurd (omega (arith, ltb-true (prefix_len is_ascii_digit (take 2 (drop at text))) 2 short.0, eqb-true (prefix_len is_ascii_digit (take 2 (drop at text))) 2 count))
-two_cases text at fault count other (inr out) =
-    let all : 2 ≤ prefix_len is_ascii_digit (take 2 (drop at text)) = ltb-false (prefix_len is_ascii_digit (take 2 (drop at text))) 2 out.0 in
-    subst (λ place. IsDead text at place (λ own rest. (day : ℕ) × IsPaddedDay own rest day)) out.2
-    (omega arith, inr (first_digit 2 text at (omega arith) all, two_dead text at all out.1 other))
-
-one_cases : (text : List ℕ) (at fault : ℕ) → prefix_len is_ascii_digit (take 2 (drop at text)) ≢ 2 → stands 32 text at ≡ false
-    → ((nat_lt (prefix_len is_ascii_digit (take 1 (drop at text))) 1 ≡ true) × (at + prefix_len is_ascii_digit (take 1 (drop at text)) ≡ fault))
-    ⊎ ((nat_lt (prefix_len is_ascii_digit (take 1 (drop at text))) 1 ≡ false)
-    × (nat_le 1 (value_of (take 1 (drop at text))) && nat_le (value_of (take 1 (drop at text))) 31 ≡ false) × (at ≡ fault))
-    → IsDead text at fault (λ own rest. (day : ℕ) × IsPaddedDay own rest day)
-one_cases text at fault few other (inl short) =
-    let none = ltb-true (prefix_len is_ascii_digit (take 1 (drop at text))) 1 short.0 in
-    let here : at ≡ fault = omega (arith, short.1) in
-    subst (λ place. IsDead text at place (λ own rest. (day : ℕ) × IsPaddedDay own rest day)) here
-    (never_dead text at (λ own rest. (day : ℕ) × IsPaddedDay own rest day) (day_never text at none other))
-one_cases text at fault few other (inr out) =
-    subst (λ place. IsDead text at place (λ own rest. (day : ℕ) × IsPaddedDay own rest day)) out.2
-    (omega arith, inr (first_digit 1 text at (omega arith) (ltb-false (prefix_len is_ascii_digit (take 1 (drop at text))) 1 out.0), one_dead text at few out.1 other))
-
-pub number_faults : (digits low high : ℕ) (text : List ℕ) (at fault : ℕ) → number digits low high text at ≡ Err (Mismatch fault)
-    → ((nat_lt (prefix_len is_ascii_digit (take digits (drop at text))) digits ≡ true) × (at + prefix_len is_ascii_digit (take digits (drop at text)) ≡ fault))
-    ⊎ ((nat_lt (prefix_len is_ascii_digit (take digits (drop at text))) digits ≡ false)
-    × (nat_le low (value_of (take digits (drop at text))) && nat_le (value_of (take digits (drop at text))) high ≡ false) × (at ≡ fault))
-unfolding number
-number_faults digits low high text at fault is =
-    number_fault_cases (nat_lt (prefix_len is_ascii_digit (take digits (drop at text))) digits)
-    (nat_le low (value_of (take digits (drop at text))) && nat_le (value_of (take digits (drop at text))) high)
-    digits at (value_of (take digits (drop at text))) fault (at + prefix_len is_ascii_digit (take digits (drop at text))) is
-
-day_cases : (two : Bool) (text : List ℕ) (at fault : ℕ) → (prefix_len is_ascii_digit (take 2 (drop at text)) == 2) ≡ two → stands 32 text at ≡ false
-    → number (cond two 2 1) 1 31 text at ≡ Err (Mismatch fault) → IsDead text at fault (λ own rest. (day : ℕ) × IsPaddedDay own rest day)
-day_cases true text at fault count other is = two_cases text at fault count other (number_faults 2 1 31 text at fault is)
-day_cases false text at fault count other is =
-    one_cases text at fault (eqb-false (prefix_len is_ascii_digit (take 2 (drop at text))) 2 count) other (number_faults 1 1 31 text at fault is)
+-- a day without a space, or with one
+bare_day_of : (own rest : List ℕ) → ((day : ℕ) × IsPaddedDay own rest day)
+    → ((value : ℕ) × IsUnpadded 31 own rest value) ⊎ ((behind : List ℕ) × (own ≡ 32 ∷ behind) × ⊤)
+bare_day_of own rest (day, inl spaced) = inr (spaced.0, spaced.1, tt)
+bare_day_of own rest (day, inr bare) = inl (day, bare)
 
 spaced_cases : (spaced : Bool) (text : List ℕ) (at fault : ℕ) → stands 32 text at ≡ spaced
-    → cond spaced (number 1 1 31 text (at + 1)) (number (cond (prefix_len is_ascii_digit (take 2 (drop at text)) == 2) 2 1) 1 31 text at) ≡ Err (Mismatch fault)
+    → cond spaced (number 1 1 31 text (at + 1)) (unpadded 31 text at) ≡ Err (Mismatch fault)
     → IsDead text at fault (λ own rest. (day : ℕ) × IsPaddedDay own rest day)
 spaced_cases true text at fault there is =
     less_dead text at fault _ (λ own rest. (day : ℕ) × IsPaddedDay own rest day) day_of
     (or_never text at fault _ (λ own rest. AreDigits own × (1 ≤ length own))
     (deeper 32 text at fault (λ own rest. (value : ℕ) × IsNumber 1 1 31 own value) (number_dead 1 1 31 text (at + 1) fault (omega arith) (omega arith) is))
     (no_digits 32 text at refl there))
-spaced_cases false text at fault there is = day_cases (prefix_len is_ascii_digit (take 2 (drop at text)) == 2) text at fault refl there is
+spaced_cases false text at fault there is =
+    less_dead text at fault _ (λ own rest. (day : ℕ) × IsPaddedDay own rest day) bare_day_of
+    (or_never text at fault (λ own rest. (value : ℕ) × IsUnpadded 31 own rest value) _ (unpadded_dead 31 text at fault is)
+    (behind_never 32 (λ own rest. ⊤) text at there))
 
 pub padded_day_dead : (text : List ℕ) (at fault : ℕ) → padded_day text at ≡ Err (Mismatch fault)
     → IsDead text at fault (λ own rest. (day : ℕ) × IsPaddedDay own rest day)

@@ -32,14 +32,14 @@ reach_cases : (found : Bool) (name own z : List ℕ) (k code other : ℕ) (rest 
 reach_cases true name own z k code other rest far same is few later = omega (arith, common_at_least name own z k same few)
 reach_cases false name own z k code other rest far same is few later = omega (arith, later is)
 
-named_reach : (table : List Named) (own z : List ℕ) (k code : ℕ) → first_code (str_eq_ignore_ascii_case own) table ≡ Some code → k ≤ length own
+pub named_reach : (table : List Named) (own z : List ℕ) (k code : ℕ) → first_code (str_eq_ignore_ascii_case own) table ≡ Some code → k ≤ length own
     → k ≤ reach table (take k own ++ z)
 named_reach [] own z k code is few = cc
 named_reach (row ∷ rows) own z k code is few =
     reach_cases (str_eq_ignore_ascii_case own row.0) row.0 own z k code row.1 (first_code (str_eq_ignore_ascii_case own) rows) (reach rows (take k own ++ z))
     refl is few (λ later. named_reach rows own z k code later few)
 
-name_fault_cases : (found : Option ℕ) (next place fault : ℕ) → named_or found next place ≡ Err (Mismatch fault) → (found ≡ None) × (place ≡ fault)
+pub name_fault_cases : (found : Option ℕ) (next place fault : ℕ) → named_or found next place ≡ Err (Mismatch fault) → (found ≡ None) × (place ≡ fault)
 name_fault_cases None next place fault is = (refl, same_place place fault is)
 name_fault_cases (Some code) next place fault is = cc
 

@@ -1,82 +1,37 @@
 -- Where a text can't be read, no text that begins alike is of the parts.
-use Rattle.std.proofs.Common.{◌≡◌, ◌≢◌, ◌∙◌, sym, ap, refl, subst, ℕ, suc, ◌+◌, ◌-◌, ◌*◌, ◌^◌, ◌<◌, ◌≤◌, min, List, [], ◌∷◌, ◌++◌, length, fold, take, drop, get_or, Bool, true, false, cond, nat_lt, nat_le, ◌&&◌, Ok, Err, ℤ, ◌⊎◌, inl, inr, arith, append_assoc, leb}
+use Rattle.std.proofs.Common.{◌≡◌, ◌≢◌, ◌∙◌, sym, ap, refl, subst, ℕ, ◌+◌, ◌^◌, ◌≤◌, min, List, [], ◌∷◌, ◌++◌, length, take, drop, get_or, Bool, true, false, cond, nat_lt, Ok, Err, ℤ, ◌⊎◌, inl, inr, arith, append_assoc}
 use Rattle.std.proofs.Math.ListN.{length-append, length-take}
-use Rattle.std.proofs.Math.Nat.{pow-suc}
-use Rattle.std.proofs.Common.{mul-le-mul_right}
+use Rattle.std.proofs.Math.Nat.{pow-le-pow_right}
 use Rattle.std.proofs.lemmas.List.{take-append-drop}
-use Rattle.std.proofs.lemmas.List.Sums.{prefix_len-le-length}
-use Rattle.std.proofs.lemmas.Bool.{ltb-true, ltb-false, leb-true, eqb-true, false≢true}
-use Rattle.std.proofs.lemmas.Bool.Decides.{nat_tests}
+use Rattle.std.proofs.lemmas.Bool.{eqb-true}
 use Rattle.std.specs.Char.{is_ascii_digit}
 use Rattle.std.specs.List.{prefix_len}
-use Rattle.case_table.specs.Tables.{month_table}
+use Rattle.case_table.specs.Tables.{month_table, month_name_table, day_name_table}
 use Rattle.time_layout.specs.declared.fault.TimeFault.TheVariants.{Mismatch}
 use Rattle.time_layout.specs.declared.parts.Part.{Part}
-use Rattle.time_layout.specs.declared.parts.Part.TheVariants.{Literal, Year, ShortYear, Month, MonthName, Day, PaddedDay, WeekdayName, Hour, TwelveHour, Meridiem, Minute, Second, Fraction, PointFraction, Zone}
+use Rattle.time_layout.specs.declared.parts.Part.TheVariants.{Literal, Year, ShortYear, Month, MonthName, Day, PaddedDay, WeekdayName, Hour, TwelveHour, Meridiem, Minute, Second, Fraction, PointFraction, Zone, UnpaddedMonth, FullMonthName, UnpaddedDay, FullWeekdayName, UnpaddedTwelveHour, FixedFraction, FractionPoint, Offset, ZoneName}
 use Rattle.time_layout.specs.declared.parts.Said.{Said}
-use Rattle.time_layout.specs.Atoms.{Reading, and_then, value_of, stands, number, fraction, name_at, padded_day, optional_fraction, zone}
+use Rattle.time_layout.specs.Atoms.{Reading, and_then, stands, number, fraction, name_at, full_name_at, unpadded, padded_day, optional_fraction, fixed_fraction, fraction_point, signed, zone, zone_name}
 use Rattle.time_layout.specs.DeadEnds.{IsDeadEnd, StopsAt}
 use Rattle.time_layout.specs.Names.{weekday_table, meridiem_table}
 use Rattle.time_layout.specs.Parts.{part_read, parts_read, layout_read, nothing_said, whole, full_year, clock_of}
-use Rattle.time_layout.specs.Texts.{AreDigits, BeginsNoDigit, IsNumber, IsFraction, Spells, IsTextOf}
+use Rattle.time_layout.specs.Texts.{IsFraction, IsUnpadded, Spells, IsTextOf}
 use Rattle.time_layout.proofs.CompleteParts.{part_reads}
 use Rattle.time_layout.proofs.Completes.{stands_is}
-use Rattle.time_layout.proofs.DeadEnds.{Dead, IsDead, NeverThere, same_place, number_dead, short_dead, fraction_dead, or_never, never_dead, less_dead, other_byte, deeper}
-use Rattle.time_layout.proofs.DeadForms.{Faulted, faulted, number_faults, padded_day_dead, zone_dead, front_behind, same_rest}
+use Rattle.time_layout.proofs.DeadEnds.{IsDead, NeverThere, same_place, number_dead, fraction_dead, or_never, never_dead, less_dead, other_byte, deeper}
+use Rattle.time_layout.proofs.DeadForms.{Faulted, faulted, unpadded_dead, padded_day_dead, signed_dead, zone_dead, front_behind, same_rest}
 use Rattle.time_layout.proofs.DeadNames.{name_dead}
+use Rattle.time_layout.proofs.DeadPoints.{same_end, same_fraction, wide_number_dead, fixed_fraction_dead, fraction_point_dead, zone_name_dead}
+use Rattle.time_layout.proofs.FullNames.{months_apart, days_apart, full_name_dead}
 use Rattle.time_layout.proofs.SoundParts.{part_sound}
-use Rattle.time_layout.proofs.Sounds.{Between, both, opened, same_value, same_next}
-
-first_of : (test : Bool) (m n : ℕ) → cond {A = ℕ} test (1 + m) 0 ≡ suc n → (test ≡ true) × (m ≡ n)
-first_of true m n is = (refl, omega arith)
-first_of false m n is = absurd (omega arith)
-
--- so many digits spell no greater number
-value_bound : (n : ℕ) (bytes : List ℕ) → AreDigits bytes → fold (λ m digit. m * 10 + (digit - 48)) n bytes < (n + 1) * 10 ^ length bytes
-value_bound n [] all = omega arith
-value_bound n (byte ∷ bytes) all =
-    let parts = first_of (is_ascii_digit byte) (prefix_len is_ascii_digit bytes) (length bytes) all in
-    let bounds = both (leb 48 byte) (leb byte 57) parts.0 in
-    let small : byte ≤ 57 = leb-true byte 57 bounds.1 in
-    let step : n * 10 + (byte - 48) + 1 ≤ (n + 1) * 10 = omega arith in
-    let below = value_bound (n * 10 + (byte - 48)) bytes parts.1 in
-    let more : (n * 10 + (byte - 48) + 1) * 10 ^ length bytes ≤ (n + 1) * 10 * 10 ^ length bytes = mul-le-mul_right (10 ^ length bytes) step in
-    let power : (n + 1) * 10 * 10 ^ length bytes ≡ (n + 1) * 10 ^ suc (length bytes) = rw pow-suc (omega arith) in
-    let value : ℕ = fold (λ m digit. m * 10 + (digit - 48)) (n * 10 + (byte - 48)) bytes in
-    let all_below : value < (n + 1) * 10 * 10 ^ length bytes = omega arith in
-    subst (λ bound. value < bound) power all_below
-
-year_fits : (value : ℕ) → value ≤ 9999 → nat_le 0 value && nat_le value 9999 ≡ true
-year_fits value greatest = grind (arith, nat_tests)
-
-year_cases : (text : List ℕ) (at fault : ℕ)
-    → ((nat_lt (prefix_len is_ascii_digit (take 4 (drop at text))) 4 ≡ true) × (at + prefix_len is_ascii_digit (take 4 (drop at text)) ≡ fault))
-    ⊎ ((nat_lt (prefix_len is_ascii_digit (take 4 (drop at text))) 4 ≡ false)
-    × (nat_le 0 (value_of (take 4 (drop at text))) && nat_le (value_of (take 4 (drop at text))) 9999 ≡ false) × (at ≡ fault))
-    → IsDead text at fault (λ own rest. (value : ℕ) × IsNumber 4 0 9999 own value)
-year_cases text at fault (inl short) = (
-  omega (arith, short.1),
-  inl (subst (λ place. Dead 1 text at place (λ own rest. (value : ℕ) × IsNumber 4 0 9999 own value)) short.1
-      (short_dead 4 0 9999 text at (ltb-true (prefix_len is_ascii_digit (take 4 (drop at text))) 4 short.0))),
-)
-year_cases text at fault (inr out) =
-    let enough : 4 ≤ prefix_len is_ascii_digit (take 4 (drop at text)) = ltb-false (prefix_len is_ascii_digit (take 4 (drop at text))) 4 out.0 in
-    let some = prefix_len-le-length is_ascii_digit (take 4 (drop at text)) in
-    let four : length (take 4 (drop at text)) ≡ 4 = omega (arith, length-take 4 (drop at text)) in
-    let bound : value_of (take 4 (drop at text)) < 1 * 10 ^ length (take 4 (drop at text)) = value_bound 0 (take 4 (drop at text)) (omega arith) in
-    let small : value_of (take 4 (drop at text)) < 1 * 10 ^ 4 = rw four at bound in
-    absurd (false≢true (sym out.1 ∙ year_fits (value_of (take 4 (drop at text))) (omega arith)))
-
-year_dead : (text : List ℕ) (at fault : ℕ) → number 4 0 9999 text at ≡ Err (Mismatch fault)
-    → IsDead text at fault (λ own rest. (value : ℕ) × IsNumber 4 0 9999 own value)
-year_dead text at fault is = year_cases text at fault (number_faults 4 0 9999 text at fault is)
+use Rattle.time_layout.proofs.Sounds.{Between, opened, same_value, same_next}
 
 said_cases : {A : Type 0} (reading : Reading A) (say : A → Said) (fault : ℕ)
     → (reading ≡ Err (Mismatch fault)) ⊎ Faulted reading (λ v next. Ok (say v, next)) fault → reading ≡ Err (Mismatch fault)
 said_cases reading say fault (inl is) = is
 said_cases reading say fault (inr read) = let never = read.then in cc
 
-said_fault : {A : Type 0} (reading : Reading A) (say : A → Said) (fault : ℕ)
+pub said_fault : {A : Type 0} (reading : Reading A) (say : A → Said) (fault : ℕ)
     → and_then reading (λ v next. Ok (say v, next)) ≡ Err (Mismatch fault) → reading ≡ Err (Mismatch fault)
 said_fault reading say fault is = said_cases reading say fault (faulted reading (λ v next. Ok (say v, next)) fault is)
 
@@ -110,6 +65,9 @@ literal_cases false byte text at fault before there is =
     (never_dead text at (λ own rest. (said : Said) × Spells (Literal byte) own rest before said)
     (λ front x splits some more own rest begins spelled. other_byte byte text at there front x splits some more own rest begins ([], spelled.1.0)))
 
+few_digits : (digits : ℕ) → digits ≤ 9 → 10 ^ digits ≤ 1_000_000_000
+few_digits digits few = pow-le-pow_right (omega arith) few
+
 part_dead : (part : Part) (text : List ℕ) (at fault : ℕ) (before : Said) → part_read part text at before ≡ Err (Mismatch fault)
     → IsDead text at fault (λ own rest. (said : Said) × Spells part own rest before said)
 part_dead (Literal byte) text at fault before is = literal_cases (stands byte text at) byte text at fault before refl is
@@ -117,7 +75,7 @@ part_dead (PointFraction most) text at fault before is =
     point_cases (stands 46 text at) most text at fault before refl (said_fault (optional_fraction (min most 9) text at) (λ v. record before { nanosecond = v }) fault is)
 part_dead Year text at fault before is =
     less_dead text at fault _ (λ own rest. (said : Said) × Spells Year own rest before said) (λ own rest spelled. (spelled.1.0, spelled.1.1))
-    (year_dead text at fault (said_fault (number 4 0 9999 text at) (λ v. record before { year = v }) fault is))
+    (wide_number_dead 4 9999 text at fault (omega arith) (said_fault (number 4 0 9999 text at) (λ v. record before { year = v }) fault is))
 part_dead ShortYear text at fault before is =
     less_dead text at fault _ (λ own rest. (said : Said) × Spells ShortYear own rest before said) (λ own rest spelled. (spelled.1.0, spelled.1.1))
     (number_dead 2 0 99 text at fault (omega arith) (omega arith) (said_fault (number 2 0 99 text at) (λ v. record before { year = full_year v }) fault is))
@@ -157,21 +115,40 @@ part_dead Fraction text at fault before is =
 part_dead (Zone colon) text at fault before is =
     less_dead text at fault _ (λ own rest. (said : Said) × Spells (Zone colon) own rest before said) (λ own rest spelled. (spelled.1.0, spelled.1.1))
     (zone_dead colon text at fault (said_fault (zone colon text at) (λ v. record before { offset = v }) fault is))
+part_dead UnpaddedMonth text at fault before is =
+    less_dead text at fault _ (λ own rest. (said : Said) × Spells UnpaddedMonth own rest before said) (λ own rest spelled. (spelled.1.0, spelled.1.1))
+    (unpadded_dead 12 text at fault (said_fault (unpadded 12 text at) (λ v. record before { month = v }) fault is))
+part_dead FullMonthName text at fault before is =
+    less_dead text at fault _ (λ own rest. (said : Said) × Spells FullMonthName own rest before said) (λ own rest spelled. (spelled.1.0, spelled.1.1))
+    (full_name_dead month_name_table text at fault months_apart (said_fault (full_name_at month_name_table text at) (λ v. record before { month = v }) fault is))
+part_dead UnpaddedDay text at fault before is =
+    less_dead text at fault _ (λ own rest. (said : Said) × Spells UnpaddedDay own rest before said) (λ own rest spelled. (spelled.1.0, spelled.1.1))
+    (unpadded_dead 31 text at fault (said_fault (unpadded 31 text at) (λ v. record before { day = v }) fault is))
+part_dead FullWeekdayName text at fault before is =
+    less_dead text at fault _ (λ own rest. (said : Said) × Spells FullWeekdayName own rest before said) (λ own rest spelled. (spelled.1.0, spelled.1.1))
+    (full_name_dead day_name_table text at fault days_apart (said_fault (full_name_at day_name_table text at) (λ v. before) fault is))
+part_dead UnpaddedTwelveHour text at fault before is =
+    less_dead text at fault _ (λ own rest. (said : Said) × Spells UnpaddedTwelveHour own rest before said) (λ own rest spelled. (spelled.1.0, spelled.1.1))
+    (unpadded_dead 12 text at fault (said_fault (unpadded 12 text at) (λ v. record before { hour = v }) fault is))
+part_dead (FixedFraction digits) text at fault before is =
+    less_dead text at fault _ (λ own rest. (said : Said) × Spells (FixedFraction digits) own rest before said) (λ own rest spelled. (spelled.1.0, spelled.1.1))
+    (fixed_fraction_dead (min digits 9) text at fault (few_digits (min digits 9) (omega arith)) (said_fault (fixed_fraction (min digits 9) text at) (λ v. record before { nanosecond = v }) fault is))
+part_dead FractionPoint text at fault before is =
+    less_dead text at fault _ (λ own rest. (said : Said) × Spells FractionPoint own rest before said) (λ own rest spelled. (spelled.1.0, spelled.1.1))
+    (fraction_point_dead text at fault (said_fault (fraction_point text at) (λ v. record before { nanosecond = v }) fault is))
+part_dead (Offset colon) text at fault before is =
+    less_dead text at fault _ (λ own rest. (said : Said) × Spells (Offset colon) own rest before said) (λ own rest spelled. (spelled.1.0, spelled.1.1))
+    (signed_dead colon text at fault (said_fault (signed colon text at) (λ v. record before { offset = v }) fault is))
+part_dead ZoneName text at fault before is =
+    less_dead text at fault _ (λ own rest. (said : Said) × Spells ZoneName own rest before said) (λ own rest spelled. (spelled.1.0, spelled.1.1))
+    (zone_name_dead text at fault (said_fault (zone_name text at) (λ v. record before { offset = v }) fault is))
 
 -- a part reads the same where what stands behind it begins alike
-same_end : (test : Bool) (m n : ℕ) → cond {A = ℕ} test (1 + m) 0 ≡ 0 → cond {A = ℕ} test (1 + n) 0 ≡ 0
-same_end true m n none = absurd (omega arith)
-same_end false m n none = refl
+same_unpadded : {high value : ℕ} (own : List ℕ) (byte : ℕ) (rest other : List ℕ) → IsUnpadded high own (byte ∷ rest) value → IsUnpadded high own (byte ∷ other) value
+same_unpadded own byte rest other (inl two) = inl two
+same_unpadded own byte rest other (inr one) = inr (one.0, same_end (is_ascii_digit byte) (prefix_len is_ascii_digit rest) (prefix_len is_ascii_digit other) one.1)
 
-same_ends : {A : Type 0} (byte : ℕ) (rest other : List ℕ) → A ⊎ BeginsNoDigit (byte ∷ rest) → A ⊎ BeginsNoDigit (byte ∷ other)
-same_ends byte rest other (inl a) = inl a
-same_ends byte rest other (inr none) = inr (same_end (is_ascii_digit byte) (prefix_len is_ascii_digit rest) (prefix_len is_ascii_digit other) none)
-
-same_fraction : (most : ℕ) (own : List ℕ) (byte : ℕ) (rest other : List ℕ) (nanos : ℕ) → IsFraction most own (byte ∷ rest) nanos → IsFraction most own (byte ∷ other) nanos
-same_fraction most own byte rest other nanos f =
-    record { all = f.all; some = f.some; few = f.few; ends = same_ends byte rest other f.ends; value_is = f.value_is }
-
-same_spelling : (part : Part) (own : List ℕ) (byte : ℕ) (rest other : List ℕ) (before said : Said) → Spells part own (byte ∷ rest) before said → Spells part own (byte ∷ other) before said
+pub same_spelling : (part : Part) (own : List ℕ) (byte : ℕ) (rest other : List ℕ) (before said : Said) → Spells part own (byte ∷ rest) before said → Spells part own (byte ∷ other) before said
 same_spelling (Literal b) own byte rest other before said spelled = spelled
 same_spelling Year own byte rest other before said spelled = spelled
 same_spelling ShortYear own byte rest other before said spelled = spelled
@@ -185,6 +162,18 @@ same_spelling Meridiem own byte rest other before said spelled = spelled
 same_spelling Minute own byte rest other before said spelled = spelled
 same_spelling Second own byte rest other before said spelled = spelled
 same_spelling (Zone colon) own byte rest other before said spelled = spelled
+same_spelling FullMonthName own byte rest other before said spelled = spelled
+same_spelling FullWeekdayName own byte rest other before said spelled = spelled
+same_spelling (FixedFraction digits) own byte rest other before said spelled = spelled
+same_spelling (Offset colon) own byte rest other before said spelled = spelled
+same_spelling ZoneName own byte rest other before said spelled = spelled
+same_spelling UnpaddedMonth own byte rest other before said (value, unpadded_is, is) = (value, same_unpadded own byte rest other unpadded_is, is)
+same_spelling UnpaddedDay own byte rest other before said (value, unpadded_is, is) = (value, same_unpadded own byte rest other unpadded_is, is)
+same_spelling UnpaddedTwelveHour own byte rest other before said (value, unpadded_is, is) = (value, same_unpadded own byte rest other unpadded_is, is)
+same_spelling FractionPoint own byte rest other before said (nanos, inl point, is) =
+    (nanos, inl (point.0, same_end (is_ascii_digit byte) (prefix_len is_ascii_digit rest) (prefix_len is_ascii_digit other) point.1, point.2), is)
+same_spelling FractionPoint own byte rest other before said (nanos, inr pointed, is) =
+    (nanos, inr (pointed.0, pointed.1, same_fraction 9 pointed.0 46 (byte ∷ rest) (byte ∷ other) nanos pointed.2), is)
 same_spelling PaddedDay own byte rest other before said (day, inl spaced, is) = (day, inl spaced, is)
 same_spelling PaddedDay own byte rest other before said (day, inr (inl two), is) = (day, inr (inl two), is)
 same_spelling PaddedDay own byte rest other before said (day, inr (inr one), is) =
@@ -288,7 +277,7 @@ stops : (parts : List Part) (location : ℤ) (text : List ℕ) (at : ℕ) → Is
 stops parts location text at (within, inl dead) = inl (λ inside. dead_end 1 parts location text at dead (omega arith))
 stops parts location text at (within, inr dead) = inr (dead.0, λ inside. dead_end 2 parts location text at dead.1 inside)
 
-whole_faults : (more : Bool) (text : List ℕ) (at fault : ℕ) (s : Said)
+pub whole_faults : (more : Bool) (text : List ℕ) (at fault : ℕ) (s : Said)
     → cond {A = Reading Said} more (Err (Mismatch at)) (Ok (s, at)) ≡ Err (Mismatch fault) → at ≡ fault
 whole_faults true text at fault s is = same_place at fault is
 whole_faults false text at fault s is = cc

@@ -1,3 +1,7 @@
+pub mod Begun
+pub mod BegunNames
+pub mod BegunParts
+pub mod CompleteForms
 pub mod CompleteParts
 pub mod Completes
 pub mod Counting
@@ -5,9 +9,16 @@ pub mod DeadEnds
 pub mod DeadForms
 pub mod DeadNames
 pub mod DeadParts
+pub mod DeadPoints
+pub mod FullNames
+pub mod GoReference
+pub mod GoSteps
+pub mod GoTexts
 pub mod Instants
 pub mod Layouts
 pub mod Letters
+pub mod Numbers
 pub mod Prints
+pub mod SoundForms
 pub mod SoundParts
 pub mod Sounds

@@ -1,64 +1,26 @@
 -- What is printed is a text of the parts.
-use Rattle.std.proofs.Common.{◌≡◌, ◌≢◌, ◌∙◌, sym, ap, refl, ℕ, zero, suc, ◌+◌, ◌-◌, ◌*◌, ◌/◌, ◌%◌, ◌^◌, ◌<◌, ◌≤◌, min, List, [], ◌∷◌, length, Bool, true, false, cond, nat_lt, ℤ, pos, negsuc, nat_abs, Ok, inl, inr, arith, eqb}
-use Rattle.std.proofs.Math.ListN.{length-append}
-use Rattle.std.proofs.Math.Nat.{pow-suc, mul-one}
-use Rattle.std.proofs.lemmas.List.Folds.{prefix_len-append}
-use Rattle.std.proofs.lemmas.List.Sums.{fold_push}
-use Rattle.std.proofs.lemmas.Bool.{ltb-true}
+use Rattle.std.proofs.Common.{◌≡◌, ◌≢◌, ◌∙◌, sym, ap, refl, ℕ, zero, suc, ◌+◌, ◌-◌, ◌*◌, ◌/◌, ◌%◌, ◌^◌, ◌<◌, ◌≤◌, min, List, [], ◌∷◌, length, Bool, true, false, cond, nat_lt, ℤ, pos, negsuc, nat_abs, Ok, ◌⊎◌, inl, inr, arith}
+use Rattle.std.proofs.Math.Nat.{pow-le-pow_right, mul-one, mul-le-mul_right}
+use Rattle.std.proofs.lemmas.Nat.{pow-add}
+use Rattle.std.proofs.lemmas.Bool.{ltb-true, cases_lt}
 use Rattle.std.proofs.lemmas.Bool.Decides.{nat_tests}
-use Rattle.std.specs.Char.{is_ascii_digit}
-use Rattle.case_table.specs.Tables.{month_table}
+use Rattle.case_table.specs.Tables.{month_table, month_name_table, day_name_table}
 use Rattle.jiff_core.specs.Calendar.{days_from_civil}
 use Rattle.jiff_core.proofs.CalendarLemmas.{weekday_number_bound}
 use Rattle.time_layout.specs.declared.parts.Clock.{Clock}
 use Rattle.time_layout.specs.declared.parts.Clock.TheVariants.{Full, Am, Pm}
 use Rattle.time_layout.specs.declared.parts.Colon.{Colon}
-use Rattle.time_layout.specs.declared.parts.Colon.TheVariants.{Optional, Required}
+use Rattle.time_layout.specs.declared.parts.Colon.TheVariants.{Optional, Required, Missing}
 use Rattle.time_layout.specs.declared.parts.Part.{Part}
-use Rattle.time_layout.specs.declared.parts.Part.TheVariants.{Literal, Year, ShortYear, Month, MonthName, Day, PaddedDay, WeekdayName, Hour, TwelveHour, Meridiem, Minute, Second, Fraction, PointFraction, Zone}
+use Rattle.time_layout.specs.declared.parts.Part.TheVariants.{Literal, Year, ShortYear, Month, MonthName, Day, PaddedDay, WeekdayName, Hour, TwelveHour, Meridiem, Minute, Second, Fraction, PointFraction, Zone, UnpaddedMonth, FullMonthName, UnpaddedDay, FullWeekdayName, UnpaddedTwelveHour, FixedFraction, FractionPoint, Offset, ZoneName}
 use Rattle.time_layout.specs.declared.parts.Said.{Said}
 use Rattle.time_layout.specs.Atoms.{value_of}
 use Rattle.time_layout.specs.Names.{weekday_table, meridiem_table}
 use Rattle.time_layout.specs.Parts.{full_year, clock_of, layout_read, nothing_said}
-use Rattle.time_layout.specs.Printed.{digits_text, name_text, offset_text, zone_text, clock_code, weekday_code, part_text, CanTell, CanTellBy, told, told_by, printed}
+use Rattle.time_layout.specs.Printed.{digits_text, name_text, minutes_text, offset_text, zone_text, clock_code, weekday_code, part_text, CanTell, CanTellBy, told, told_by, printed}
 use Rattle.time_layout.proofs.CompleteParts.{layout_reads}
-use Rattle.time_layout.specs.Texts.{AreDigits, IsNumber, IsFraction, IsName, IsPaddedDay, AreMinutes, IsOffset, IsZone, Spells, IsTextOf}
-
-length-digits_text : (width n : ℕ) → length (digits_text width n) ≡ width
-length-digits_text zero n = refl
-length-digits_text (suc width) n =
-    omega (arith, length-append (digits_text width (n / 10)) ((48 + n % 10) ∷ []), length-digits_text width (n / 10))
-
-digit : (n : ℕ) → is_ascii_digit (48 + n % 10) ≡ true
-digit n = grind (arith, nat_tests)
-
-one_more : (test : Bool) (n : ℕ) → test ≡ true → cond test (1 + 0) 0 ≡ 1
-one_more test n is = rw is refl
-
-same_test : (n m : ℕ) → cond (eqb n n) (n + 1) m ≡ n + 1
-same_test n m = grind (arith, nat_tests)
-
-are_digits : (width n : ℕ) → AreDigits (digits_text width n)
-are_digits zero n = refl
-are_digits (suc width) n =
-    let front = are_digits width (n / 10) in
-    rw (prefix_len-append, front, digit n, length-append) (same_test (length (digits_text width (n / 10))) _)
-
-value_of-digits_text : (width n : ℕ) → n < 10 ^ width → value_of (digits_text width n) ≡ n
-value_of-digits_text zero n small = omega arith
-value_of-digits_text (suc width) n small =
-    let front = value_of-digits_text width (n / 10) (omega (arith, pow-suc 10 width)) in
-    let all = fold_push (λ m c. m * 10 + (c - 48)) 0 (digits_text width (n / 10)) (48 + n % 10) in
-    omega (arith, front, all)
-
-number_text : (width low high n : ℕ) → n < 10 ^ width → low ≤ n → n ≤ high → IsNumber width low high (digits_text width n) n
-number_text width low high n small least greatest = record {
-  all = are_digits width n;
-  size = length-digits_text width n;
-  value_is = value_of-digits_text width n small;
-  least = least;
-  greatest = greatest;
-}
+use Rattle.time_layout.proofs.Numbers.{are_digits, length-digits_text, value_of-digits_text, number_text}
+use Rattle.time_layout.specs.Texts.{IsFraction, IsFixedFraction, IsName, IsFullName, IsPaddedDay, AreMinutes, IsOffset, IsSigned, Spells, IsTextOf}
 
 fraction_text : (most n : ℕ) (rest : List ℕ) → most ≡ 9 → n < 1_000_000_000 → IsFraction most (digits_text 9 n) rest n
 fraction_text most n rest is small = record {
@@ -111,31 +73,81 @@ padded_day_cases true day rest is least greatest =
     inl (digits_text 1 day, refl, number_text 1 1 31 day (omega (arith, ltb-true day 10 is)) least greatest)
 padded_day_cases false day rest is least greatest = inr (inl (number_text 2 1 31 day (omega arith) least greatest))
 
-minutes_text : (colon : Colon) (minutes : ℕ) → minutes ≤ 59 → AreMinutes colon (58 ∷ digits_text 2 minutes) minutes
-minutes_text Optional minutes few = inl (digits_text 2 minutes, refl, number_text 2 0 59 minutes (omega arith) (omega arith) few)
-minutes_text Required minutes few = (digits_text 2 minutes, refl, number_text 2 0 59 minutes (omega arith) (omega arith) few)
+pub minutes_are_text : (colon : Colon) (minutes : ℕ) → minutes ≤ 59 → AreMinutes colon (minutes_text colon minutes) minutes
+minutes_are_text Optional minutes few = inl (digits_text 2 minutes, refl, number_text 2 0 59 minutes (omega arith) (omega arith) few)
+minutes_are_text Required minutes few = (digits_text 2 minutes, refl, number_text 2 0 59 minutes (omega arith) (omega arith) few)
+minutes_are_text Missing minutes few = number_text 2 0 59 minutes (omega arith) (omega arith) few
 
-offset_is_text : (colon : Colon) (seconds : ℕ) → seconds < 86_400 → seconds % 60 ≡ 0 → IsOffset colon (offset_text seconds) seconds
+offset_is_text : (colon : Colon) (seconds : ℕ) → seconds < 86_400 → seconds % 60 ≡ 0 → IsOffset colon (offset_text colon seconds) seconds
 offset_is_text colon seconds small whole = record {
   hours_text = digits_text 2 (seconds / 3600);
-  minutes_text = 58 ∷ digits_text 2 (seconds % 3600 / 60);
+  minutes_text = minutes_text colon (seconds % 3600 / 60);
   hours = seconds / 3600;
   minutes = seconds % 3600 / 60;
   is = refl;
   are_hours = number_text 2 0 23 (seconds / 3600) (omega arith) (omega arith) (omega arith);
-  are_minutes = minutes_text colon (seconds % 3600 / 60) (omega arith);
+  are_minutes = minutes_are_text colon (seconds % 3600 / 60) (omega arith);
   seconds_are = omega arith;
 }
 
-zone_is_text : (colon : Colon) (offset : ℤ) → nat_abs offset < 86_400 → nat_abs offset % 60 ≡ 0 → IsZone colon (zone_text offset) offset
-zone_is_text colon (pos seconds) small whole = inr (inl (offset_text seconds, seconds, refl, refl, offset_is_text colon seconds small whole))
-zone_is_text colon (negsuc n) small whole = inr (inr (offset_text (suc n), suc n, refl, refl, offset_is_text colon (suc n) small whole))
+pub zone_is_text : (colon : Colon) (offset : ℤ) → nat_abs offset < 86_400 → nat_abs offset % 60 ≡ 0 → IsSigned colon (zone_text colon offset) offset
+zone_is_text colon (pos seconds) small whole = inl (offset_text colon seconds, seconds, refl, refl, offset_is_text colon seconds small whole)
+zone_is_text colon (negsuc n) small whole = inr (offset_text colon (suc n), suc n, refl, refl, offset_is_text colon (suc n) small whole)
 
 meridiem_is_text : (clock : Clock) → clock ≢ Full
     → (code : ℕ) × IsName meridiem_table 2 (name_text meridiem_table (clock_code clock)) code × (clock ≡ clock_of code)
 meridiem_is_text Full half = absurd (half refl)
 meridiem_is_text Am half = (1, meridiem_text 1 (omega arith) (omega arith), refl)
 meridiem_is_text Pm half = (2, meridiem_text 2 (omega arith) (omega arith), refl)
+
+full_month_text : (code : ℕ) → 1 ≤ code → code ≤ 12 → IsFullName month_name_table (name_text month_name_table code) code
+full_month_text zero least greatest = absurd (omega arith)
+full_month_text (suc zero) least greatest = refl
+full_month_text (suc (suc zero)) least greatest = refl
+full_month_text (suc (suc (suc zero))) least greatest = refl
+full_month_text (suc (suc (suc (suc zero)))) least greatest = refl
+full_month_text (suc (suc (suc (suc (suc zero))))) least greatest = refl
+full_month_text (suc (suc (suc (suc (suc (suc zero)))))) least greatest = refl
+full_month_text (suc (suc (suc (suc (suc (suc (suc zero))))))) least greatest = refl
+full_month_text (suc (suc (suc (suc (suc (suc (suc (suc zero)))))))) least greatest = refl
+full_month_text (suc (suc (suc (suc (suc (suc (suc (suc (suc zero))))))))) least greatest = refl
+full_month_text (suc (suc (suc (suc (suc (suc (suc (suc (suc (suc zero)))))))))) least greatest = refl
+full_month_text (suc (suc (suc (suc (suc (suc (suc (suc (suc (suc (suc zero))))))))))) least greatest = refl
+full_month_text (suc (suc (suc (suc (suc (suc (suc (suc (suc (suc (suc (suc zero)))))))))))) least greatest = refl
+full_month_text (suc (suc (suc (suc (suc (suc (suc (suc (suc (suc (suc (suc (suc code))))))))))))) least greatest = absurd (omega arith)
+
+full_weekday_text : (code : ℕ) → 1 ≤ code → code ≤ 7 → IsFullName day_name_table (name_text day_name_table code) code
+full_weekday_text zero least greatest = absurd (omega arith)
+full_weekday_text (suc zero) least greatest = refl
+full_weekday_text (suc (suc zero)) least greatest = refl
+full_weekday_text (suc (suc (suc zero))) least greatest = refl
+full_weekday_text (suc (suc (suc (suc zero)))) least greatest = refl
+full_weekday_text (suc (suc (suc (suc (suc zero))))) least greatest = refl
+full_weekday_text (suc (suc (suc (suc (suc (suc zero)))))) least greatest = refl
+full_weekday_text (suc (suc (suc (suc (suc (suc (suc zero))))))) least greatest = refl
+full_weekday_text (suc (suc (suc (suc (suc (suc (suc (suc code)))))))) least greatest = absurd (omega arith)
+
+-- the front of nine digits is no greater than so many digits can spell
+front_fits : (digits front nanos : ℕ) → digits ≤ 9 → nanos < 1_000_000_000 → front * 10 ^ (9 - digits) ≡ nanos → (front < 10 ^ digits) ⊎ (10 ^ digits ≤ front) → front < 10 ^ digits
+front_fits digits front nanos few small is (inl below) = below
+front_fits digits front nanos few small is (inr past) =
+    let most : 10 ^ digits * 10 ^ (9 - digits) ≤ front * 10 ^ (9 - digits) = mul-le-mul_right (10 ^ (9 - digits)) past in
+    let nine : digits + (9 - digits) ≡ 9 = omega arith in
+    let all : 10 ^ digits * 10 ^ (9 - digits) ≡ 10 ^ 9 = sym (pow-add 10 digits (9 - digits)) ∙ ap (λ n. 10 ^ n) nine in
+    absurd (omega arith)
+
+fixed_fraction_text : (digits front nanos : ℕ) → digits ≤ 9 → nanos < 1_000_000_000 → front * 10 ^ (9 - digits) ≡ nanos
+    → IsFixedFraction digits (46 ∷ digits_text digits front) nanos
+fixed_fraction_text digits front nanos few small is =
+    let fits = front_fits digits front nanos few small is (cases_lt front (10 ^ digits)) in
+    let most : 10 ^ digits ≤ 10 ^ 9 = pow-le-pow_right (omega arith) few in
+    record {
+      behind = digits_text digits front;
+      value = front;
+      is = refl;
+      number = number_text digits 0 999_999_999 front fits (omega arith) (omega arith);
+      nanos_are = sym is;
+    }
 
 pub part_prints : (part : Part) (s before : Said) (rest : List ℕ) → CanTell part s → Spells part (part_text part s) rest before (told part s before)
 part_prints (Literal byte) s before rest can = (refl, refl)
@@ -156,7 +168,18 @@ part_prints Second s before rest can = (s.second, number_text 2 0 59 s.second (o
 part_prints Fraction s before rest can = (s.nanosecond, fraction_text 9 s.nanosecond rest refl can, refl)
 part_prints (PointFraction most) s before rest can =
     inr (digits_text 9 s.nanosecond, s.nanosecond, refl, fraction_text (min most 9) s.nanosecond rest (omega arith) can.0, refl)
-part_prints (Zone colon) s before rest can = (s.offset, zone_is_text colon s.offset can.0 can.1, refl)
+part_prints (Zone colon) s before rest can = (s.offset, inr (zone_is_text colon s.offset can.0 can.1), refl)
+part_prints UnpaddedMonth s before rest can = (s.month, inl (number_text 2 1 12 s.month (omega arith) can.0 can.1), refl)
+part_prints FullMonthName s before rest can = (s.month, full_month_text s.month can.0 can.1, refl)
+part_prints UnpaddedDay s before rest can = (s.day, inl (number_text 2 1 31 s.day (omega arith) can.0 can.1), refl)
+part_prints FullWeekdayName s before rest can =
+    (weekday_code s, full_weekday_text (weekday_code s) (omega arith) (omega (arith, weekday_number_bound (days_from_civil (pos s.year) s.month s.day))), refl)
+part_prints UnpaddedTwelveHour s before rest can = (s.hour, inl (number_text 2 1 12 s.hour (omega arith) can.0 can.1), refl)
+part_prints (FixedFraction digits) s before rest can =
+    (s.nanosecond, fixed_fraction_text (min digits 9) (s.nanosecond / 10 ^ (9 - min digits 9)) s.nanosecond (omega arith) can.0 can.1, refl)
+part_prints FractionPoint s before rest can = (s.nanosecond, inr (digits_text 9 s.nanosecond, refl, fraction_text 9 s.nanosecond (46 ∷ rest) refl can), refl)
+part_prints (Offset colon) s before rest can = (s.offset, zone_is_text colon s.offset can.0 can.1, refl)
+part_prints ZoneName s before rest can = (s.offset, (inr refl, can), refl)
 
 -- what is printed in a layout is a text of it
 pub parts_print : (parts : List Part) (s before : Said) → CanTellBy parts s → IsTextOf parts (printed parts s) before (told_by parts s before)

@@ -2,18 +2,20 @@
 use Rattle.std.proofs.Common.{◌≡◌, ◌∙◌, sym, ap, refl, subst, ℕ, ◌+◌, min, List, [], ◌∷◌, length, drop, Bool, true, false, cond, nat_lt, Ok, Err, ℤ, ◌↔◌, inl, inr, arith}
 use Rattle.std.proofs.lemmas.List.{drop_all}
 use Rattle.std.proofs.lemmas.Bool.{ltb-false, false≢true}
-use Rattle.case_table.specs.Tables.{month_table}
+use Rattle.case_table.specs.Tables.{month_table, month_name_table, day_name_table}
 use Rattle.time_layout.specs.declared.fault.TimeFault.TheVariants.{Mismatch}
 use Rattle.time_layout.specs.declared.parts.Part.{Part}
-use Rattle.time_layout.specs.declared.parts.Part.TheVariants.{Literal, Year, ShortYear, Month, MonthName, Day, PaddedDay, WeekdayName, Hour, TwelveHour, Meridiem, Minute, Second, Fraction, PointFraction, Zone}
+use Rattle.time_layout.specs.declared.parts.Part.TheVariants.{Literal, Year, ShortYear, Month, MonthName, Day, PaddedDay, WeekdayName, Hour, TwelveHour, Meridiem, Minute, Second, Fraction, PointFraction, Zone, UnpaddedMonth, FullMonthName, UnpaddedDay, FullWeekdayName, UnpaddedTwelveHour, FixedFraction, FractionPoint, Offset, ZoneName}
 use Rattle.time_layout.specs.declared.parts.Said.{Said}
-use Rattle.time_layout.specs.Atoms.{Reading, and_then, number, name_at, padded_day, zone, optional_fraction, stands, fraction}
+use Rattle.time_layout.specs.Atoms.{Reading, and_then, number, name_at, full_name_at, unpadded, padded_day, signed, zone, zone_name, optional_fraction, fixed_fraction, fraction_point, stands, fraction}
 use Rattle.time_layout.specs.Names.{weekday_table, meridiem_table}
 use Rattle.time_layout.specs.Parts.{part_read, parts_read, layout_read, nothing_said, whole, full_year, clock_of}
 use Rattle.time_layout.specs.Texts.{Spells, IsTextOf, IsFraction}
 use Rattle.time_layout.proofs.CompleteParts.{layout_reads}
 use Rattle.time_layout.proofs.Completes.{stands_is}
-use Rattle.time_layout.proofs.Sounds.{Between, opened, same_value, same_next, standing, wider, weaker, number_sound, fraction_sound, name_sound, padded_day_sound, zone_sound}
+use Rattle.time_layout.proofs.FullNames.{full_name_sound}
+use Rattle.time_layout.proofs.SoundForms.{fixed_fraction_sound, fraction_point_sound, zone_name_sound}
+use Rattle.time_layout.proofs.Sounds.{Between, opened, same_value, same_next, standing, wider, weaker, number_sound, fraction_sound, name_sound, unpadded_sound, padded_day_sound, signed_sound, zone_sound}
 
 -- a part's text, by what its reader read
 spelled : {A : Type 0} (part : Part) (text : List ℕ) (at : ℕ) (before said : Said) (next : ℕ) (reading : Reading A) (say : A → Said)
@@ -104,6 +106,33 @@ part_sound Fraction text at before said next is =
 part_sound (Zone colon) text at before said next is =
     spelled (Zone colon) text at before said next (zone colon text at) (λ v. record before { offset = v }) is
     (λ v end read. weaker text at end _ (λ own. Spells (Zone colon) own (drop end text) before (record before { offset = v })) (λ own splits holds. (v, holds, refl)) (zone_sound colon text at v end read))
+part_sound UnpaddedMonth text at before said next is =
+    spelled UnpaddedMonth text at before said next (unpadded 12 text at) (λ v. record before { month = v }) is
+    (λ v end read. weaker text at end _ (λ own. Spells UnpaddedMonth own (drop end text) before (record before { month = v })) (λ own splits holds. (v, holds, refl)) (unpadded_sound 12 text at v end read))
+part_sound FullMonthName text at before said next is =
+    spelled FullMonthName text at before said next (full_name_at month_name_table text at) (λ v. record before { month = v }) is
+    (λ v end read. weaker text at end _ (λ own. Spells FullMonthName own (drop end text) before (record before { month = v })) (λ own splits holds. (v, holds, refl)) (full_name_sound month_name_table text at v end read))
+part_sound UnpaddedDay text at before said next is =
+    spelled UnpaddedDay text at before said next (unpadded 31 text at) (λ v. record before { day = v }) is
+    (λ v end read. weaker text at end _ (λ own. Spells UnpaddedDay own (drop end text) before (record before { day = v })) (λ own splits holds. (v, holds, refl)) (unpadded_sound 31 text at v end read))
+part_sound FullWeekdayName text at before said next is =
+    spelled FullWeekdayName text at before said next (full_name_at day_name_table text at) (λ v. before) is
+    (λ v end read. weaker text at end _ (λ own. Spells FullWeekdayName own (drop end text) before (before)) (λ own splits holds. (v, holds, refl)) (full_name_sound day_name_table text at v end read))
+part_sound UnpaddedTwelveHour text at before said next is =
+    spelled UnpaddedTwelveHour text at before said next (unpadded 12 text at) (λ v. record before { hour = v }) is
+    (λ v end read. weaker text at end _ (λ own. Spells UnpaddedTwelveHour own (drop end text) before (record before { hour = v })) (λ own splits holds. (v, holds, refl)) (unpadded_sound 12 text at v end read))
+part_sound (FixedFraction digits) text at before said next is =
+    spelled (FixedFraction digits) text at before said next (fixed_fraction (min digits 9) text at) (λ v. record before { nanosecond = v }) is
+    (λ v end read. weaker text at end _ (λ own. Spells (FixedFraction digits) own (drop end text) before (record before { nanosecond = v })) (λ own splits holds. (v, holds, refl)) (fixed_fraction_sound (min digits 9) text at v end read))
+part_sound FractionPoint text at before said next is =
+    spelled FractionPoint text at before said next (fraction_point text at) (λ v. record before { nanosecond = v }) is
+    (λ v end read. weaker text at end _ (λ own. Spells FractionPoint own (drop end text) before (record before { nanosecond = v })) (λ own splits holds. (v, holds, refl)) (fraction_point_sound text at v end read))
+part_sound (Offset colon) text at before said next is =
+    spelled (Offset colon) text at before said next (signed colon text at) (λ v. record before { offset = v }) is
+    (λ v end read. weaker text at end _ (λ own. Spells (Offset colon) own (drop end text) before (record before { offset = v })) (λ own splits holds. (v, holds, refl)) (signed_sound colon text at v end read))
+part_sound ZoneName text at before said next is =
+    spelled ZoneName text at before said next (zone_name text at) (λ v. record before { offset = v }) is
+    (λ v end read. weaker text at end _ (λ own. Spells ZoneName own (drop end text) before (record before { offset = v })) (λ own splits holds. (v, holds, refl)) (zone_name_sound text at v end read))
 
 pub parts_sound : (parts : List Part) (text : List ℕ) (at : ℕ) (before said : Said) (next : ℕ) → parts_read parts text at before ≡ Ok (said, next)
     → drop next text ≡ [] → IsTextOf parts (drop at text) before said

@@ -1,5 +1,5 @@
 -- What is read at a place is a text of the part.
-use Rattle.std.proofs.Common.{◌≡◌, ◌≢◌, ◌∙◌, sym, ap, refl, ℕ, ◌+◌, ◌-◌, ◌*◌, ◌^◌, ◌<◌, ◌≤◌, List, [], ◌∷◌, ◌++◌, length, take, drop, get_or, Bool, true, false, cond, nat_lt, nat_le, ◌==◌, ◌&&◌, Option, Some, None, Ok, Err, ℤ, pos, neg_ℤ, ◌⊎◌, inl, inr, arith, append_assoc}
+use Rattle.std.proofs.Common.{◌≡◌, ◌≢◌, ◌∙◌, sym, ap, refl, subst, ℕ, ◌+◌, ◌-◌, ◌*◌, ◌^◌, ◌<◌, ◌≤◌, List, [], ◌∷◌, ◌++◌, length, take, drop, get_or, Bool, true, false, cond, nat_lt, nat_le, ◌==◌, ◌&&◌, Option, Some, None, Ok, Err, ℤ, pos, neg_ℤ, ◌⊎◌, inl, inr, arith, append_assoc}
 use Rattle.std.proofs.Math.Seq.{drop-drop, get_or-take, take-take}
 use Rattle.std.proofs.Math.ListN.{length-append, length-take}
 use Rattle.std.proofs.lemmas.List.{take-append-drop, drop_more}
@@ -12,9 +12,9 @@ use Rattle.std.specs.Str.{str_eq_ignore_ascii_case}
 use Rattle.case_table.specs.Rows.{Named, first_code}
 use Rattle.time_layout.specs.declared.fault.TimeFault.TheVariants.{Mismatch}
 use Rattle.time_layout.specs.declared.parts.Colon.{Colon}
-use Rattle.time_layout.specs.declared.parts.Colon.TheVariants.{Optional, Required}
-use Rattle.time_layout.specs.Atoms.{Reading, and_then, value_of, stands, number, fraction, code_at, named_or, name_at, reach, padded_day, minutes_behind, offset, zone}
-use Rattle.time_layout.specs.Texts.{AreDigits, BeginsNoDigit, IsNumber, IsFraction, IsName, IsPaddedDay, AreMinutes, IsOffset, IsZone}
+use Rattle.time_layout.specs.declared.parts.Colon.TheVariants.{Optional, Required, Missing}
+use Rattle.time_layout.specs.Atoms.{Reading, and_then, value_of, stands, may_lie, number, fraction, code_at, named_or, name_at, reach, unpadded, padded_day, minutes_behind, offset, signed, zone}
+use Rattle.time_layout.specs.Texts.{AreDigits, BeginsNoDigit, IsNumber, IsFraction, IsName, IsUnpadded, IsPaddedDay, AreMinutes, IsOffset, IsSigned, IsZone}
 
 -- a text between two places, of which something holds
 pub record Between (text : List ℕ) (at next : ℕ) (Holds : List ℕ → Type 0) : Type 0 where
@@ -54,12 +54,19 @@ standing byte at text is =
 pub cut : (size at : ℕ) (text : List ℕ) → drop at text ≡ take size (drop at text) ++ drop (at + size) text
 cut size at text = sym (take-append-drop size (drop at text)) ∙ ap (λ rest. take size (drop at text) ++ rest) (drop-drop size at text)
 
-number_cases : (short fits : Bool) (digits at value v next fault : ℕ)
-    → cond {A = Reading ℕ} short (Err (Mismatch fault)) (cond {A = Reading ℕ} fits (Ok (value, at + digits)) (Err (Mismatch at))) ≡ Ok (v, next)
-    → (short ≡ false) × (fits ≡ true) × (value ≡ v) × (at + digits ≡ next)
-number_cases true fits digits at value v next fault is = cc
-number_cases false true digits at value v next fault is = (refl, refl, same_value value v (at + digits) next is, same_next value v (at + digits) next is)
-number_cases false false digits at value v next fault is = cc
+number_cases : (may short : Bool) (digits at value v next fault : ℕ)
+    → cond {A = Reading ℕ} may (cond {A = Reading ℕ} short (Err (Mismatch fault)) (Ok (value, at + digits))) (Err (Mismatch at)) ≡ Ok (v, next)
+    → (may ≡ true) × (short ≡ false) × (value ≡ v) × (at + digits ≡ next)
+number_cases false short digits at value v next fault is = cc
+number_cases true true digits at value v next fault is = cc
+number_cases true false digits at value v next fault is = (refl, refl, same_value value v (at + digits) next is, same_next value v (at + digits) next is)
+
+-- where no digit is missing the value lies in the bounds itself
+lies : (more low high value : ℕ) → more ≡ 0 → may_lie more low high value ≡ true → (low ≤ value) × (value ≤ high)
+lies more low high value none may =
+    let here : may_lie 0 low high value ≡ true = subst (λ n. may_lie n low high value ≡ true) none may in
+    let tests = both (nat_lt low ((value + 1) * 10 ^ 0)) (nat_le (value * 10 ^ 0) high) here in
+    (omega (arith, ltb-true low ((value + 1) * 10 ^ 0) tests.0), omega (arith, leb-true (value * 10 ^ 0) high tests.1))
 
 pub number_sound : (digits low high : ℕ) (text : List ℕ) (at value next : ℕ) → number digits low high text at ≡ Ok (value, next)
     → Between text at next (λ own. IsNumber digits low high own value)
@@ -67,13 +74,14 @@ unfolding number
 number_sound digits low high text at value next is =
     let own : List ℕ = take digits (drop at text) in
     let count : ℕ = prefix_len is_ascii_digit own in
-    let tests = number_cases (nat_lt count digits) (nat_le low (value_of own) && nat_le (value_of own) high) digits at (value_of own) value next (at + count) is in
-    let range = both (nat_le low (value_of own)) (nat_le (value_of own) high) tests.1 in
-    let enough : digits ≤ count = ltb-false count digits tests.0 in
+    let found : ℕ = value_of (take count (drop at text)) in
+    let tests = number_cases (may_lie (digits - count) low high found) (nat_lt count digits) digits at found value next (at + count) is in
+    let enough : digits ≤ count = ltb-false count digits tests.1 in
     let some : count ≤ length own = prefix_len-le-length is_ascii_digit own in
     let few : length own ≤ digits = omega (arith, length-take digits (drop at text)) in
     let size : length own ≡ digits = omega arith in
-    let value_is : value_of own ≡ value = tests.2 in
+    let range = lies (digits - count) low high found (omega arith) tests.0 in
+    let all_of : count ≡ digits = omega arith in
     record {
       own = own;
       splits = cut digits at text ∙ ap (λ place. own ++ drop place text) tests.3;
@@ -81,9 +89,9 @@ number_sound digits low high text at value next is =
       holds = record {
         all = omega arith;
         size = size;
-        value_is = value_is;
-        least = omega (arith, leb-true low (value_of own) range.0);
-        greatest = omega (arith, leb-true (value_of own) high range.1);
+        value_is = ap (λ n. value_of (take n (drop at text))) (sym all_of) ∙ tests.2;
+        least = omega (arith, range.0, tests.2);
+        greatest = omega (arith, range.1, tests.2);
       };
     }
 
@@ -94,6 +102,17 @@ front_all bytes =
     prefix_len_is is_ascii_digit (take count bytes) (length (take count bytes)) 0 (omega arith)
     (λ i below. ap is_ascii_digit (get_or-take count bytes i 0 (omega (arith, length-prefix_len is_ascii_digit bytes))) ∙ prefix_len_passes is_ascii_digit bytes i 0 (omega (arith, length-prefix_len is_ascii_digit bytes)))
     (λ past. absurd (omega arith))
+
+-- and so are those of at most so many bytes, which are as many as stand there
+pub front_digits : (most : ℕ) (bytes : List ℕ)
+    → AreDigits (take (prefix_len is_ascii_digit (take most bytes)) bytes)
+    × (length (take (prefix_len is_ascii_digit (take most bytes)) bytes) ≡ prefix_len is_ascii_digit (take most bytes))
+    × (prefix_len is_ascii_digit (take most bytes) ≤ most)
+front_digits most bytes =
+    let count : ℕ = prefix_len is_ascii_digit (take most bytes) in
+    let below : count ≤ length (take most bytes) = prefix_len-le-length is_ascii_digit (take most bytes) in
+    let few : count ≤ most = omega (arith, length-take most bytes) in
+    (rw (← take-take count most bytes few) (front_all (take most bytes)), omega (arith, length-take count bytes, length-take most bytes), few)
 
 ends_inside : (bytes : List ℕ) (most : ℕ) → prefix_len is_ascii_digit (take most bytes) < most
     → (prefix_len is_ascii_digit (take most bytes) < length bytes) ⊎ (length bytes ≤ prefix_len is_ascii_digit (take most bytes))
@@ -132,10 +151,10 @@ fraction_sound most text at value next is =
     let count : ℕ = prefix_len is_ascii_digit (take most bytes) in
     let own : List ℕ = take count bytes in
     let tests = fraction_cases (count == 0) at (value_of own * 10 ^ (9 - count)) count value next is in
-    let below : count ≤ length (take most bytes) = prefix_len-le-length is_ascii_digit (take most bytes) in
-    let size : length own ≡ count = omega (arith, length-take count bytes, length-take most bytes) in
-    let few : count ≤ most = omega (arith, length-take most bytes) in
-    let digits : AreDigits own = rw (← take-take count most bytes few) (front_all (take most bytes)) in
+    let front = front_digits most bytes in
+    let digits : AreDigits own = front.0 in
+    let size : length own ≡ count = front.1 in
+    let few : count ≤ most = front.2 in
     let some : 1 ≤ count = omega (arith, eqb-false count 0 tests.0) in
     let ends = ends_there count most next bytes (drop next text) (drop-drop count at text ∙ ap (λ place. drop place text) tests.2) (count_ends bytes most) in
     record {
@@ -193,33 +212,38 @@ second_fails true true k one two = absurd (two refl)
 second_fails true false k one two = refl
 second_fails false second k one two = absurd (omega arith)
 
-one_digit : (own rest : List ℕ) (day : ℕ) → IsNumber 1 1 31 own day → prefix_len is_ascii_digit (take 2 (own ++ rest)) ≢ 2 → BeginsNoDigit rest
-one_digit [] rest day n two = absurd (omega (arith, n.size))
-one_digit (first ∷ []) [] day n two = refl
-one_digit (first ∷ []) (second ∷ rest) day n two =
+one_digit : (high : ℕ) (own rest : List ℕ) (day : ℕ) → IsNumber 1 1 high own day → prefix_len is_ascii_digit (take 2 (own ++ rest)) ≢ 2 → BeginsNoDigit rest
+one_digit high [] rest day n two = absurd (omega (arith, n.size))
+one_digit high (first ∷ []) [] day n two = refl
+one_digit high (first ∷ []) (second ∷ rest) day n two =
     second_fails (is_ascii_digit first) (is_ascii_digit second) (prefix_len is_ascii_digit rest) n.all two
-one_digit (first ∷ second ∷ own) rest day n two = absurd (omega (arith, n.size))
+one_digit high (first ∷ second ∷ own) rest day n two = absurd (omega (arith, n.size))
 
-day_cases : (two : Bool) (text : List ℕ) (at day next : ℕ) → (prefix_len is_ascii_digit (take 2 (drop at text)) == 2) ≡ two
-    → number (cond two 2 1) 1 31 text at ≡ Ok (day, next) → Between text at next (λ own. IsPaddedDay own (drop next text) day)
-day_cases true text at day next count is =
-    weaker text at next _ (λ own. IsPaddedDay own (drop next text) day) (λ own splits n. inr (inl n)) (number_sound 2 1 31 text at day next is)
-day_cases false text at day next count is =
-    weaker text at next _ (λ own. IsPaddedDay own (drop next text) day)
-    (λ own splits n. inr (inr (
+two_cases : (two : Bool) (high : ℕ) (text : List ℕ) (at value next : ℕ) → (prefix_len is_ascii_digit (take 2 (drop at text)) == 2) ≡ two
+    → number (cond two 2 1) 1 high text at ≡ Ok (value, next) → Between text at next (λ own. IsUnpadded high own (drop next text) value)
+two_cases true high text at value next count is =
+    weaker text at next _ (λ own. IsUnpadded high own (drop next text) value) (λ own splits n. inl n) (number_sound 2 1 high text at value next is)
+two_cases false high text at value next count is =
+    weaker text at next _ (λ own. IsUnpadded high own (drop next text) value)
+    (λ own splits n. inr (
       n,
-      one_digit own (drop next text) day n
+      one_digit high own (drop next text) value n
           (λ two. eqb-false (prefix_len is_ascii_digit (take 2 (drop at text))) 2 count (ap (λ bytes. prefix_len is_ascii_digit (take 2 bytes)) splits ∙ two)),
-    )))
-    (number_sound 1 1 31 text at day next is)
+    ))
+    (number_sound 1 1 high text at value next is)
+
+pub unpadded_sound : (high : ℕ) (text : List ℕ) (at value next : ℕ) → unpadded high text at ≡ Ok (value, next)
+    → Between text at next (λ own. IsUnpadded high own (drop next text) value)
+unpadded_sound high text at value next is = two_cases (prefix_len is_ascii_digit (take 2 (drop at text)) == 2) high text at value next refl is
 
 spaced_cases : (spaced : Bool) (text : List ℕ) (at day next : ℕ) → stands 32 text at ≡ spaced
-    → cond spaced (number 1 1 31 text (at + 1)) (number (cond (prefix_len is_ascii_digit (take 2 (drop at text)) == 2) 2 1) 1 31 text at) ≡ Ok (day, next)
+    → cond spaced (number 1 1 31 text (at + 1)) (unpadded 31 text at) ≡ Ok (day, next)
     → Between text at next (λ own. IsPaddedDay own (drop next text) day)
 spaced_cases true text at day next stands_there is =
     wider text at next 32 _ (λ own. IsPaddedDay own (drop next text) day) (standing 32 at text stands_there) (λ own n. inl (own, refl, n))
     (number_sound 1 1 31 text (at + 1) day next is)
-spaced_cases false text at day next stands_there is = day_cases (prefix_len is_ascii_digit (take 2 (drop at text)) == 2) text at day next refl is
+spaced_cases false text at day next stands_there is =
+    weaker text at next _ (λ own. IsPaddedDay own (drop next text) day) (λ own splits u. inr u) (unpadded_sound 31 text at day next is)
 
 pub padded_day_sound : (text : List ℕ) (at day next : ℕ) → padded_day text at ≡ Ok (day, next)
     → Between text at next (λ own. IsPaddedDay own (drop next text) day)
@@ -248,6 +272,7 @@ minutes_cases Required true text at minutes next begins is =
     wider text at next 58 _ (λ own. AreMinutes Required own minutes) (standing 58 at text begins) (λ own n. (own, refl, n))
     (number_sound 2 0 59 text (at + 1) minutes next (rw begins at is))
 minutes_cases Required false text at minutes next begins is = let other = rw begins at is in cc
+minutes_cases Missing behind_colon text at minutes next begins is = number_sound 2 0 59 text at minutes next is
 
 pub offset_sound : (colon : Colon) (text : List ℕ) (at seconds next : ℕ) → offset colon text at ≡ Ok (seconds, next)
     → Between text at next (λ own. IsOffset colon own seconds)
@@ -274,11 +299,36 @@ offset_sound colon text at seconds next is =
       };
     }
 
-zone_cases : (utc east west : Bool) (colon : Colon) (text : List ℕ) (at next : ℕ) (value : ℤ)
-    → stands 90 text at ≡ utc → stands 43 text at ≡ east → stands 45 text at ≡ west
+signed_cases : (east west : Bool) (colon : Colon) (text : List ℕ) (at next : ℕ) (value : ℤ)
+    → stands 43 text at ≡ east → stands 45 text at ≡ west
+    → signed colon text at ≡ Ok (value, next) → Between text at next (λ own. IsSigned colon own value)
+unfolding signed
+signed_cases true west colon text at next value is_east is_west is =
+    let read = rw is_east at is in
+    let o = opened (offset colon text (at + 1)) (λ seconds end. Ok (pos seconds, end)) value next read in
+    let behind = offset_sound colon text (at + 1) o.value o.next o.read in
+    let ends : o.next ≡ next = same_next (pos o.value) value o.next next o.then in
+    wider text at next 43 (λ own. IsOffset colon own o.value) (λ own. IsSigned colon own value) (standing 43 at text is_east)
+    (λ own holds. inl (own, o.value, refl, sym (same_value (pos o.value) value o.next next o.then), holds))
+    (rw ends at behind)
+signed_cases false true colon text at next value is_east is_west is =
+    let read = rw (is_east, is_west) at is in
+    let o = opened (offset colon text (at + 1)) (λ seconds end. Ok (neg_ℤ (pos seconds), end)) value next read in
+    let behind = offset_sound colon text (at + 1) o.value o.next o.read in
+    let ends : o.next ≡ next = same_next (neg_ℤ (pos o.value)) value o.next next o.then in
+    wider text at next 45 (λ own. IsOffset colon own o.value) (λ own. IsSigned colon own value) (standing 45 at text is_west)
+    (λ own holds. inr (own, o.value, refl, sym (same_value (neg_ℤ (pos o.value)) value o.next next o.then), holds))
+    (rw ends at behind)
+signed_cases false false colon text at next value is_east is_west is = let other = rw (is_east, is_west) at is in cc
+
+pub signed_sound : (colon : Colon) (text : List ℕ) (at : ℕ) (value : ℤ) (next : ℕ) → signed colon text at ≡ Ok (value, next)
+    → Between text at next (λ own. IsSigned colon own value)
+signed_sound colon text at value next is = signed_cases (stands 43 text at) (stands 45 text at) colon text at next value refl refl is
+
+zone_cases : (utc : Bool) (colon : Colon) (text : List ℕ) (at next : ℕ) (value : ℤ) → stands 90 text at ≡ utc
     → zone colon text at ≡ Ok (value, next) → Between text at next (λ own. IsZone colon own value)
 unfolding zone
-zone_cases true east west colon text at next value is_utc is_east is_west is =
+zone_cases true colon text at next value is_utc is =
     let read = rw is_utc at is in
     record {
       own = 90 ∷ [];
@@ -286,25 +336,10 @@ zone_cases true east west colon text at next value is_utc is_east is_west is =
       size = sym (same_next (pos 0) value (at + 1) next read);
       holds = inl (refl, sym (same_value (pos 0) value (at + 1) next read));
     }
-zone_cases false true west colon text at next value is_utc is_east is_west is =
-    let read = rw (is_utc, is_east) at is in
-    let o = opened (offset colon text (at + 1)) (λ seconds end. Ok (pos seconds, end)) value next read in
-    let behind = offset_sound colon text (at + 1) o.value o.next o.read in
-    let ends : o.next ≡ next = same_next (pos o.value) value o.next next o.then in
-    wider text at next 43 (λ own. IsOffset colon own o.value) (λ own. IsZone colon own value) (standing 43 at text is_east)
-    (λ own holds. inr (inl (own, o.value, refl, sym (same_value (pos o.value) value o.next next o.then), holds)))
-    (rw ends at behind)
-zone_cases false false true colon text at next value is_utc is_east is_west is =
-    let read = rw (is_utc, is_east, is_west) at is in
-    let o = opened (offset colon text (at + 1)) (λ seconds end. Ok (neg_ℤ (pos seconds), end)) value next read in
-    let behind = offset_sound colon text (at + 1) o.value o.next o.read in
-    let ends : o.next ≡ next = same_next (neg_ℤ (pos o.value)) value o.next next o.then in
-    wider text at next 45 (λ own. IsOffset colon own o.value) (λ own. IsZone colon own value) (standing 45 at text is_west)
-    (λ own holds. inr (inr (own, o.value, refl, sym (same_value (neg_ℤ (pos o.value)) value o.next next o.then), holds)))
-    (rw ends at behind)
-zone_cases false false false colon text at next value is_utc is_east is_west is = let other = rw (is_utc, is_east, is_west) at is in cc
+zone_cases false colon text at next value is_utc is =
+    weaker text at next _ (λ own. IsZone colon own value) (λ own splits sign. inr sign) (signed_sound colon text at value next (rw is_utc at is))
 
 pub zone_sound : (colon : Colon) (text : List ℕ) (at : ℕ) (value : ℤ) (next : ℕ) → zone colon text at ≡ Ok (value, next)
     → Between text at next (λ own. IsZone colon own value)
 zone_sound colon text at value next is =
-    zone_cases (stands 90 text at) (stands 43 text at) (stands 45 text at) colon text at next value refl refl refl is
+    zone_cases (stands 90 text at) colon text at next value refl is

@@ -3,7 +3,7 @@ use Rattle.std.specs.Prelude.{ℕ, ◌+◌, List, [], ◌∷◌, ◌++◌, Bool,
 use Rattle.time_layout.specs.declared.directives.Given.{Given}
 use Rattle.time_layout.specs.declared.parts.Colon.TheVariants.{Optional}
 use Rattle.time_layout.specs.declared.parts.Part.{Part}
-use Rattle.time_layout.specs.declared.parts.Part.TheVariants.{Literal, Year, ShortYear, Month, MonthName, Day, PaddedDay, WeekdayName, Hour, TwelveHour, Meridiem, Minute, Second, Fraction, PointFraction, Zone}
+use Rattle.time_layout.specs.declared.parts.Part.TheVariants.{Literal, Year, ShortYear, Month, MonthName, Day, PaddedDay, WeekdayName, Hour, TwelveHour, Meridiem, Minute, Second, Fraction, PointFraction, Zone, UnpaddedMonth, FullMonthName, UnpaddedDay, FullWeekdayName, UnpaddedTwelveHour, FixedFraction, FractionPoint, Offset, ZoneName}
 
 -- the part for which a byte behind a percent sign stands
 abbrev pub part_of : ℕ → Option Part
@@ -56,6 +56,15 @@ with_part Second g = once g.second (record g { second = true })
 with_part Fraction g = once g.fraction (record g { fraction = true })
 with_part (PointFraction most) g = once g.fraction (record g { fraction = true })
 with_part (Zone colon) g = once g.zone (record g { zone = true })
+with_part UnpaddedMonth g = once g.month (record g { month = true })
+with_part FullMonthName g = once g.month (record g { month = true })
+with_part UnpaddedDay g = once g.day (record g { day = true })
+with_part FullWeekdayName g = once g.weekday (record g { weekday = true })
+with_part UnpaddedTwelveHour g = once g.hour (record g { hour = true; twelve = true })
+with_part (FixedFraction digits) g = once g.fraction (record g { fraction = true })
+with_part FractionPoint g = once g.fraction (record g { fraction = true })
+with_part (Offset colon) g = once g.zone (record g { zone = true })
+with_part ZoneName g = once g.zone (record g { zone = true })
 
 -- a year, a month and a day, and both of `%I` and `%p` or none
 abbrev pub is_complete : Given → Bool

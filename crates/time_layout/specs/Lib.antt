@@ -1,7 +1,11 @@
 pub mod Atoms
+pub mod Beginnings
 pub mod DeadEnds
 pub mod Drafts
 pub mod Epoch
+pub mod GoDrafts
+pub mod GoGrammar
+pub mod GoLayouts
 pub mod Instant
 pub mod Iso
 pub mod LayoutFaults

@@ -1,14 +1,22 @@
 -- The parts of a layout, one after another along a text.
-use Rattle.std.specs.Prelude.{ℕ, ◌+◌, min, List, [], ◌∷◌, length, ◌==◌, nat_lt, if◌then◌else◌, ℤ, Ok, Err}
-use Rattle.case_table.specs.Tables.{month_table}
+use Rattle.std.specs.Prelude.{ℕ, ◌+◌, min, List, [], ◌∷◌, length, Bool, true, false, ◌==◌, nat_lt, if◌then◌else◌, ℤ, Ok, Err}
+use Rattle.case_table.specs.Tables.{month_table, month_name_table, day_name_table}
 use Rattle.time_layout.specs.declared.fault.TimeFault.TheVariants.{Mismatch}
+use Rattle.time_layout.specs.declared.parts.Colon.{Colon}
+use Rattle.time_layout.specs.declared.parts.Colon.TheVariants.{Optional, Required, Missing}
 use Rattle.time_layout.specs.declared.parts.Part.{Part}
-use Rattle.time_layout.specs.declared.parts.Part.TheVariants.{Literal, Year, ShortYear, Month, MonthName, Day, PaddedDay, WeekdayName, Hour, TwelveHour, Meridiem, Minute, Second, Fraction, PointFraction, Zone}
+use Rattle.time_layout.specs.declared.parts.Part.TheVariants.{Literal, Year, ShortYear, Month, MonthName, Day, PaddedDay, WeekdayName, Hour, TwelveHour, Meridiem, Minute, Second, Fraction, PointFraction, Zone, UnpaddedMonth, FullMonthName, UnpaddedDay, FullWeekdayName, UnpaddedTwelveHour, FixedFraction, FractionPoint, Offset, ZoneName}
 use Rattle.time_layout.specs.declared.parts.Clock.{Clock}
 use Rattle.time_layout.specs.declared.parts.Clock.TheVariants.{Full, Am, Pm}
 use Rattle.time_layout.specs.declared.parts.Said.{Said}
-use Rattle.time_layout.specs.Atoms.{Reading, and_then, stands, number, fraction, optional_fraction, padded_day, name_at, zone}
+use Rattle.time_layout.specs.Atoms.{Reading, and_then, stands, number, fraction, optional_fraction, fixed_fraction, fraction_point, unpadded, padded_day, name_at, full_name_at, signed, zone, zone_name}
 use Rattle.time_layout.specs.Names.{weekday_table, meridiem_table}
+
+-- whether a colon may stand between hours and minutes
+abbrev pub may_stand : Colon → Bool
+may_stand Optional = true
+may_stand Required = true
+may_stand Missing = false
 
 -- 69 to 99 are of the last century, and the others of this one
 abbrev pub full_year : ℕ → ℕ
@@ -35,6 +43,15 @@ part_read Second text at s = and_then (number 2 0 59 text at) (λ value next. Ok
 part_read Fraction text at s = and_then (fraction 9 text at) (λ value next. Ok (record s { nanosecond = value }, next))
 part_read (PointFraction most) text at s = and_then (optional_fraction (min most 9) text at) (λ value next. Ok (record s { nanosecond = value }, next))
 part_read (Zone colon) text at s = and_then (zone colon text at) (λ value next. Ok (record s { offset = value }, next))
+part_read UnpaddedMonth text at s = and_then (unpadded 12 text at) (λ value next. Ok (record s { month = value }, next))
+part_read FullMonthName text at s = and_then (full_name_at month_name_table text at) (λ value next. Ok (record s { month = value }, next))
+part_read UnpaddedDay text at s = and_then (unpadded 31 text at) (λ value next. Ok (record s { day = value }, next))
+part_read FullWeekdayName text at s = and_then (full_name_at day_name_table text at) (λ value next. Ok (s, next))
+part_read UnpaddedTwelveHour text at s = and_then (unpadded 12 text at) (λ value next. Ok (record s { hour = value }, next))
+part_read (FixedFraction digits) text at s = and_then (fixed_fraction (min digits 9) text at) (λ value next. Ok (record s { nanosecond = value }, next))
+part_read FractionPoint text at s = and_then (fraction_point text at) (λ value next. Ok (record s { nanosecond = value }, next))
+part_read (Offset colon) text at s = and_then (signed colon text at) (λ value next. Ok (record s { offset = value }, next))
+part_read ZoneName text at s = and_then (zone_name text at) (λ value next. Ok (record s { offset = value }, next))
 
 abbrev pub parts_read : List Part → List ℕ → ℕ → Said → Reading Said
 parts_read [] text at s = Ok (s, at)

@@ -1,12 +1,14 @@
 -- A time as a text of a layout.
-use Rattle.std.specs.Prelude.{◌≡◌, ◌≢◌, ℕ, zero, suc, ◌+◌, ◌/◌, ◌%◌, ◌<◌, ◌≤◌, List, [], ◌∷◌, ◌++◌, ◌==◌, nat_lt, if◌then◌else◌, ℤ, pos, negsuc, nat_abs, ⊤}
+use Rattle.std.specs.Prelude.{◌≡◌, ◌≢◌, ℕ, zero, suc, ◌+◌, ◌-◌, ◌*◌, ◌/◌, ◌%◌, ◌^◌, ◌<◌, ◌≤◌, min, List, [], ◌∷◌, ◌++◌, ◌==◌, nat_lt, if◌then◌else◌, codes, ℤ, pos, negsuc, nat_abs, ⊤}
 use Rattle.case_table.specs.Rows.{Named}
-use Rattle.case_table.specs.Tables.{month_table}
+use Rattle.case_table.specs.Tables.{month_table, month_name_table, day_name_table}
 use Rattle.jiff_core.specs.Calendar.{days_from_civil, weekday_number}
 use Rattle.time_layout.specs.declared.parts.Clock.{Clock}
 use Rattle.time_layout.specs.declared.parts.Clock.TheVariants.{Full, Am, Pm}
+use Rattle.time_layout.specs.declared.parts.Colon.{Colon}
+use Rattle.time_layout.specs.declared.parts.Colon.TheVariants.{Optional, Required, Missing}
 use Rattle.time_layout.specs.declared.parts.Part.{Part}
-use Rattle.time_layout.specs.declared.parts.Part.TheVariants.{Literal, Year, ShortYear, Month, MonthName, Day, PaddedDay, WeekdayName, Hour, TwelveHour, Meridiem, Minute, Second, Fraction, PointFraction, Zone}
+use Rattle.time_layout.specs.declared.parts.Part.TheVariants.{Literal, Year, ShortYear, Month, MonthName, Day, PaddedDay, WeekdayName, Hour, TwelveHour, Meridiem, Minute, Second, Fraction, PointFraction, Zone, UnpaddedMonth, FullMonthName, UnpaddedDay, FullWeekdayName, UnpaddedTwelveHour, FixedFraction, FractionPoint, Offset, ZoneName}
 use Rattle.time_layout.specs.declared.parts.Said.{Said}
 use Rattle.time_layout.specs.Names.{weekday_table, meridiem_table}
 
@@ -25,12 +27,17 @@ clock_code Full = 0
 clock_code Am = 1
 clock_code Pm = 2
 
-abbrev pub offset_text : ℕ → List ℕ
-offset_text seconds = digits_text 2 (seconds / 3600) ++ 58 ∷ digits_text 2 (seconds % 3600 / 60)
+abbrev pub minutes_text : Colon → ℕ → List ℕ
+minutes_text Optional minutes = 58 ∷ digits_text 2 minutes
+minutes_text Required minutes = 58 ∷ digits_text 2 minutes
+minutes_text Missing minutes = digits_text 2 minutes
 
-abbrev pub zone_text : ℤ → List ℕ
-zone_text (pos seconds) = 43 ∷ offset_text seconds
-zone_text (negsuc n) = 45 ∷ offset_text (suc n)
+abbrev pub offset_text : Colon → ℕ → List ℕ
+offset_text colon seconds = digits_text 2 (seconds / 3600) ++ minutes_text colon (seconds % 3600 / 60)
+
+abbrev pub zone_text : Colon → ℤ → List ℕ
+zone_text colon (pos seconds) = 43 ∷ offset_text colon seconds
+zone_text colon (negsuc n) = 45 ∷ offset_text colon (suc n)
 
 -- the code of the day's weekday, from 1 for Monday
 abbrev pub weekday_code : Said → ℕ
@@ -52,7 +59,16 @@ part_text Minute s = digits_text 2 s.minute
 part_text Second s = digits_text 2 s.second
 part_text Fraction s = digits_text 9 s.nanosecond
 part_text (PointFraction most) s = 46 ∷ digits_text 9 s.nanosecond
-part_text (Zone colon) s = zone_text s.offset
+part_text (Zone colon) s = zone_text colon s.offset
+part_text UnpaddedMonth s = digits_text 2 s.month
+part_text FullMonthName s = name_text month_name_table s.month
+part_text UnpaddedDay s = digits_text 2 s.day
+part_text FullWeekdayName s = name_text day_name_table (weekday_code s)
+part_text UnpaddedTwelveHour s = digits_text 2 s.hour
+part_text (FixedFraction digits) s = 46 ∷ digits_text (min digits 9) (s.nanosecond / 10 ^ (9 - min digits 9))
+part_text FractionPoint s = 46 ∷ (digits_text 9 s.nanosecond ++ 46 ∷ [])
+part_text (Offset colon) s = zone_text colon s.offset
+part_text ZoneName s = codes "UTC"
 
 -- the part has a text for what is said
 abbrev pub CanTell : Part → Said → Type 0
@@ -72,6 +88,15 @@ CanTell Second s = s.second ≤ 59
 CanTell Fraction s = s.nanosecond < 1_000_000_000
 CanTell (PointFraction most) s = (s.nanosecond < 1_000_000_000) × (9 ≤ most)
 CanTell (Zone colon) s = (nat_abs s.offset < 86_400) × (nat_abs s.offset % 60 ≡ 0)
+CanTell UnpaddedMonth s = (1 ≤ s.month) × (s.month ≤ 12)
+CanTell FullMonthName s = (1 ≤ s.month) × (s.month ≤ 12)
+CanTell UnpaddedDay s = (1 ≤ s.day) × (s.day ≤ 31)
+CanTell FullWeekdayName s = ⊤
+CanTell UnpaddedTwelveHour s = (1 ≤ s.hour) × (s.hour ≤ 12)
+CanTell (FixedFraction digits) s = (s.nanosecond < 1_000_000_000) × (s.nanosecond / 10 ^ (9 - min digits 9) * 10 ^ (9 - min digits 9) ≡ s.nanosecond)
+CanTell FractionPoint s = s.nanosecond < 1_000_000_000
+CanTell (Offset colon) s = (nat_abs s.offset < 86_400) × (nat_abs s.offset % 60 ≡ 0)
+CanTell ZoneName s = s.offset ≡ pos 0
 
 -- what was said before, with what the part tells
 abbrev pub told : Part → Said → Said → Said
@@ -91,6 +116,15 @@ told Second s before = record before { second = s.second }
 told Fraction s before = record before { nanosecond = s.nanosecond }
 told (PointFraction most) s before = record before { nanosecond = s.nanosecond }
 told (Zone colon) s before = record before { offset = s.offset }
+told UnpaddedMonth s before = record before { month = s.month }
+told FullMonthName s before = record before { month = s.month }
+told UnpaddedDay s before = record before { day = s.day }
+told FullWeekdayName s before = before
+told UnpaddedTwelveHour s before = record before { hour = s.hour }
+told (FixedFraction digits) s before = record before { nanosecond = s.nanosecond }
+told FractionPoint s before = record before { nanosecond = s.nanosecond }
+told (Offset colon) s before = record before { offset = s.offset }
+told ZoneName s before = record before { offset = s.offset }
 
 abbrev pub printed : List Part → Said → List ℕ
 printed [] s = []

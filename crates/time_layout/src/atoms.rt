@@ -1,9 +1,10 @@
 // Numbers, names and zones at a place of a text.
-ghost use Rattle.std.specs.Prelude.{◌≡◌, ◌<◌, ◌≤◌, ◌-◌, ◌*◌, ◌^◌, ℕ, min, length, take, drop, IfOk, OnSome};
+ghost use Rattle.std.specs.Prelude.{◌≡◌, ◌<◌, ◌≤◌, ◌-◌, ◌*◌, ◌^◌, ℕ, min, length, take, drop, IfOk, IfSome, OnSome};
+ghost use Rattle.std.specs.Bool.{OnTrue};
 ghost use Rattle.std.specs.Char.{is_ascii_digit};
 ghost use Rattle.std.specs.List.{prefix_len};
 ghost use Rattle.case_table.specs.Rows.{table_of};
-ghost use Rattle.time_layout.specs.Atoms.{value_of, stands, number, fraction, optional_fraction, padded_day, name_at, code_at, reach, common_fold, zone, offset, minutes_behind};
+ghost use Rattle.time_layout.specs.Atoms.{value_of, stands, may_lie, number, fraction, optional_fraction, fixed_fraction, fraction_point, unpadded, padded_day, name_at, full_name_at, code_at, begins_with, begun, reach, common_fold, signed, zone, offset, minutes_behind, letters, zone_name};
 
 use crate::TimeFault;
 use crate::parts::Colon;
@@ -19,7 +20,8 @@ pub(crate) fn stands(byte: u8, text: &[u8], at: usize) -> bool
     at < text.len() && text[at] == byte
 }
 
-/// A number of this many digits that lies within its bounds.
+/// A number of this many digits that lies within its bounds. Where the digits that stand there begin none, it's refused at
+/// the first of them, else where one is missing.
 #[tactic(auto, unfolding(crate::specs::Atoms::number))]
 pub(crate) fn read_number(
     digits: usize,
@@ -33,15 +35,28 @@ pub(crate) fn read_number(
     ensures is { result ≡ number digits low high text.now at }
     ensures within { IfOk result (λ read. read.1 ≤ length text.now) }
     ensures bounded { IfOk result (λ read. read.0 ≤ high) }
+    ensures spelled { IfOk result (λ read. read.0 < 10 ^ digits) }
 {
     let (value, count) = read_digits(front(&text[at..], digits));
+    if !may_lie(digits - count, low, high, value) {
+        return Err(TimeFault::Mismatch { at });
+    }
     if count < digits {
         return Err(TimeFault::Mismatch { at: at + count });
     }
-    if value < low || value > high {
-        return Err(TimeFault::Mismatch { at });
-    }
     Ok((value, at + digits))
+}
+
+/// Whether digits of this value, with so many more behind them, can spell a number within the bounds.
+fn may_lie(more: usize, low: u32, high: u32, value: u32) -> bool
+    requires { more ≤ 9 }
+    ensures { result ≡ may_lie more low high value }
+{
+    if more == 0 {
+        return low <= value && value <= high;
+    }
+    let unit = 10u64.pow(more as u32);
+    u64::from(low) < (u64::from(value) + 1) * unit && u64::from(value) * unit <= u64::from(high)
 }
 
 /// One to so many digits of a second's fraction, in nanoseconds.
@@ -72,6 +87,51 @@ pub(crate) fn read_optional_fraction(most: u8, text: &[u8], at: usize) -> Readin
     Ok((0, at))
 }
 
+/// A point and so many digits of a second's fraction, in nanoseconds.
+pub(crate) fn read_fixed_fraction(digits: u8, text: &[u8], at: usize) -> Reading<u32>
+    requires within { at ≤ length text.now }
+    requires few { digits ≤ 9 }
+    ensures is { result ≡ fixed_fraction digits text.now at }
+    ensures within { IfOk result (λ read. read.1 ≤ length text.now) }
+{
+    if !stands(b'.', text, at) {
+        return Err(TimeFault::Mismatch { at });
+    }
+    let (value, next) = read_number(digits as usize, 0, 999_999_999, text, at + 1)?;
+    Ok((scaled(value, digits as usize), next))
+}
+
+/// A point, or a point, a fraction and another point, of which the fraction is read.
+pub(crate) fn read_fraction_point(text: &[u8], at: usize) -> Reading<u32>
+    requires { at ≤ length text.now }
+    ensures is { result ≡ fraction_point text.now at }
+    ensures within { IfOk result (λ read. read.1 ≤ length text.now) }
+{
+    if !stands(b'.', text, at) {
+        return Err(TimeFault::Mismatch { at });
+    }
+    let (_, count) = read_digits(front(&text[at + 1..], 1));
+    if count == 0 {
+        return Ok((0, at + 1));
+    }
+    let (nanoseconds, next) = read_fraction(9, text, at + 1)?;
+    if !stands(b'.', text, next) {
+        return Err(TimeFault::Mismatch { at: next });
+    }
+    Ok((nanoseconds, next + 1))
+}
+
+/// A number from 1 on as two digits, or as one.
+pub(crate) fn read_unpadded(high: u32, text: &[u8], at: usize) -> Reading<u32>
+    requires { at ≤ length text.now }
+    ensures is { result ≡ unpadded high text.now at }
+    ensures within { IfOk result (λ read. read.1 ≤ length text.now) }
+    ensures bounded { IfOk result (λ read. read.0 ≤ high) }
+{
+    let (_, count) = read_digits(front(&text[at..], 2));
+    read_number(if count == 2 { 2 } else { 1 }, 1, high, text, at)
+}
+
 /// A day as a space and a digit, or as two digits, or as one.
 pub(crate) fn read_padded_day(text: &[u8], at: usize) -> Reading<u32>
     requires { at ≤ length text.now }
@@ -82,8 +142,7 @@ pub(crate) fn read_padded_day(text: &[u8], at: usize) -> Reading<u32>
     if stands(b' ', text, at) {
         return read_number(1, 1, 31, text, at + 1);
     }
-    let (_, count) = read_digits(front(&text[at..], 2));
-    read_number(if count == 2 { 2 } else { 1 }, 1, 31, text, at)
+    read_unpadded(31, text, at)
 }
 
 /// The code of a row whose name of this length stands there, with the case of letters ignored.
@@ -102,6 +161,51 @@ pub(crate) fn read_name(rows: &[Row], size: usize, text: &[u8], at: usize) -> Re
     }
 }
 
+/// The code of the row whose name stands there, with the case of letters ignored, where no name begins another.
+#[tactic(auto, unfolding(crate::specs::Atoms::full_name_at))]
+pub(crate) fn read_full_name(rows: &[Row], text: &[u8], at: usize) -> Reading<u16>
+    requires { at ≤ length text.now }
+    ensures is { result ≡ full_name_at (table_of rows.now) text.now at }
+    ensures within { IfOk result (λ read. read.1 ≤ length text.now) }
+{
+    let rest = &text[at..];
+    match begun(rows, rest) {
+        Some((code, size)) => Ok((code, at + size)),
+        None => {
+            let at = at + reach(rows, rest);
+            Err(TimeFault::Mismatch { at })
+        }
+    }
+}
+
+/// `UTC` or `GMT`, as seconds east of UTC.
+pub(crate) fn read_zone_name(text: &[u8], at: usize) -> Reading<i32>
+    requires { at ≤ length text.now }
+    ensures is { result ≡ zone_name text.now at }
+    ensures within { IfOk result (λ read. read.1 ≤ length text.now) }
+{
+    if stands(b'G', text, at) {
+        return read_letters(b"GMT", text, at);
+    }
+    read_letters(b"UTC", text, at)
+}
+
+/// These bytes, which name UTC.
+fn read_letters(name: &[u8], text: &[u8], at: usize) -> Reading<i32>
+    requires { at ≤ length text.now }
+    ensures is { result ≡ letters name.now text.now at }
+    ensures within { IfOk result (λ read. read.1 ≤ length text.now) }
+{
+    let mut next = at;
+    for byte in name {
+        if !stands(*byte, text, next) {
+            return Err(TimeFault::Mismatch { at: next });
+        }
+        next += 1;
+    }
+    Ok((0, next))
+}
+
 /// `Z`, or a sign with hours and minutes, in seconds east of UTC.
 #[tactic(auto, unfolding(crate::specs::Atoms::zone))]
 pub(crate) fn read_zone(colon: Colon, text: &[u8], at: usize) -> Reading<i32>
@@ -112,6 +216,16 @@ pub(crate) fn read_zone(colon: Colon, text: &[u8], at: usize) -> Reading<i32>
     if stands(b'Z', text, at) {
         return Ok((0, at + 1));
     }
+    read_signed(colon, text, at)
+}
+
+/// A sign with hours and minutes, in seconds east of UTC.
+#[tactic(auto, unfolding(crate::specs::Atoms::signed))]
+pub(crate) fn read_signed(colon: Colon, text: &[u8], at: usize) -> Reading<i32>
+    requires { at ≤ length text.now }
+    ensures is { result ≡ signed colon text.now at }
+    ensures within { IfOk result (λ read. read.1 ≤ length text.now) }
+{
     if stands(b'+', text, at) {
         let (seconds, next) = read_offset(colon, text, at + 1)?;
         return Ok((seconds as i32, next));
@@ -142,11 +256,11 @@ fn read_minutes(colon: Colon, text: &[u8], at: usize) -> Reading<u32>
     ensures within { IfOk result (λ read. read.1 ≤ length text.now) }
     ensures bounded { IfOk result (λ read. read.0 ≤ 59) }
 {
-    if stands(b':', text, at) {
+    if colon.may_stand() && stands(b':', text, at) {
         return read_number(2, 0, 59, text, at + 1);
     }
     match colon {
-        Colon::Optional => read_number(2, 0, 59, text, at),
+        Colon::Optional | Colon::Missing => read_number(2, 0, 59, text, at),
         Colon::Required => Err(TimeFault::Mismatch { at }),
     }
 }
@@ -159,6 +273,26 @@ fn code_at(rows: &[Row], size: usize, rest: &[u8]) -> Option<u16>
         return None;
     }
     find_fold_bytes(rows, &rest[..size])
+}
+
+/// The code and the length of the first name with which the text begins, with the case of letters ignored.
+fn begun(rows: &[Row], text: &[u8]) -> Option<(u16, usize)>
+    ensures is { result ≡ begun (table_of rows.now) text.now }
+    ensures within { IfSome result (λ name. name.1 ≤ length text.now) }
+{
+    for row in rows {
+        if begins_with(text, row.name.as_bytes()) {
+            return Some((row.code, row.name.len()));
+        }
+    }
+    None
+}
+
+fn begins_with(text: &[u8], name: &[u8]) -> bool
+    ensures is { result ≡ begins_with text.now name.now }
+    ensures within { OnTrue result (length name.now ≤ length text.now) }
+{
+    front(text, name.len()).eq_ignore_ascii_case(name)
 }
 
 /// At most so many bytes from the front.

@@ -1,7 +1,7 @@
 // Reading the text of a layout.
 ghost use Rattle.std.specs.Prelude.{◌≡◌, ◌∷◌, ◌++◌, [], OnOk, IfOk, IfErr, cond, Some, None, Ok};
 ghost use Rattle.time_layout.specs.LayoutFaults.{IsFaultOf};
-ghost use Rattle.time_layout.specs.LayoutText.{part_of, once, with_part, is_complete, clock_parts, added, directed, step, finished, start, layout_parts};
+ghost use Rattle.time_layout.specs.LayoutText.{part_of, once, nothing_given, with_part, is_complete, clock_parts, added, directed, step, finished, start, layout_parts};
 
 use crate::LayoutFault;
 use crate::parts::{Colon, Part};
@@ -54,19 +54,7 @@ impl Sketch {
     {
         Sketch {
             parts: Vec::new(alloc),
-            given: Given {
-                year: false,
-                month: false,
-                day: false,
-                weekday: false,
-                hour: false,
-                twelve: false,
-                meridiem: false,
-                minute: false,
-                second: false,
-                fraction: false,
-                zone: false,
-            },
+            given: Given::nothing(),
             percent: None,
         }
     }
@@ -163,22 +151,44 @@ impl Sketch {
 }
 
 impl Given {
+    /// Nothing.
+    pub(crate) fn nothing() -> Given
+        ensures { result ≡ nothing_given }
+    {
+        Given {
+            year: false,
+            month: false,
+            day: false,
+            weekday: false,
+            hour: false,
+            twelve: false,
+            meridiem: false,
+            minute: false,
+            second: false,
+            fraction: false,
+            zone: false,
+        }
+    }
+
     /// With one part more, where it gives nothing twice.
-    fn with(self, part: Part) -> Option<Given>
+    pub(crate) fn with(self, part: Part) -> Option<Given>
         ensures { result ≡ with_part part self }
     {
         match part {
             Part::Literal(_) => Some(self),
             Part::Year | Part::ShortYear => once(self.year, Given { year: true, ..self }),
-            Part::Month | Part::MonthName => once(
+            Part::Month | Part::MonthName | Part::UnpaddedMonth | Part::FullMonthName => once(
                 self.month,
                 Given {
                     month: true,
                     ..self
                 },
             ),
-            Part::Day | Part::PaddedDay => once(self.day, Given { day: true, ..self }),
-            Part::WeekdayName => once(
+            Part::Day | Part::PaddedDay | Part::UnpaddedDay => once(
+                self.day,
+                Given { day: true, ..self },
+            ),
+            Part::WeekdayName | Part::FullWeekdayName => once(
                 self.weekday,
                 Given {
                     weekday: true,
@@ -186,7 +196,7 @@ impl Given {
                 },
             ),
             Part::Hour => once(self.hour, Given { hour: true, ..self }),
-            Part::TwelveHour => once(
+            Part::TwelveHour | Part::UnpaddedTwelveHour => once(
                 self.hour,
                 Given {
                     hour: true,
@@ -215,19 +225,25 @@ impl Given {
                     ..self
                 },
             ),
-            Part::Fraction | Part::PointFraction(_) => once(
+            Part::Fraction
+            | Part::PointFraction(_)
+            | Part::FixedFraction(_)
+            | Part::FractionPoint => once(
                 self.fraction,
                 Given {
                     fraction: true,
                     ..self
                 },
             ),
-            Part::Zone(_) => once(self.zone, Given { zone: true, ..self }),
+            Part::Zone(_) | Part::Offset(_) | Part::ZoneName => once(
+                self.zone,
+                Given { zone: true, ..self },
+            ),
         }
     }
 
     /// Whether there is a year, a month and a day, and both a twelve-hour clock and its half of the day or none.
-    fn is_complete(self) -> bool
+    pub(crate) fn is_complete(self) -> bool
         ensures { result ≡ is_complete self }
     {
         self.year && self.month && self.day && self.twelve == self.meridiem

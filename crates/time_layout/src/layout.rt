@@ -1,5 +1,6 @@
 // Layouts.
 ghost use Rattle.std.specs.Prelude.{◌≡◌, IfOk, IfErr, Ok};
+ghost use Rattle.time_layout.specs.GoLayouts.{go_parts};
 ghost use Rattle.time_layout.specs.Instant.{IsTimeOf};
 ghost use Rattle.time_layout.specs.LayoutFaults.{IsFaultOf};
 ghost use Rattle.time_layout.specs.LayoutText.{layout_parts};
@@ -7,6 +8,7 @@ ghost use Rattle.time_layout.specs.Parts.{layout_read};
 
 use crate::calendar::instant_of;
 use crate::directives::read_parts_of;
+use crate::go_layouts::read_names_of;
 use crate::parts::{Part, read_layout};
 use crate::{LayoutFault, TimeFault};
 use std::alloc::Global;
@@ -54,6 +56,37 @@ impl Layout {
         ensures fault { IfErr result (IsFaultOf (layout_parts text.now)) }
     {
         let parts = read_parts_of(alloc, text)?;
+        Ok(Layout { parts, location })
+    }
+
+    /// The layout that a text spells as Go's package [`time`](https://pkg.go.dev/time#pkg-constants) writes layouts: as its
+    /// reference time, Mon Jan 2 15:04:05 2006 at seven hours west of UTC. Where texts of it have no zone, they are said
+    /// `location` seconds east of UTC. At each place stands the longest of these names that begins there.
+    ///
+    /// | Name | What stands for it |
+    /// |---|---|
+    /// | `2006`, `06` | a year of four digits, and two digits of a year from 1969 to 2068 |
+    /// | `01`, `1` | a month of two digits, and of two or one |
+    /// | `Jan`, `January` | a month's English name in three letters, and the whole name, in any case |
+    /// | `02`, `2`, `_2` | a day of two digits, of two or one, and as two digits, as a space and a digit, or as one digit |
+    /// | `Mon`, `Monday` | a weekday's English name in three letters, and the whole name, in any case; it says nothing |
+    /// | `15` | an hour from 00 to 23 |
+    /// | `03`, `3`, `PM` | an hour from 1 to 12 of two digits, and of two or one, and AM or PM in any case |
+    /// | `04`, `05` | a minute and a second from 00 to 59; behind a second a point and one to nine digits may stand where no fraction is named there |
+    /// | `.000`, `.000000`, `.000000000` | a point and so many digits of a second's fraction |
+    /// | `-0700`, `-07:00` | a sign, and hours and minutes in this form |
+    /// | `Z0700`, `Z07:00` | the same, or `Z` |
+    /// | `MST` | `UTC` or `GMT` |
+    ///
+    /// Every other byte but a digit stands for itself. `Directive` at the first place of every other text that is wrong:
+    /// of a digit that begins no name, of a name that gives once more what one before it gives; at the text's length
+    /// where the year, the month or the day is missing, or one of `PM` and `03` or `3`.
+    pub fn read_go(alloc: Global, text: &str, location: i32) -> Result<Layout, LayoutFault>
+        ensures parts { IfOk result (λ layout. go_parts text.now ≡ Ok layout.parts) }
+        ensures location { IfOk result (λ layout. layout.location ≡ location) }
+        ensures fault { IfErr result (IsFaultOf (go_parts text.now)) }
+    {
+        let parts = read_names_of(alloc, text)?;
         Ok(Layout { parts, location })
     }
 

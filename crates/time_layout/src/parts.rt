@@ -4,17 +4,34 @@ ghost use Rattle.time_layout.specs.Parts.{part_read, parts_read, layout_read, fu
 
 use crate::TimeFault;
 use crate::atoms::{
-    Reading, read_fraction, read_name, read_number, read_optional_fraction, read_padded_day,
-    read_zone, stands,
+    Reading, read_fixed_fraction, read_fraction, read_fraction_point, read_full_name, read_name,
+    read_number, read_optional_fraction, read_padded_day, read_signed, read_unpadded, read_zone,
+    read_zone_name, stands,
 };
 use crate::names::{meridiems, weekdays};
-use case_table::months;
+use case_table::{day_names, month_names, months};
 
 /// Whether hours and minutes of a zone have a colon between them.
 #[derive(Clone, Copy, Debug, PartialEq, Eq)]
 pub enum Colon {
     Optional,
     Required,
+    /// They never have.
+    Missing,
+}
+
+impl Colon {
+    ghost use Rattle.time_layout.specs.Parts.{may_stand};
+
+    /// Whether one may stand there.
+    pub(crate) fn may_stand(self) -> bool
+        ensures { result ≡ may_stand self }
+    {
+        match self {
+            Colon::Optional | Colon::Required => true,
+            Colon::Missing => false,
+        }
+    }
 }
 
 /// What stands in a text at a place.
@@ -43,7 +60,26 @@ pub enum Part {
     Fraction,
     /// Nothing, or a point and one to this many digits.
     PointFraction(u8),
+    /// `Z`, or a sign with hours and minutes.
     Zone(Colon),
+    /// A month of which a first digit 0 may be missing.
+    UnpaddedMonth,
+    /// The whole name.
+    FullMonthName,
+    /// A day of which a first digit 0 may be missing.
+    UnpaddedDay,
+    /// A whole name that says nothing.
+    FullWeekdayName,
+    /// As `TwelveHour`, and a first digit 0 may be missing.
+    UnpaddedTwelveHour,
+    /// A point and this many digits, nine at most.
+    FixedFraction(u8),
+    /// A point, before which there may be another with one to nine digits of a second's fraction.
+    FractionPoint,
+    /// A sign with hours and minutes.
+    Offset(Colon),
+    /// `UTC` or `GMT`.
+    ZoneName,
 }
 
 /// By which clock the hour is counted.
@@ -142,6 +178,23 @@ fn read_part(part: Part, text: &[u8], at: usize, said: Said) -> Reading<Said>
         Part::PointFraction(most) =>
             say!(said, read_optional_fraction(most, text, at), value => nanosecond: value),
         Part::Zone(colon) => say!(said, read_zone(colon, text, at), value => offset: value),
+        Part::UnpaddedMonth =>
+            say!(said, read_unpadded(12, text, at), value => month: value as u16),
+        Part::FullMonthName =>
+            say!(said, read_full_name(&month_names(), text, at), value => month: value),
+        Part::UnpaddedDay => say!(said, read_unpadded(31, text, at), value => day: value as u8),
+        Part::FullWeekdayName => {
+            let (_, next) = read_full_name(&day_names(), text, at)?;
+            Ok((said, next))
+        }
+        Part::UnpaddedTwelveHour =>
+            say!(said, read_unpadded(12, text, at), value => hour: value as u8),
+        Part::FixedFraction(digits) =>
+            say!(said, read_fixed_fraction(digits.min(9), text, at), value => nanosecond: value),
+        Part::FractionPoint =>
+            say!(said, read_fraction_point(text, at), value => nanosecond: value),
+        Part::Offset(colon) => say!(said, read_signed(colon, text, at), value => offset: value),
+        Part::ZoneName => say!(said, read_zone_name(text, at), value => offset: value),
     }
 }
 

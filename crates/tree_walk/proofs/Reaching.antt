@@ -77,7 +77,7 @@ starts_at glob path leads utf8 matches =
       deep = ap depth (on.is ∙ same_folder path on.count) ∙ depth_front path (proper_path glob path matches) on.count (omega arith);
     }
 
-start_met : (include : List Pattern) (starts : List (List ℕ)) (folder : List ℕ) → starts ≡ map start include → Contains starts folder → IsStart include folder
+pub start_met : (include : List Pattern) (starts : List (List ℕ)) (folder : List ℕ) → starts ≡ map start include → Contains starts folder → IsStart include folder
 start_met include starts folder same c =
     let found = mapped start include folder (subst (λ (s : List (List ℕ)). Contains s folder) same c) in found_any (λ (glob : Pattern). folder ≡ start glob) include found.one found.there found.holds
 

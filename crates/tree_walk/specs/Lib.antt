@@ -3,6 +3,8 @@ pub mod Depth
 pub mod Entered
 pub mod Finished
 pub mod Gained
+pub mod ListsOnce
+pub mod ListsSome
 pub mod Starts
 pub mod Reached
 pub mod Times

@@ -1,7 +1,12 @@
 // Listing the folders of one depth.
-ghost use Rattle.std.specs.Prelude.{◌≡◌, OnOk};
+ghost use Rattle.std.specs.List.{IsDistinct};
+ghost use Rattle.std.specs.Prelude.{◌≡◌, ◌⊎◌, Contains, OnOk};
+ghost use Rattle.std.specs.Str.{bytes_eq};
+ghost use Rattle.outside.specs.World.{Told};
 ghost use Rattle.tree_walk.specs.Calls.{Lasts};
+ghost use Rattle.tree_walk.specs.Depth.{level_of};
 ghost use Rattle.tree_walk.specs.Entered.{Enters, EntersLevel};
+ghost use Rattle.tree_walk.specs.ListsSome.{ListsSome};
 
 use crate::findings::Findings;
 use crate::folder::list_folder;
@@ -24,6 +29,8 @@ pub(crate) fn list_level<T: Tree>(
 ) -> Result<(), AllocError>
     ensures ok { OnOk result (EntersLevel T.meaning globs.now.include.now globs.now.exclude.now starts.now level found.old found.new tree.old tree.new) }
     ensures lasts { Lasts T.meaning tree.old tree.new }
+    ensures lists { Told (ListsSome (λ folder. Contains found.old.folders.items folder ⊎ (Contains starts.now folder × (level_of folder ≡ level))))
+        ((T.meaning).listed tree.old) ((T.meaning).listed tree.new) }
 {
     add_starts(starts, level, &mut found.folders)?;
     let folders = sorted(mem::replace(&mut found.folders, Vec::new(alloc)))?;
@@ -39,6 +46,8 @@ fn list_folders<T: Tree>(
 ) -> Result<(), AllocError>
     ensures ok { OnOk result (Enters T.meaning globs.now.include.now globs.now.exclude.now folders.now found.old found.new tree.old tree.new) }
     ensures lasts { Lasts T.meaning tree.old tree.new }
+    ensures lists { IsDistinct bytes_eq folders.now
+        → Told (ListsSome (Contains folders.now)) ((T.meaning).listed tree.old) ((T.meaning).listed tree.new) }
 {
     for folder in folders {
         list_folder(alloc, tree, globs, folder.as_str(), found)?;

@@ -2,6 +2,7 @@
 ghost use Rattle.std.specs.Prelude.{IfOk};
 ghost use Rattle.tree_walk.specs.Calls.{Lasts};
 ghost use Rattle.tree_walk.specs.Finished.{IsFinished};
+ghost use Rattle.tree_walk.specs.ListsOnce.{ListsOnce};
 ghost use Rattle.tree_walk.specs.Walked.{Finds};
 
 use crate::findings::Findings;
@@ -42,6 +43,7 @@ pub fn paths<T: Tree>(
 ) -> Result<Walk, AllocError>
     ensures ok { IfOk result (λ walk. Finds T.meaning include.now exclude.now walk tree.old tree.new) }
     ensures lasts { Lasts T.meaning tree.old tree.new }
+    ensures lists { ListsOnce T.meaning include.now tree.old tree.new }
 {
     let globs = Globs { include, exclude };
     let starts = starts(alloc, include)?;

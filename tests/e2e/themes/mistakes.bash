@@ -33,7 +33,7 @@ check_json() { answered json 16; }
 
 check_keys() { answered keys 24; }
 
-check_texts() { answered texts 31; }
+check_texts() { answered texts 32; }
 
 check_files() { answered files 11; }
 

@@ -3,7 +3,7 @@ ghost use Rattle.std.specs.Prelude.{◌≡◌, ◌≤◌, ◌<◌, ◌+◌, [], 
 ghost use Rattle.outside.specs.Closing.{Closes};
 ghost use Rattle.outside.specs.Count.{HasCause, HasOneCause};
 ghost use Rattle.outside.specs.Lawful.{may_come};
-ghost use Rattle.outside.specs.Listing.{Lists, nameless_after};
+ghost use Rattle.outside.specs.Listing.{Lists, listed_after, nameless_after};
 ghost use Rattle.outside.specs.Opening.{Opens, IsSize};
 ghost use Rattle.outside.specs.Reading.{Reads, file_of, taken_after, widest_after};
 ghost use Rattle.outside.specs.World.{Told, look, has_name, names};
@@ -25,7 +25,7 @@ impl MemTree {
 
     // Begins a call, and answers whether it is to fail.
     fn begin(&mut self) -> bool
-        ensures stays { Stays [] false (state_of self.old) (state_of self.new) }
+        ensures stays { Stays [] false [] (state_of self.old) (state_of self.new) }
         ensures fails { result ≡ is_to_fail (state_of self.old) }
         ensures next { self.new.next ≡ self.old.next }
         ensures handles { self.new.handles ≡ self.old.handles }
@@ -48,6 +48,7 @@ impl MemTree {
         ensures err { OnErr result (state_of self.new ≡ state_of self.old) }
         ensures next { self.new.next ≡ self.old.next }
         ensures handles { self.new.handles ≡ self.old.handles }
+        ensures listed { self.new.listed ≡ self.old.listed }
         ensures failures { self.new.failures ≡ self.old.failures }
     {
         self.planned.observe(seen)
@@ -56,7 +57,15 @@ impl MemTree {
     fn list_now(&mut self, alloc: Global, folder: &str) -> Result<Listed, CallFault>
         ensures { ListCalls folder.now result (state_of self.old) (state_of self.new) }
     {
-        if self.begin() {
+        let fails = self.begin();
+        // Room comes first, so that each folder that was listed is told.
+        let Ok(name) = Text::from_str(alloc, folder) else {
+            return Err(CallFault::Memory);
+        };
+        if self.listed.reserve(1).is_err() {
+            return Err(CallFault::Memory);
+        }
+        if fails {
             let Ok(folder) = Text::from_str(alloc, folder) else {
                 return Err(CallFault::Memory);
             };
@@ -64,16 +73,19 @@ impl MemTree {
                 return Err(CallFault::Memory);
             }
             self.failures.raise();
+            self.listed.push_front_reserved(name);
             return Err(CallFault::Failed);
         }
         let world = self.planned.world();
         if !world.is_folder(folder) {
+            self.listed.push_front_reserved(name);
             return Ok(Listed::Gone);
         }
-        match world.list(alloc, folder) {
-            Ok(items) => Ok(Listed::Items { items, unnamed: 0 }),
-            Err(_) => Err(CallFault::Memory),
-        }
+        let Ok(items) = world.list(alloc, folder) else {
+            return Err(CallFault::Memory);
+        };
+        self.listed.push_front_reserved(name);
+        Ok(Listed::Items { items, unnamed: 0 })
     }
 
     fn open_now(&mut self, alloc: Global, path: &str) -> Result<Opened, CallFault>
@@ -161,6 +173,7 @@ impl Tree for MemTree {
         ensures nameless { (tree_meaning).nameless self.new ≡ nameless_after result ((tree_meaning).nameless self.old) }
         ensures taken { (state_of self.new).taken ≡ (state_of self.old).taken }
         ensures widest { Some (state_of self.new).widest ≡ Some (state_of self.old).widest }
+        ensures listed { Some (state_of self.new).listed ≡ listed_after folder.now result (Some (state_of self.old).listed) }
         ensures plan { told_plan (state_of self.new) ≡ told_plan (state_of self.old) }
         ensures bound { Some (bound_of (state_of self.new)) ≡ Some (bound_of (state_of self.old)) }
         ensures calls { ListCalls folder.now result (state_of self.old) (state_of self.new) }
@@ -175,6 +188,7 @@ impl Tree for MemTree {
         ensures nameless { (tree_meaning).nameless self.new ≡ (tree_meaning).nameless self.old }
         ensures taken { (state_of self.new).taken ≡ (state_of self.old).taken }
         ensures widest { Some (state_of self.new).widest ≡ Some (state_of self.old).widest }
+        ensures listed { Some (state_of self.new).listed ≡ Some (state_of self.old).listed }
         ensures plan { told_plan (state_of self.new) ≡ told_plan (state_of self.old) }
         ensures bound { Some (bound_of (state_of self.new)) ≡ Some (bound_of (state_of self.old)) }
         ensures calls { OpenFileCalls path.now result (state_of self.old) (state_of self.new) }
@@ -189,6 +203,7 @@ impl Tree for MemTree {
         ensures nameless { (tree_meaning).nameless self.new ≡ (tree_meaning).nameless self.old }
         ensures taken { (state_of self.new).taken ≡ taken_after result (state_of self.old).taken }
         ensures widest { Some (state_of self.new).widest ≡ widest_after (length buf.new) (Some (state_of self.old).widest) }
+        ensures listed { Some (state_of self.new).listed ≡ Some (state_of self.old).listed }
         ensures plan { told_plan (state_of self.new) ≡ told_plan (state_of self.old) }
         ensures bound { Some (bound_of (state_of self.new)) ≡ Some (bound_of (state_of self.old)) }
         ensures calls { ReadAtCalls handle.0 offset buf.new result (state_of self.old) (state_of self.new) }
@@ -202,6 +217,7 @@ impl Tree for MemTree {
         ensures nameless { (tree_meaning).nameless self.new ≡ (tree_meaning).nameless self.old }
         ensures taken { (state_of self.new).taken ≡ (state_of self.old).taken }
         ensures widest { Some (state_of self.new).widest ≡ Some (state_of self.old).widest }
+        ensures listed { Some (state_of self.new).listed ≡ Some (state_of self.old).listed }
         ensures plan { told_plan (state_of self.new) ≡ told_plan (state_of self.old) }
         ensures bound { Some (bound_of (state_of self.new)) ≡ Some (bound_of (state_of self.old)) }
         ensures calls { CloseCalls handle.0 (state_of self.old) (state_of self.new) }

@@ -17,7 +17,9 @@ pub(crate) fn compile(alloc: Global, text: &Text) -> Result<Flatten, OpCause>
 {
     let field = path(alloc, text)?;
     if field.is_root() {
-        return Err(OpCause::Path);
+        return Err(OpCause::Path {
+            at: text.as_str().len(),
+        });
     }
     Ok(Flatten::new(field))
 }

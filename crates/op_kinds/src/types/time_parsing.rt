@@ -2,7 +2,7 @@
 ghost use Rattle.std.specs.Prelude.{◌≡◌, [], ◌∷◌, IfOk};
 ghost use Rattle.op_kinds.specs.ParserView.{stamp_of};
 ghost use Rattle.op_kinds.specs.Parsers as parsers;
-ghost use Rattle.op_kinds.specs.Parsers.{IsLayout, IsStampOf, IsTimeKind};
+ghost use Rattle.op_kinds.specs.Parsers.{IsLayout, IsGoLayout, IsStampOf, IsTimeKind};
 ghost use Rattle.op_kinds.specs.Readings as readings;
 ghost use Rattle.op_kinds.specs.Readings.{Answers, layout_reading};
 ghost use Rattle.time_severity.specs.declared.time_op.TimeKind.TheVariants as time;
@@ -34,9 +34,13 @@ fn time_kind(alloc: Global, spec: &TimeSpec) -> Result<TimeKind, OpCause>
             Ok(layout) => Ok(TimeKind::Layout(layout)),
             Err(cause) => Err(cause),
         },
+        LayoutType::Gotime => match go_layout(alloc, &spec.layout, spec.location) {
+            Ok(layout) => Ok(TimeKind::Layout(layout)),
+            Err(cause) => Err(cause),
+        },
         LayoutType::Epoch => match count_named(spec.layout.as_str()) {
             Some(kind) => Ok(TimeKind::Epoch(kind)),
-            None => Err(OpCause::Layout),
+            None => Err(OpCause::Layout { at: 0 }),
         },
     }
 }
@@ -46,6 +50,16 @@ fn layout(alloc: Global, text: &Text, location: i32) -> Result<Layout, OpCause>
     ensures answers { Answers (readings.layout text.now ∷ []) result }
 {
     match Layout::read(alloc, text.as_str(), location) {
+        Ok(layout) => Ok(layout),
+        Err(fault) => Err(OpCause::from(fault)),
+    }
+}
+
+fn go_layout(alloc: Global, text: &Text, location: i32) -> Result<Layout, OpCause>
+    ensures ok { IfOk result (IsGoLayout text.now location) }
+    ensures answers { Answers (readings.go_layout text.now ∷ []) result }
+{
+    match Layout::read_go(alloc, text.as_str(), location) {
         Ok(layout) => Ok(layout),
         Err(fault) => Err(OpCause::from(fault)),
     }

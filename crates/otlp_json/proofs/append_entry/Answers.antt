@@ -8,5 +8,5 @@ pub returns-clause-ok : goal.returns-clause-ok
 unfolding entry_text
 returns-clause-ok c =
     let last = c.append_record_members in
-    last_appended last.result c.extend_from_slice-2.new.self.items last.new.out.items (record_members (log_record c.args.entry.now)) _ last.ensures.ok
+    last_appended last.result c.extend_from_slice-2.new.self.items last.new.out.items (record_members c.args.observed (log_record c.args.entry.now)) _ last.ensures.ok
     (rw (c.in_ok-extend_from_slice-2.ensures.items, c.in_ok-append_attributes.ensures.ok, c.in_ok-extend_from_slice.ensures.items) (simp append_assoc))

@@ -1,4 +1,4 @@
-use Rattle.std.proofs.Common.{◌≡◌, ◌∙◌, ap, sym}
+use Rattle.std.proofs.Common.{◌∙◌, ap, sym}
 use Rattle.entry_model.specs.Datum.{Datum, text, fields}
 use Rattle.entry_model.specs.declared.value.Value.TheVariants.{Text}
 use Rattle.entry_model.proofs.Data.{datum_map, datum_text}

@@ -1,4 +1,4 @@
-use Rattle.std.proofs.Common.{◌≡◌, ◌++◌, ℕ, List, take, ap, sym, subst, ◌∙◌, arith}
+use Rattle.std.proofs.Common.{◌++◌, ℕ, List, take, ap, sym, subst, ◌∙◌, arith}
 use Rattle.std.proofs.lemmas.List.{flat_map_more, take_all}
 use Rattle.op_kinds.specs.Kept.{Kept}
 use Rattle.op_kinds.specs.States.{kept_spelling, states_spelling, HaveSpellings}

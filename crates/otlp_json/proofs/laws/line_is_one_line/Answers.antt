@@ -5,7 +5,7 @@ use Rattle.otlp_json.proofs.laws.line_is_one_line.Goals as goal
 
 pub returns-clause-parts : goal.returns-clause-parts
 unfolding output_line
-returns-clause-parts c = λ id number entry. refl
+returns-clause-parts c = λ id number observed entry. refl
 
 pub returns-clause-one : goal.returns-clause-one
 returns-clause-one c = one_line

@@ -1,46 +1,10 @@
-use Rattle.std.proofs.Common.{◌+◌, drop, refl, subst, ◌∙◌, arith, length-drop}
-use Rattle.std.proofs.lemmas.List.{take_rest, drop-drop}
 use Rattle.pipeline.specs.Parts.{settings_of, network}
-use Rattle.pipeline.proofs.Feeding.{GraphLaws, LineLaws, FeedsOn, feeds_from_start, feeds_token, feeds_all, goes_on}
+use Rattle.pipeline.proofs.Feeding.{GraphLaws, goes_on}
+use Rattle.pipeline.proofs.Texts.{on_ok}
 use Rattle.pipeline.proofs.Pipeline.feed.Goals as goal
 
-pub loop-buffers-init : goal.loop-buffers-init
-loop-buffers-init c =
-    let graph : GraphLaws (network c.args.self.now) = record { begin = c.begin.ensures; states = c.go_on.ensures.states; items = c.go_on.ensures.items } in
-    let lines : LineLaws = record { none = c.lines_append.ensures.none; append = c.lines_append.ensures.append } in
-    record {
-      source = c.in_ok-source.ensures;
-      within = omega arith;
-      feeds = feeds_from_start (settings_of c.args.self.now) (network c.args.self.now) c.args.id c.args.path.now graph lines c.args.bytes.now c.args.state.now c.args.out.now.items;
-      records = omega arith;
-      lines = omega arith;
-      kinds = c.requires.states;
-      states = refl;
-      empty = c.new-buffers.ensures;
-    }
-
-pub loop-buffers-preserved : goal.loop-buffers-preserved
-loop-buffers-preserved c =
-    let graph : GraphLaws (network c.args.self.now) = record { begin = c.begin.ensures; states = c.go_on.ensures.states; items = c.go_on.ensures.items } in
-    let lines : LineLaws = record { none = c.lines_append.ensures.none; append = c.lines_append.ensures.append } in
-    let so_far = c.loop-buffers.invariant in
-    let begins = rw (take_rest c.args.bytes.now c.loop-buffers.at) at (rw c.in-Some.is at c.in_ok-token.ensures).begins in
-    let fed = rw (take_rest c.args.bytes.now c.loop-buffers.at) at (c.in_ok-feed_token.ensures.fed c.args.id c.args.path.now so_far.source) in
-    record {
-      source = so_far.source;
-      within = omega (arith, begins.within, length-drop c.loop-buffers.at c.args.bytes.now);
-      feeds = subst (λ rest. FeedsOn (settings_of c.args.self.now) (network c.args.self.now) c.args.id c.args.path.now c.args.bytes.now rest (c.loop-buffers.at + c.in-Some.token.after) c.args.state.now c.feed_token.new.state c.args.out.now.items c.feed_token.new.out.items) (drop-drop c.in-Some.token.after c.loop-buffers.at c.args.bytes.now)
-          (feeds_token (settings_of c.args.self.now) (network c.args.self.now) c.args.id c.args.path.now graph lines c.args.bytes.now c.args.state.now c.args.out.now.items (drop c.loop-buffers.at c.args.bytes.now) c.loop-buffers.at _ c.loop-buffers.state c.feed_token.new.state c.loop-buffers.out.items c.feed_token.new.out.items begins so_far.feeds fed);
-      records = omega (arith, c.in_ok-feed_token.ensures.records, so_far.records, begins.some_used);
-      lines = omega (arith, c.in_ok-feed_token.ensures.lines c.args.id c.args.path.now so_far.source, so_far.lines);
-      kinds = c.in_ok-feed_token.ensures.states;
-      states = c.feed_token.ensures.many ∙ so_far.states;
-      empty = c.in_ok-feed_token.ensures.empty;
-    }
-
 pub returns-clause-goes_on : goal.returns-clause-goes_on
-returns-clause-goes_on c = λ earlier stands.
+returns-clause-goes_on c =
     let graph : GraphLaws (network c.args.self.now) = record { begin = c.begin.ensures; states = c.go_on.ensures.states; items = c.go_on.ensures.items } in
-    let lines : LineLaws = record { none = c.lines_append.ensures.none; append = c.lines_append.ensures.append } in
-    let all = feeds_all (settings_of c.args.self.now) (network c.args.self.now) c.args.id c.args.path.now graph lines c.args.bytes.now c.args.state.now c.args.out.now.items (drop c.loop-buffers.at c.args.bytes.now) c.loop-buffers.at c.loop-buffers.state c.loop-buffers.out.items (rw (take_rest c.args.bytes.now c.loop-buffers.at) at (rw c.in_default.is at c.in_ok-token.ensures)) c.loop-buffers.invariant.feeds in
-    goes_on (settings_of c.args.self.now) (network c.args.self.now) c.args.path.now graph c.args.id earlier _ c.args.state.now c.loop-buffers.state c.args.out.now.items c.loop-buffers.out.items stands all.1
+    on_ok c.feed_by.result _ _ c.feed_by.ensures.fed (λ fed. λ earlier stands.
+    goes_on (settings_of c.args.self.now) (network c.args.self.now) c.args.path.now graph c.args.id earlier _ c.args.state.now c.feed_by.new.state c.args.out.now.items c.feed_by.new.out.items stands fed)

@@ -1,4 +1,4 @@
-use Rattle.std.specs.Prelude.{string_bytes}
+use Rattle.std.specs.Prelude.{None, string_bytes}
 use Rattle.std.proofs.Common.{◌≡◌, ◌+◌, ◌<◌, [], ◌∷◌, ◌++◌, length, refl, sym, ap, subst, ◌∙◌, arith}
 use Rattle.std.proofs.lemmas.List.{append-nil}
 use Rattle.graph_core.specs.Traces.{inputs, Served}
@@ -17,7 +17,7 @@ returns-in_default-clause-fed c = λ id path shared.
       served = subst (λ records. Served (network c.args.self.now) c.args.state.now.states.items [] (inputs (network c.args.self.now) records) c.args.state.now.states.items []) (sym none) (c.begin.ensures c.args.state.now.states.items []);
       records = refl;
       lines = omega arith;
-      written = sym (append-nil c.args.out.now.items) ∙ ap (λ t. c.args.out.now.items ++ t) (sym (c.lines_append.ensures.none id (c.args.state.now.lines + 1)));
+      written = sym (append-nil c.args.out.now.items) ∙ ap (λ t. c.args.out.now.items ++ t) (sym (c.lines_append.ensures.none id (c.args.state.now.lines + 1) None));
     }
 
 pub returns-clause-fed : goal.returns-clause-fed
@@ -31,7 +31,7 @@ returns-clause-fed c = λ id path shared.
     let record_of_it = record_with settings path (records + 1) (text_of settings c.args.token.now) in
     let item : c.in_ok-item.item ≡ record_of_it = c.in_ok-item.ensures.item ∙ entry in
     let pushed : Served net c.args.state.now.states.items [] (inputs net (c.in_ok-item.item ∷ [])) c.push_by.new.states.items c.push_by.new.out.items = rw c.next.ensures.made at c.in_ok-push_by.ensures.served in
-    let written : c.append_lines.new.out.items ≡ c.args.out.now.items ++ output_lines id (c.args.state.now.lines + 1) c.push_by.new.out.items = rw (c.deref.ensures.value, shared.scope) at c.in_ok-append_lines.ensures.written in
+    let written : c.append_lines.new.out.items ≡ c.args.out.now.items ++ output_lines id (c.args.state.now.lines + 1) None c.push_by.new.out.items = rw (c.deref.ensures.value, shared.scope) at c.in_ok-append_lines.ensures.written in
     let lines : c.append_lines.new.lines ≡ c.args.state.now.lines + length c.push_by.new.out.items = rw c.deref.ensures.value at c.in_ok-append_lines.ensures.lines in
     one_fed settings net id path c.args.token.now record_of_it c.push_by.new.out.items _ _ _ _
     (record_one settings path records c.args.token.now some)

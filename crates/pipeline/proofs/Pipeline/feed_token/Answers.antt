@@ -1,4 +1,3 @@
-use Rattle.std.proofs.Common.{◌≡◌}
 use Rattle.pipeline.proofs.Texts.{on_ok}
 use Rattle.pipeline.proofs.Pipeline.feed_token.Goals as goal
 

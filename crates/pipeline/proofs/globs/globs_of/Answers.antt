@@ -1,7 +1,10 @@
-use Rattle.std.proofs.Common.{◌∷◌, [], ap, length, length-append, arith, refl}
+use Rattle.std.proofs.Common.{◌∷◌, [], ap, subst, sym, length, length-append, arith, refl}
+use Rattle.std.specs.Str.{chars}
+use Rattle.glob_match.specs.GlobFaults.{IsReadFault}
+use Rattle.glob_match.specs.declared.glob.GlobFault.TheVariants.{Syntax}
 use Rattle.pipeline.specs.Globs.{IsPatternOf}
 use Rattle.pipeline.proofs.Building.{spec_at, one_more_pair}
-use Rattle.pipeline.proofs.GlobsRead.{read_before, no_pattern}
+use Rattle.pipeline.proofs.GlobsRead.{read_before, told_fault}
 use Rattle.pipeline.proofs.globs.globs_of.Goals as goal
 
 pub returns-in-Err-Syntax-clause-fault : goal.returns-in-Err-Syntax-clause-fault
@@ -12,7 +15,8 @@ returns-in-Err-Syntax-clause-fault c =
       record {
         text = text;
         there = spec_at texts c.loop-place.place text c.loop-place-test.true c.index-texts-place.is;
-        no_glob = no_pattern text c.as_str.result.now c.in-Err-Syntax.field-0 c.in-Err-Syntax.field-0-0 c.as_str.ensures c.in-Err-Syntax.field-0-is c.in-Err-Syntax.ensures.fault;
+        wrong = subst (λ at. IsReadFault (chars text) (Syntax at)) (sym c.in-Err-Syntax.at-is)
+            (told_fault text c.as_str.result.now c.in-Err-Syntax.field-0 c.in-Err-Syntax.at c.as_str.ensures c.in-Err-Syntax.field-0-is c.in-Err-Syntax.ensures.fault);
         before = read_before texts c.loop-place.globs.items c.loop-place.place c.loop-place.invariant.many c.loop-place.invariant.each;
       },
     )

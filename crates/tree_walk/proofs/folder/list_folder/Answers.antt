@@ -2,6 +2,7 @@ use Rattle.std.proofs.Common.{refl, arith}
 use Rattle.std.proofs.lemmas.Result.{on_ok_weaker}
 use Rattle.tree_walk.proofs.Entering.{enters_items, enters_gone, enters_failed}
 use Rattle.tree_walk.proofs.Lasting.{lasts_list}
+use Rattle.tree_walk.proofs.Once.{told_one}
 use Rattle.tree_walk.specs.declared.findings.Findings.{Findings}
 use Rattle.tree_walk.proofs.folder.list_folder.Goals as goal
 
@@ -40,3 +41,15 @@ returns-in-Err-Failed-clause-ok g c =
 pub returns-in-Err-Failed-clause-lasts : goal.returns-in-Err-Failed-clause-lasts
 returns-in-Err-Failed-clause-lasts g c =
     lasts_list g.T.Tree.meaning c.args.folder.now c.list.result c.args.tree.now c.list.new.self c.list.ensures.history c.list.ensures.cause c.list.ensures.nameless c.list.ensures.taken c.list.ensures.widest c.list.ensures.plan c.list.ensures.bound
+
+pub returns-in-Ok-Items-clause-lists : goal.returns-in-Ok-Items-clause-lists
+returns-in-Ok-Items-clause-lists g c = told_one c.args.folder.now c.list.result (g.T.Tree.meaning.listed c.args.tree.now) (g.T.Tree.meaning.listed c.list.new.self) c.list.ensures.listed
+
+pub returns-in-Ok-Gone-clause-lists : goal.returns-in-Ok-Gone-clause-lists
+returns-in-Ok-Gone-clause-lists g c = told_one c.args.folder.now c.list.result (g.T.Tree.meaning.listed c.args.tree.now) (g.T.Tree.meaning.listed c.list.new.self) c.list.ensures.listed
+
+pub returns-in-Err-Failed-clause-lists : goal.returns-in-Err-Failed-clause-lists
+returns-in-Err-Failed-clause-lists g c = told_one c.args.folder.now c.list.result (g.T.Tree.meaning.listed c.args.tree.now) (g.T.Tree.meaning.listed c.list.new.self) c.list.ensures.listed
+
+pub returns-in-Err-Memory-clause-lists : goal.returns-in-Err-Memory-clause-lists
+returns-in-Err-Memory-clause-lists g c = told_one c.args.folder.now c.list.result (g.T.Tree.meaning.listed c.args.tree.now) (g.T.Tree.meaning.listed c.list.new.self) c.list.ensures.listed

@@ -10,4 +10,4 @@ returns-in_err-field-clause-cause c =
 
 pub returns-then-is_root-clause-cause : goal.returns-then-is_root-clause-cause
 returns-then-is_root-clause-cause c =
-    no_member_at_a_root c.args.text.now c.in_ok-field.field c.in_ok-field.ensures.ok (search rules)
+    rw c.as_str.ensures (no_member_at_a_root c.args.text.now c.in_ok-field.field c.in_ok-field.ensures.ok (search rules))

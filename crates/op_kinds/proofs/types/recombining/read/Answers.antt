@@ -13,7 +13,8 @@ returns-in_err-field-clause-cause c =
 pub returns-in_err-source-clause-cause : goal.returns-in_err-source-clause-cause
 returns-in_err-source-clause-cause c =
     let p = err_from_is_err_and c.from_residual-in_err-source.result c.from_residual-in_err-source.ensures.1 in
-    rw (p.1, p.2) (source_cause c.args.field.now c.args.mark.now c.args.source.now _ c.in_err-source.ensures.cause)
+    rw (p.1, p.2) (source_cause c.args.field.now c.args.mark.now c.args.source.now _
+    (one_is_read (path c.args.field.now) (λ none. none c.in_ok-field.field c.in_ok-field.ensures.ok)) c.in_err-source.ensures.cause)
 
 pub returns-in_err-mark-clause-cause : goal.returns-in_err-mark-clause-cause
 returns-in_err-mark-clause-cause c =

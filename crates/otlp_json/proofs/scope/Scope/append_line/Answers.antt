@@ -10,4 +10,4 @@ returns-clause-ok c =
     let last = c.append_end in
     let shared : c.deref.result.now ≡ scope_text c.args.self.now = c.deref.ensures.value ∙ c.self.invariant ∙ ap scope_text c.self.view_is in
     last_appended last.result c.extend_from_slice.new.self.items last.new.out.items (end_text c.args.number) _ last.ensures.ok
-    (rw (c.in_ok-extend_from_slice.ensures.items, shared, c.in_ok-append_entry.ensures.ok) (line_appended c.args.out.now.items c.args.self.now c.args.number (log_record c.args.entry.now)))
+    (rw (c.in_ok-extend_from_slice.ensures.items, shared, c.in_ok-append_entry.ensures.ok) (line_appended c.args.out.now.items c.args.self.now c.args.number c.args.observed (log_record c.args.entry.now)))

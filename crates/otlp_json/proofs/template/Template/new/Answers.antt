@@ -13,9 +13,9 @@ returns c =
     let behind = c.in_ok-behind.behind.items in
     let begun : c.extend_from_slice-2.new.self.items ≡ codes "{\"resourceLogs\":[{\"resource\":{\"attributes\":" ++ attributes_text (members_seen c.args.resource.now.entries) ++ codes "},\"scopeLogs\":[{\"logRecords\":[{\"attributes\":[" =
     rw (c.in_ok-extend_from_slice-2.ensures.items, c.in_ok-append_fields.ensures.ok, c.in_ok-extend_from_slice.ensures.items, c.new-front.ensures.items) refl in
-    filled_in c.args.id (members_seen c.args.resource.now.entries) attributes c.args.number _
+    filled_in c.args.id c.args.observed (members_seen c.args.resource.now.entries) attributes c.args.number _
     (λ n.
     ap (λ has. front ++ number_text has behind n) c.is_some-numbered.ensures
     ∙ c.in_ok-behind.ensures n
     ∙ ap (λ bytes. bytes ++ members_text [] (numbered c.args.number n attributes) ++ codes "],\"body\":{\"stringValue\":\"") begun)
-    (rw (c.in_ok-append_scope.ensures.ok, c.in_ok-extend_from_slice-3.ensures.items, c.new-back.ensures.items) refl)
+    (rw (c.in_ok-append_scope.ensures.ok, c.in_ok-append_nanoseconds.ensures.ok, c.in_ok-extend_from_slice-3.ensures.items, c.new-back.ensures.items) refl)

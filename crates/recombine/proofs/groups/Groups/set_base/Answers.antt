@@ -2,7 +2,7 @@ use Rattle.std.proofs.Common.{◌∷◌, [], string_bytes, ap, sym, subst, refl}
 use Rattle.entry_model.specs.Lawful.{NestsWithin}
 use Rattle.entry_model.specs.LogRecord.{log_record}
 use Rattle.entry_model.specs.declared.entry.Entry.{Entry}
-use Rattle.state_codec.specs.declared.TheConstants.{LEVELS}
+use Rattle.state_codec.specs.Limits.{levels}
 use Rattle.recombine.specs.Table.{with_base}
 use Rattle.recombine.proofs.TableLemmas.{table_put, changes_put, seen_range, seen_changes}
 use Rattle.recombine.proofs.groups.Groups.set_base.Goals as goal
@@ -12,7 +12,7 @@ invariant_of-self c =
     let g = c.index_mut-group.result.now in
     table_put c.self.inside.in_order.items c.self.inside.bytes c.self.inside.bytes c.args.place g (record g { base = c.replace.new.dest }) c.self.invariant
     (seen_range c.self.inside.in_order.items c.args.self.now c.args.place c.self.view_is c.requires.in_range) c.index_mut-group.ensures.value refl
-    (λ o. record { some = o.some; most = o.most; shallow = subst (λ (e : Entry). NestsWithin LEVELS (log_record e)) (sym c.replace.ensures.after) c.requires.shallow }) refl
+    (λ o. record { some = o.some; most = o.most; shallow = subst (λ (e : Entry). NestsWithin levels (log_record e)) (sym c.replace.ensures.after) c.requires.shallow }) refl
 
 pub returns : goal.returns
 returns c =
