@@ -1,6 +1,5 @@
 -- What the status of a demonstration tells, and what want of memory is for each command.
 use Rattle.std.proofs.Common.{◌≡◌, ℕ, List, Option, refl, arith, inl, inr}
-use Rattle.command_words.specs.Answers.{IsNoCommand}
 use Rattle.agent_commands.specs.DemoEnds.{DemoEnds, failed, no_memory, tells, unplayed}
 use Rattle.agent_commands.specs.Status.{IsStatus}
 use Rattle.agent_commands.specs.Words.{IsWordsFault}

@@ -31,7 +31,7 @@ use Rattle.standing.specs.Rules.{Includes, Rules}
 use Rattle.standing.specs.Stands.{Stands}
 use Rattle.standing.specs.Sums.{IsReached}
 use Rattle.agent_commands.specs.Headline.{HoldsAll, KeepsFrom, KeepsStanding, StoodSince}
-use Rattle.agent_commands.specs.Moment.{Moment, Meanings, meanings, moment}
+use Rattle.agent_commands.specs.Moment.{Moment, Meanings, moment}
 use Rattle.agent_commands.specs.Opens.{Opens}
 
 -- all sessions of one text poll by the same rules

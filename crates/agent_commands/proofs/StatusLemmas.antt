@@ -19,6 +19,8 @@ use Rattle.agent_commands.specs.Moment.{Moment, Meanings, moment}
 use Rattle.agent_commands.specs.Once as once
 use Rattle.agent_commands.specs.Once.{IsNotOpened, OnceEnds}
 use Rattle.agent_commands.specs.Opens.{IsOpeningFault}
+use Rattle.agent_commands.specs.Pipe as pipe
+use Rattle.agent_commands.specs.Pipe.{IsPipelineFault, PipeEnds}
 use Rattle.agent_commands.specs.Status.{IsStatus, status_of}
 use Rattle.agent_commands.specs.Turn.{IsPollFault, IsTurnStatus, Stops}
 use Rattle.agent_commands.specs.declared.control.Request.{Request}
@@ -154,6 +156,21 @@ reading_status images disk (ControlLine _) cause = absurd cause
 reading_status images disk Worn cause = absurd cause
 reading_status images disk ControlLong cause = absurd cause
 
+pipeline_fault_status : {D : Type 0} (images : Images DiskFile D) (disk : D) (fault : Fault) → IsPipelineFault images disk fault → status_of fault ≡ 2 → ⊥
+pipeline_fault_status images disk (Settings _) cause = λ is. omega (arith, is)
+pipeline_fault_status images disk (Build _) cause = λ is. omega (arith, is)
+pipeline_fault_status images disk Disk cause = λ is. omega (arith, is)
+pipeline_fault_status images disk Memory cause = λ is. omega (arith, is)
+pipeline_fault_status images disk (CheckpointBad _) cause = absurd cause
+pipeline_fault_status images disk (SettingsChanged _) cause = absurd cause
+pipeline_fault_status images disk (OutputShort _ _) cause = absurd cause
+pipeline_fault_status images disk Usage cause = absurd cause
+pipeline_fault_status images disk Control cause = absurd cause
+pipeline_fault_status images disk (OutputFull _) cause = absurd cause
+pipeline_fault_status images disk (ControlLine _) cause = absurd cause
+pipeline_fault_status images disk Worn cause = absurd cause
+pipeline_fault_status images disk ControlLong cause = absurd cause
+
 -- ---- commands
 
 -- the status of a command, which isn't that of faulty words
@@ -224,3 +241,12 @@ committed_status disks reports disk report report_after _ (committed.tells done)
 committed_status disks reports disk report report_after _ (committed.failed done) = untold_status 9 (inl refl)
 committed_status disks reports disk report report_after _ (committed.no_memory done) = untold_status 10 (inr refl)
 committed_status disks reports disk report report_after _ (committed.unread status done) = of_fault status done.fault done.is (λ two. let low = reading_status disks.images disk done.fault done.cause in omega (arith, low, two))
+
+pub pipe_status : {D : Type 0} (disks : DiskMeaning D) (disk : D) (rest rest_after report report_after : Option (List ℕ)) (status : ℕ) → PipeEnds disks disk rest rest_after report report_after status → IsCommandStatus status
+pipe_status disks disk rest rest_after report report_after _ (pipe.whole done) = (inl refl, λ two. omega (arith, two))
+pipe_status disks disk rest rest_after report report_after _ (pipe.control_failed done) = of_fault 8 Control refl (λ two. omega (arith, two))
+pipe_status disks disk rest rest_after report report_after _ (pipe.report_failed done) = untold_status 9 (inl refl)
+pipe_status disks disk rest rest_after report report_after _ (pipe.no_memory done) = untold_status 10 (inr refl)
+pipe_status disks disk rest rest_after report report_after _ (pipe.full size done) = of_fault 11 (OutputFull size) refl (λ two. omega (arith, two))
+pipe_status disks disk rest rest_after report report_after _ (pipe.too_long done) = of_fault 15 ControlLong refl (λ two. omega (arith, two))
+pipe_status disks disk rest rest_after report report_after _ (pipe.not_piped status not) = of_fault status not.fault not.is (pipeline_fault_status disks.images disk not.fault not.cause)

@@ -15,3 +15,4 @@ pub mod Turn
 pub mod Once
 pub mod Follow
 pub mod Committed
+pub mod Pipe

@@ -16,6 +16,7 @@ ghost use Rattle.agent_commands.specs.Grows.{GrowsBy};
 ghost use Rattle.agent_commands.specs.Headline.{KeepsStanding};
 ghost use Rattle.agent_commands.specs.Moment.{meanings, moment};
 ghost use Rattle.agent_commands.specs.Once.{OnceEnds};
+ghost use Rattle.agent_commands.specs.Pipe.{PipeEnds};
 ghost use Rattle.agent_commands.specs.Status.{IsStatus};
 ghost use Rattle.agent_commands.specs.Words.{IsNotRun, IsWordsFault};
 
@@ -24,6 +25,7 @@ use crate::demo::show_demo;
 use crate::fault::Fault;
 use crate::follow::follow;
 use crate::once::once;
+use crate::pipe::pipe;
 use crate::report::refuse;
 use command_words::laws::words_spell_one_command;
 use command_words::{Command, command_of};
@@ -32,7 +34,7 @@ use std::alloc::{AllocError, Global};
 
 /// Runs the command that the words are, and answers the exit status.
 ///
-/// `control` is the input that `follow` serves, and `report` the output for summaries and faults.
+/// `control` is the input that `follow` serves and of which `pipe` prints the lines, and `report` the output for summaries and faults.
 pub fn run_agent<T: Tree, D: Disk, S: Source, K: Sink>(
     alloc: Global,
     words: &[String],
@@ -55,6 +57,11 @@ pub fn run_agent<T: Tree, D: Disk, S: Source, K: Sink>(
     // How much of the output is kept, and nothing is written.
     ensures committed { IsCommand (texts words.now) Command.Committed → CommittedEnds D.meaning K.meaning disk.old report.old report.new result }
     ensures only_read { IsCommand (texts words.now) Command.Committed → OnlyRead D.meaning disk.old disk.new }
+
+    // The lines of the control input, and nothing is written to the disk.
+    ensures pipe { IsCommand (texts words.now) Command.Pipe
+        → PipeEnds D.meaning disk.old (S.meaning.rest control.old) (S.meaning.rest control.new) (K.meaning.written report.old) (K.meaning.written report.new) result }
+    ensures pipe_only_read { IsCommand (texts words.now) Command.Pipe → OnlyRead D.meaning disk.old disk.new }
 
     // A demonstration in memory, in which the disk has no part.
     ensures demo { (rounds : ℕ) → IsCommand (texts words.now) (Command.Demo rounds)
@@ -82,7 +89,7 @@ pub fn run_agent<T: Tree, D: Disk, S: Source, K: Sink>(
     ensures control_taken { Told (TakesAtMost max_control) (S.meaning.rest control.old) (S.meaning.rest control.new) }
 
     // Only what a command is for is touched.
-    ensures control_untouched { (IsCommand (texts words.now) Command.Follow → ⊥) → control.new ≡ control.old }
+    ensures control_untouched { (IsCommand (texts words.now) Command.Follow → ⊥) → (IsCommand (texts words.now) Command.Pipe → ⊥) → control.new ≡ control.old }
     ensures tree_untouched { (IsCommand (texts words.now) Command.Once → ⊥) → (IsCommand (texts words.now) Command.Follow → ⊥) → tree.new ≡ tree.old }
 {
     words_spell_one_command();
@@ -123,6 +130,9 @@ fn run<T: Tree, D: Disk, S: Source, K: Sink>(
         → FollowEnds (meanings T.meaning D.meaning K.meaning) (S.meaning.rest control.old) (S.meaning.rest control.new) (moment tree.old disk.old report.old) (moment tree.new disk.new report.new) result }
     ensures committed { command ≡ Command.Committed → CommittedEnds D.meaning K.meaning disk.old report.old report.new result }
     ensures only_read { command ≡ Command.Committed → OnlyRead D.meaning disk.old disk.new }
+    ensures pipe { command ≡ Command.Pipe
+        → PipeEnds D.meaning disk.old (S.meaning.rest control.old) (S.meaning.rest control.new) (K.meaning.written report.old) (K.meaning.written report.new) result }
+    ensures pipe_only_read { command ≡ Command.Pipe → OnlyRead D.meaning disk.old disk.new }
     ensures demo { (rounds : ℕ) → command ≡ Command.Demo rounds → DemoEnds rounds (K.meaning.written report.old) (K.meaning.written report.new) result }
     ensures demo_untouched { (rounds : ℕ) → command ≡ Command.Demo rounds → disk.new ≡ disk.old }
     ensures standing { Told (KeepsStanding D.meaning.images disk.old disk.new) (T.meaning.world tree.old) (T.meaning.world tree.new) }
@@ -134,13 +144,14 @@ fn run<T: Tree, D: Disk, S: Source, K: Sink>(
     ensures report_stood { result ≡ 0 → K.meaning.faults report.new ≡ K.meaning.faults report.old }
     ensures control_long { result ≡ 15 → Told (TakesExactly max_control) (S.meaning.rest control.old) (S.meaning.rest control.new) }
     ensures control_taken { Told (TakesAtMost max_control) (S.meaning.rest control.old) (S.meaning.rest control.new) }
-    ensures control_untouched { command ≢ Command.Follow → control.new ≡ control.old }
+    ensures control_untouched { command ≢ Command.Follow → command ≢ Command.Pipe → control.new ≡ control.old }
     ensures tree_untouched { command ≢ Command.Once → command ≢ Command.Follow → tree.new ≡ tree.old }
 {
     match command {
         Command::Once => once(alloc, tree, disk, report),
         Command::Follow => follow(alloc, tree, disk, control, report),
         Command::Committed => committed(alloc, disk, report),
+        Command::Pipe => pipe(alloc, disk, control, report),
         Command::Demo(rounds) => show_demo(alloc, rounds, report),
     }
 }

@@ -31,13 +31,13 @@ pub enum Fault {
     Control,
     /// Memory ran out.
     Memory,
-    /// With the next line the output would have this many bytes, more than it may have.
+    /// With the next line the output, or what `pipe` prints, would have this many bytes, more than it may have.
     OutputFull { length: u64 },
     /// The control line with this number, from 1, is no request, or too long.
     ControlLine { number: u64 },
     /// The checkpoint can't be written, since no sequence number follows its last one.
     Worn,
-    /// As many bytes of control lines were taken as may be, and the command hasn't ended.
+    /// As many bytes of the control input were taken as may be, and the command hasn't ended.
     ControlLong,
 }
 

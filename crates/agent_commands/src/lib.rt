@@ -13,6 +13,7 @@ mod fault;
 mod follow;
 mod once;
 mod opening;
+mod pipe;
 mod report;
 mod turn;
 

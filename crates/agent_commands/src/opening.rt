@@ -5,6 +5,7 @@ ghost use Rattle.outside.specs.Crash.{Passes};
 ghost use Rattle.outside.specs.Image.{Same};
 ghost use Rattle.poll_core.specs.Reopens.{Reopens};
 ghost use Rattle.settings_text.specs.Grammar as grammar;
+ghost use Rattle.slot_store.specs.OnlyRead.{OnlyRead};
 ghost use Rattle.agent_commands.specs.Cause.{HasDiskCause};
 ghost use Rattle.agent_commands.specs.Grows.{GrowsBy};
 ghost use Rattle.agent_commands.specs.Opens.{IsOpeningFault, IsRefusal, IsSettingsFault, Opens};
@@ -29,14 +30,12 @@ pub fn open_session<D: Disk>(alloc: Global, disk: &mut D) -> Result<Session, Fau
     Ok(Session::open(alloc, disk, &settings, OUTPUT_LIMIT)?)
 }
 
-// The bytes of the settings file. Where it is longer than settings may be, it isn't read.
-fn read_settings<D: Disk>(alloc: Global, disk: &mut D) -> Result<Vec<u8>, Fault>
+/// The bytes of the settings file. Where it is longer than settings may be, it isn't read.
+pub fn read_settings<D: Disk>(alloc: Global, disk: &mut D) -> Result<Vec<u8>, Fault>
     ensures ok { IfOk result (λ settings. IsTrue (D.meaning.images.tells disk.old) → settings.items ≡ D.meaning.images.seen disk.old DiskFile.Settings) }
     ensures fault { IfErr result (IsSettingsFault D.meaning.images disk.old) }
     ensures cause { HasDiskCause result (D.meaning.faults disk.old) (D.meaning.faults disk.new) }
-    ensures seen { D.meaning.images.seen disk.new ≡ D.meaning.images.seen disk.old }
-    ensures tells { D.meaning.images.tells disk.new ≡ D.meaning.images.tells disk.old }
-    ensures crash { Passes D.meaning.images Same disk.old disk.new }
+    ensures only_read { OnlyRead D.meaning disk.old disk.new }
 {
     let size = disk.length(DiskFile::Settings)?;
     if size > MAX_LENGTH as u64 {
@@ -54,9 +53,7 @@ fn fill<D: Disk>(disk: &mut D, file: DiskFile, buf: &mut [u8]) -> Result<usize, 
     ensures bytes { IfOk result (λ count. IsTrue (D.meaning.images.tells disk.old)
         → take count buf.new ≡ take (length buf.new) (D.meaning.images.seen disk.old file)) }
     ensures cause { HasOneCause result (D.meaning.faults disk.old) (D.meaning.faults disk.new) }
-    ensures seen { D.meaning.images.seen disk.new ≡ D.meaning.images.seen disk.old }
-    ensures tells { D.meaning.images.tells disk.new ≡ D.meaning.images.tells disk.old }
-    ensures crash { Passes D.meaning.images Same disk.old disk.new }
+    ensures only_read { OnlyRead D.meaning disk.old disk.new }
 {
     let mut filled = 0;
     while filled < buf.len() {

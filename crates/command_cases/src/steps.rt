@@ -55,11 +55,19 @@ fn step(
     let (step, rest) = line.split_once(' ').unwrap_or((line, ""));
     match step {
         "control" => world.control = MemSource::new(unescaped(alloc, rest)?, piece),
+        "pieces" => world.control = pieced(alloc, rest)?,
         "run" => tell_run(alloc, told, world, rest)?,
         "output" => tell_output(alloc, told, world)?,
         _ => change(alloc, world, step, rest)?,
     }
     Ok(())
+}
+
+// A control input that is given in pieces of so many bytes.
+fn pieced(alloc: Global, words: &str) -> Result<MemSource, AllocError> {
+    let (piece, text) = words.split_once(' ').unwrap_or((words, ""));
+    let bytes = unescaped(alloc, text)?;
+    Ok(MemSource::new(bytes, small(piece).max(1) as usize))
 }
 
 // A step that prints nothing.

@@ -77,6 +77,10 @@ pub committed_enters : (rest : List Text) → Enters (codes "committed") (plain_
 unfolding walked
 committed_enters rest = enters (codes "committed") (plain_leaf (codes "committed")) rest refl refl refl
 
+pub pipe_enters : (rest : List Text) → Enters (codes "pipe") (plain_leaf (codes "pipe")) rest
+unfolding walked
+pipe_enters rest = enters (codes "pipe") (plain_leaf (codes "pipe")) rest refl refl refl
+
 pub demo_enters : (rest : List Text) → Enters (codes "demo") demo_leaf rest
 unfolding walked
 demo_enters rest = enters (codes "demo") demo_leaf rest refl refl refl

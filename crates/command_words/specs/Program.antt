@@ -20,4 +20,5 @@ abbrev pub program : App
 program = with_subcommand
     (with_subcommand
     (with_subcommand
-    (with_subcommand bare_program (new_shape (codes "once"))) (new_shape (codes "follow"))) (new_shape (codes "committed"))) demo.top
+    (with_subcommand
+    (with_subcommand bare_program (new_shape (codes "once"))) (new_shape (codes "follow"))) (new_shape (codes "committed"))) (new_shape (codes "pipe"))) demo.top

@@ -12,6 +12,8 @@ pub enum Command {
     Follow,
     /// `committed`: tells how much of the output is kept.
     Committed,
+    /// `pipe`: prints the lines of the control input.
+    Pipe,
     /// `demo` and a number: plays so many rounds in memory, from 1 to [`MAX_ROUNDS`].
     Demo(u16),
 }

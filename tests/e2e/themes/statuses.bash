@@ -7,6 +7,7 @@ check_words() {
         run 2 "fault 2 usage$LF" once x &&
         run 2 "fault 2 usage$LF" follow x &&
         run 2 "fault 2 usage$LF" committed x &&
+        run 2 "fault 2 usage$LF" pipe x &&
         run 2 "fault 2 usage$LF" --help &&
         run 2 "fault 2 usage$LF" once -- &&
         run 2 "fault 2 usage$LF" ONCE &&

@@ -1,10 +1,8 @@
-use Rattle.std.proofs.Common.{refl}
-use Rattle.agent_commands.specs.DemoEnds.{DemoEnds}
 use Rattle.agent_commands.specs.Moment.{meanings}
 use Rattle.outside.proofs.Passing.{passes_none}
 use Rattle.agent_commands.proofs.DemoLemmas.{demo_status, demo_not_long}
 use Rattle.agent_commands.proofs.StandLemmas.{same_stands}
-use Rattle.agent_commands.proofs.StatusLemmas.{committed_status, follow_status, once_not_long, once_status}
+use Rattle.agent_commands.proofs.StatusLemmas.{committed_status, follow_status, once_not_long, once_status, pipe_status}
 use Rattle.agent_commands.proofs.agent.run.Goals as goal
 
 -- ---- once
@@ -36,6 +34,17 @@ returns-in-Committed-clause-no_usage g c = (committed_status g.D.Disk.meaning g.
 
 pub returns-in-Committed-clause-standing : goal.returns-in-Committed-clause-standing
 returns-in-Committed-clause-standing g c = same_stands g.D.Disk.meaning.images c.args.disk.now c.committed.new.disk (g.T.Tree.meaning.world c.args.tree.now) (λ from image early left. g.met.D.Disk.counts_now c.args.disk.now from image early left) c.committed.ensures.only_read.crash
+
+-- ---- pipe
+
+pub returns-in-Pipe-clause-answers : goal.returns-in-Pipe-clause-answers
+returns-in-Pipe-clause-answers g c = (pipe_status g.D.Disk.meaning _ _ _ _ _ _ c.pipe.ensures.ends).0
+
+pub returns-in-Pipe-clause-no_usage : goal.returns-in-Pipe-clause-no_usage
+returns-in-Pipe-clause-no_usage g c = (pipe_status g.D.Disk.meaning _ _ _ _ _ _ c.pipe.ensures.ends).1
+
+pub returns-in-Pipe-clause-standing : goal.returns-in-Pipe-clause-standing
+returns-in-Pipe-clause-standing g c = same_stands g.D.Disk.meaning.images c.args.disk.now c.pipe.new.disk (g.T.Tree.meaning.world c.args.tree.now) (λ from image early left. g.met.D.Disk.counts_now c.args.disk.now from image early left) c.pipe.ensures.only_read.crash
 
 -- ---- demo
 

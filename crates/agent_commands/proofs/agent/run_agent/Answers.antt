@@ -1,5 +1,5 @@
-use Rattle.std.proofs.Common.{◌∙◌, ap, arith, inl, inr, refl, subst, sym}
-use Rattle.command_words.specs.declared.command.Command.TheVariants.{Once, Follow, Committed, Demo}
+use Rattle.std.proofs.Common.{◌∙◌, ap, arith, refl}
+use Rattle.command_words.specs.declared.command.Command.TheVariants.{Once, Follow, Committed, Pipe, Demo}
 use Rattle.outside.proofs.Passing.{passes_none, passes_weaker}
 use Rattle.agent_commands.proofs.DemoLemmas.{wants_memory}
 use Rattle.agent_commands.proofs.GrowLemmas.{grows_more, grows_same}
@@ -8,7 +8,8 @@ use Rattle.agent_commands.specs.Committed.{unread}
 use Rattle.agent_commands.specs.DemoEnds.{unplayed}
 use Rattle.agent_commands.specs.Follow as follow
 use Rattle.agent_commands.specs.Once as once
-use Rattle.agent_commands.specs.Status.{fault_line, status_of}
+use Rattle.agent_commands.specs.Pipe.{not_piped}
+use Rattle.agent_commands.specs.Status.{status_of}
 use Rattle.agent_commands.proofs.agent.run_agent.Goals as goal
 
 -- ---- the words spell a command
@@ -54,6 +55,11 @@ pub returns-in-Err-clause-committed : goal.returns-in-Err-clause-committed
 returns-in-Err-clause-committed g c = λ is.
     let memory = wants_memory _ c.in-Err.fault Committed c.in-Err.ensures.fault is in
     unread _ (record { fault = c.in-Err.fault; is = c.refuse.ensures.status; cause = rw memory tt; told = c.refuse.ensures.told })
+
+pub returns-in-Err-clause-pipe : goal.returns-in-Err-clause-pipe
+returns-in-Err-clause-pipe g c = λ is.
+    let memory = wants_memory _ c.in-Err.fault Pipe c.in-Err.ensures.fault is in
+    not_piped _ (record { fault = c.in-Err.fault; is = c.refuse.ensures.status; cause = rw memory tt; told = c.refuse.ensures.told; untouched = refl })
 
 pub returns-in-Err-clause-demo : goal.returns-in-Err-clause-demo
 returns-in-Err-clause-demo g c = λ rounds is.

@@ -1,6 +1,5 @@
 use Rattle.std.proofs.Common.{length, ◌-◌, ◌≡◌, ◌≤◌, IsTrue}
-use Rattle.outside.specs.Crash.{Passes}
-use Rattle.outside.specs.Image.{Same}
+use Rattle.slot_store.specs.OnlyRead.{OnlyRead}
 use Rattle.agent_commands.proofs.Filling.{IsFilled}
 use Rattle.agent_commands.proofs.opening.fill.Given as goal
 
@@ -12,9 +11,7 @@ invariant-loop-filled g l =
       within : l.filled ≤ length l.buf;
       front : IsTrue (disk.images.tells l.fn.disk) → IsFilled (disk.images.seen l.fn.disk l.file) l.buf l.filled;
       cause : disk.faults l.disk ≡ disk.faults l.fn.disk;
-      seen : disk.images.seen l.disk ≡ disk.images.seen l.fn.disk;
-      tells : disk.images.tells l.disk ≡ disk.images.tells l.fn.disk;
-      crash : Passes disk.images Same l.fn.disk l.disk;
+      only_read : OnlyRead disk l.fn.disk l.disk;
     }
 
 abbrev pub decreases-loop-filled : goal.decreases-loop-filled

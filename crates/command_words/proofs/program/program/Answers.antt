@@ -16,4 +16,5 @@ returns c =
     let once = one_more _ _ _ _ _ (c.in_ok-subcommand.ensures.shape c.new-3.ensures.local) c.bare_program.ensures c.new-3.ensures.app in
     let follow = one_more _ _ _ _ _ (c.in_ok-subcommand-2.ensures.shape c.new-4.ensures.local) once c.new-4.ensures.app in
     let committed = one_more _ _ _ _ _ (c.in_ok-subcommand-3.ensures.shape c.new-5.ensures.local) follow c.new-5.ensures.app in
-    IfOk-weaker c.subcommand-4.result _ _ (λ new added. one_more _ _ new _ _ (added.shape local) committed demo_is) c.subcommand-4.ensures
+    let pipe = one_more _ _ _ _ _ (c.in_ok-subcommand-4.ensures.shape c.new-6.ensures.local) committed c.new-6.ensures.app in
+    IfOk-weaker c.subcommand-5.result _ _ (λ new added. one_more _ _ new _ _ (added.shape local) pipe demo_is) c.subcommand-5.ensures

@@ -1,0 +1,60 @@
+// The command `pipe`.
+ghost use Rattle.std.specs.Prelude.{◌≡◌, ◌≢◌, IfOk, IfErr};
+ghost use Rattle.outside.specs.Count.{Rose};
+ghost use Rattle.outside.specs.World.{Told};
+ghost use Rattle.slot_store.specs.OnlyRead.{OnlyRead};
+ghost use Rattle.agent_commands.specs.Cause.{HasDiskCause};
+ghost use Rattle.agent_commands.specs.Control.{max_control, TakesAtMost, TakesExactly};
+ghost use Rattle.agent_commands.specs.Pipe.{IsPipeline, IsPipelineFault, PipeEnds};
+
+use crate::fault::Fault;
+use crate::opening::read_settings;
+use crate::report::refuse;
+use outside::{Disk, Sink, Source};
+use pipeline::Pipeline;
+use poll_core::pipeline_of;
+use std::alloc::Global;
+use stream_lines::{StreamFault, print_lines};
+
+/// Prints the lines of the control input to its end, and answers the exit status. Nothing is written to the disk.
+pub fn pipe<D: Disk, S: Source, K: Sink>(
+    alloc: Global,
+    disk: &mut D,
+    control: &mut S,
+    report: &mut K,
+) -> u8
+    ensures ends { PipeEnds D.meaning disk.old (S.meaning.rest control.old) (S.meaning.rest control.new) (K.meaning.written report.old) (K.meaning.written report.new) result }
+    ensures only_read { OnlyRead D.meaning disk.old disk.new }
+    ensures disk_failed { result ≡ 7 → Rose (D.meaning.faults disk.old) (D.meaning.faults disk.new) }
+    ensures disk_stood { result ≢ 7 → D.meaning.faults disk.new ≡ D.meaning.faults disk.old }
+    ensures control_failed { result ≡ 8 → Rose (S.meaning.faults control.old) (S.meaning.faults control.new) }
+    ensures control_stood { result ≢ 8 → S.meaning.faults control.new ≡ S.meaning.faults control.old }
+    ensures report_failed { result ≡ 9 → Rose (K.meaning.faults report.old) (K.meaning.faults report.new) }
+    ensures report_stood { result ≡ 0 → K.meaning.faults report.new ≡ K.meaning.faults report.old }
+    ensures taken { Told (TakesAtMost max_control) (S.meaning.rest control.old) (S.meaning.rest control.new) }
+    ensures control_long { result ≡ 15 → Told (TakesExactly max_control) (S.meaning.rest control.old) (S.meaning.rest control.new) }
+{
+    let pipeline = match open_pipeline(alloc, disk) {
+        Ok(pipeline) => pipeline,
+        Err(fault) => return refuse(alloc, fault, report),
+    };
+    match print_lines(alloc, &pipeline, control, report) {
+        Ok(()) => 0,
+        Err(StreamFault::Report) => 9,
+        Err(StreamFault::Source) => refuse(alloc, Fault::Control, report),
+        Err(StreamFault::Long) => refuse(alloc, Fault::ControlLong, report),
+        Err(StreamFault::Full { length }) => refuse(alloc, Fault::OutputFull { length }, report),
+        Err(StreamFault::Memory) => refuse(alloc, Fault::Memory, report),
+    }
+}
+
+// The pipeline that the settings file asks for.
+fn open_pipeline<D: Disk>(alloc: Global, disk: &mut D) -> Result<Pipeline, Fault>
+    ensures made { IfOk result (IsPipeline D.meaning.images disk.old) }
+    ensures fault { IfErr result (IsPipelineFault D.meaning.images disk.old) }
+    ensures only_read { OnlyRead D.meaning disk.old disk.new }
+    ensures cause { HasDiskCause result (D.meaning.faults disk.old) (D.meaning.faults disk.new) }
+{
+    let settings = read_settings(alloc, disk)?;
+    Ok(pipeline_of(alloc, &settings)?)
+}

@@ -1,0 +1,4 @@
+pub mod PrintLemmas
+pub mod Fronts
+pub mod StreamLemmas
+pub mod Courses
