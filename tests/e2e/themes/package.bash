@@ -81,7 +81,7 @@ check_manual() {
         grep -q -F "\\fB$word\\fR" stanza_agent.settings.5 || { echo "setting $word" && return 1; }
     done
     grep -q -x -F '.IP 1. 4' stanza_agent.8 && grep -q -x -F '.IP \(bu 2' stanza_agent.8 || return 1
-    [ "$(sed -n '/^.SH SYNOPSIS/,/^.SH "DESC/p' stanza_agent.8 | grep -c '^\.B stanza_agent ')" = 4 ] &&
+    [ "$(sed -n '/^.SH SYNOPSIS/,/^.SH "DESC/p' stanza_agent.8 | grep -c '^\.B stanza_agent ')" = 5 ] &&
         ! "$root/packaging/debian/manual" other.1 2>/dev/null
 }
 

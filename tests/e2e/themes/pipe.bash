@@ -35,6 +35,18 @@ check_many_lines() {
     diff <(seq "$count" | wait_for "$agent" pipe) <(for number in $(seq "$count"); do line "$number" "$number"; done)
 }
 
+# The same bytes in pieces of one byte, of 64 KiB, and as they are read from a file.
+check_pieces() {
+    echo '{"include":["app.log"],"multiline":{"line_start_pattern":"^[^ ]"},"operators":[{"type":"recombine","combine_field":"body","is_last_entry":"body contains \"7\""}]}' >settings.json
+    local number
+    for number in $(seq 3000); do
+        printf 'line %s\n  at a place of it\r\n' "$number"
+    done >app.log
+    printf 'the last one' >>app.log
+    wait_for "$agent" pipe <app.log >whole
+    [ "$(wc -l <whole)" -gt 500 ] && diff whole <(dd bs=1 if=app.log 2>/dev/null | wait_for "$agent" pipe) && diff whole <(dd bs=65536 if=app.log 2>/dev/null | wait_for "$agent" pipe)
+}
+
 check_beside_what_is_kept() {
     a_log
     once 0 "$(one_line)$LF" || return 1
