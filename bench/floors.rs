@@ -1,5 +1,6 @@
 //! The floors that the agent is measured beside. Each takes a log and writes, byte for byte, what the agent writes for it with
-//! the settings of one job of jobs.py, and does nothing else: it reads no settings, keeps no checkpoint and knows one file.
+//! the settings of one job of jobs.py, and does nothing else: it reads no settings, keeps no checkpoint and knows one file. The
+//! time at which lines are taken, where it is told, is its own.
 //!
 //!     floors JOB LOG OUTPUT
 //!
@@ -11,6 +12,7 @@ use std::arch::x86_64::*;
 use std::collections::HashMap;
 use std::fs::File;
 use std::io::{self, Read, Write};
+use std::time::{SystemTime, UNIX_EPOCH};
 use std::{env, mem, process, str};
 
 /// How many bytes are read at once, and how many are gathered before they are written.
@@ -39,6 +41,10 @@ fn run(job: &str, path: &str, output: &str) -> io::Result<()> {
     let mut members = Members::default();
     match job {
         "plain" => each_line(&mut log, |line| out.plain(line))?,
+        "plain-observed" => {
+            let end = body_end(now());
+            each_line(&mut log, |line| out.record(line, &end))?
+        }
         "filter" => each_line(&mut log, |line| filter(&mut out, line))?,
         "router" => each_line(&mut log, |line| router(&mut out, line))?,
         "json" => each_line(&mut log, |line| json(&mut out, &mut members, line))?,
@@ -350,6 +356,7 @@ fn append_decimal(made: &mut Vec<u8>, mut number: u64) {
 const FRONT: &str = r#"{"resourceLogs":[{"resource":{"attributes":["#;
 const RECORD: &str = r#"]},"scopeLogs":[{"logRecords":[{"attributes":["#;
 const BODY: &str = r#"],"body":{"stringValue":""#;
+const BODY_END: &str = "\"}";
 const SCOPE: &str = concat!(
     r#"}],"scope":{"attributes":[{"key":"agent.file","value":{"intValue":"1"}},"#,
     r#"{"key":"agent.line","value":{"intValue":""#
@@ -440,7 +447,7 @@ impl Output {
     fn body(&mut self, text: &[u8]) {
         self.push(BODY);
         append_escaped(&mut self.made, text);
-        self.push("\"}");
+        self.push(BODY_END);
     }
 
     fn severity(&mut self, number: u8, name: &[u8]) {
@@ -474,11 +481,28 @@ impl Output {
 
     /// The line of a text of which nothing more is told.
     fn plain(&mut self, text: &[u8]) {
+        self.record(text, BODY_END);
+    }
+
+    /// The line of a text with the file's attributes alone, and with this behind the text.
+    #[inline(always)]
+    fn record(&mut self, text: &[u8], end: &str) {
         self.made.extend_from_slice(&self.front);
         append_escaped(&mut self.made, text);
-        self.push("\"}");
+        self.push(end);
         self.end();
     }
+}
+
+// ---- the time at which lines are taken
+
+/// What stands behind a text that was taken at this time.
+fn body_end(nanoseconds: u128) -> String {
+    format!(r#"{BODY_END},"observedTimeUnixNano":"{nanoseconds}""#)
+}
+
+fn now() -> u128 {
+    SystemTime::now().duration_since(UNIX_EPOCH).map_or(0, |since| since.as_nanos())
 }
 
 // ---- filter and router

@@ -228,6 +228,10 @@ TRACES = {"multiline": {"line_start_pattern": "^[0-9]{4}-[0-9]{2}-[0-9]{2}T"}}
 
 JOBS = [
     Job("plain", "plain lines", plain, floor="plain"),
+    Job(
+        "plain-observed", "plain lines, with the time at which they were taken", plain, keys={"include_observed_time": True},
+        floor="plain-observed", times=("plain", 1.1),
+    ),
     Job("noops", "ten `noop`", plain, [{"type": "noop"}] * 10, floor="plain", aim=3_000),
     Job("conditions", "ten `noop`, each with a condition `body contains ..`", plain, conditions(), floor="plain"),
     Job("filter", "`filter` by a text", checked, [{"type": "filter", "expr": contains("GET /health")}], floor="filter", aim=3_000),

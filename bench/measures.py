@@ -75,8 +75,12 @@ class Work:
 
     def memory(self, command):
         """The peak memory of a command, in bytes."""
-        self.run([tool("time"), "-f", "%M", "-o", "memory", *command])
-        return 1024 * int(self.read("memory"))
+        return self.measured(command)[1]
+
+    def measured(self, command):
+        """The processor time and the peak memory of a command, in seconds and bytes."""
+        used = self.run([tool("time"), "-f", "%M", "-o", "memory", *command])
+        return used.processor, 1024 * int(self.read("memory"))
 
     def counts(self, command, said=""):
         """Instructions of a whole run, and how often it asks for memory."""

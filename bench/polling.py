@@ -13,6 +13,10 @@ POLLS = 20
 ONE_BYTE = 16_000_000
 WAITING = 4_000_000
 NAMES = 64_000
+# As many files as can be remembered, and a quarter of them, each with a front as long as is usual.
+MANY_ROWS = 65_536
+FEW_ROWS = MANY_ROWS // 4
+FRONT = 1_000
 STARTS = {"multiline": {"line_start_pattern": "^[0-9]{4}-[0-9]{2}-[0-9]{2}T"}}
 
 
@@ -91,6 +95,24 @@ def folder(work, files):
     run = least(lambda: work.run([work.agent, "once"])).clock
     calls = each_idle(work, files, work.calls, 2) if can_count_calls() else None
     return all_new, quiet, grown, run, calls
+
+
+def rows(work):
+    """The most memory that runs over as many files as can be remembered take, one that takes them all and one in which a file grew,
+    and how many times the processor time of a quarter of them is taken by each."""
+    few, many = (rows_of(work, files) for files in (FEW_ROWS, MANY_ROWS))
+    return max(memory for _, memory in many), [whole / part for (whole, _), (part, _) in zip(many, few)]
+
+
+def rows_of(work, files):
+    """Processor time and peak memory of both runs."""
+    name = f"rows-{files}"
+    for file in range(files):
+        work.write(f"{name}/{file:05}.log", f"{file:05} ".ljust(FRONT - 1, "x") + "\n")
+    write_settings(work, include=[f"{name}/*.log"])
+    taken = work.measured([work.agent, "once"])
+    append(work, f"{name}/00007.log", "one line more")
+    return [taken, work.measured([work.agent, "once"])]
 
 
 def grow(work, agent, name):

@@ -5,7 +5,7 @@ import stat
 from typing import NamedTuple
 
 OWN = re.compile(r"settings\.json|output\.jsonl|checkpoint\.[ab]|output\.[0-9]+\.jsonl")
-MOST_FILES = 1024
+MOST_FILES = 65536
 GZIP = b"\x1f\x8b"
 SPECIAL = re.compile(r"[*?\[{\\]")
 PIECE = re.compile(r"\\(.)|(\*)|(\?)|\[([!^]?)((?:[^\]\\]|\\.)+)\]|\{((?:[^{}\\]|\\.)*)\}|(.)", re.DOTALL)

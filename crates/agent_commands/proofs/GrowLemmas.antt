@@ -19,16 +19,16 @@ use Rattle.poll_core.proofs.SafeLemmas.{gains_kept, stays_kept, steps_sound, sta
 use Rattle.poll_core.specs.Found.{IsFound}
 use Rattle.poll_core.specs.IsSession.{IsSession}
 use Rattle.poll_core.specs.Next.{sequence_after}
-use Rattle.poll_core.specs.Polled.{ComesAfter, Gains, IsSoundIn, MayGain, Stays, Steps}
+use Rattle.poll_core.specs.Polled.{ComesAfter, Gains, MayGain, Stays, Steps}
 use Rattle.poll_core.specs.Remembers.{EndsWithMemory, HasMemory, IsLeftBy}
 use Rattle.poll_core.specs.Reopens.{Reopens}
 use Rattle.poll_core.specs.Sequence.{HasSequence, no_slot, of_log}
-use Rattle.poll_core.specs.SessionParts.{journal_of_session, rules_of_session, checkpoint_of_session}
+use Rattle.poll_core.specs.SessionParts.{journal_of_session, checkpoint_of_session}
 use Rattle.poll_core.specs.StandsOn.{StandsOn}
 use Rattle.poll_core.specs.declared.session.Session.{Session}
 use Rattle.standing.specs.Marks.{Mark}
 use Rattle.standing.specs.Standing.{Found, nothing, found, kept}
-use Rattle.agent_commands.specs.Grows.{GrowsBy, IsSomeSound}
+use Rattle.agent_commands.specs.Grows.{GrowsBy}
 
 -- ---- one image after another
 
@@ -85,15 +85,12 @@ reopens_grows old new reopens = record {
     more = [];
     longer = kept_stays old new there reopens found ∙ sym (append-nil (kept there (old Output)));
   };
-  sound = λ some. record {
-    text = some.text;
-    rules = some.rules;
-    rules_are = some.rules_are;
-    sound = record {
-      there = some.sound.there;
-      found = found_kept reopens.logs some.sound.there some.sound.found;
-      sound = sound_still some.rules old new some.sound.there reopens some.sound.found some.sound.sound;
-    };
+  sound = λ sound. record {
+    there = sound.there;
+    found = found_kept reopens.logs sound.there sound.found;
+    eras = sound.eras;
+    last = sound.last;
+    sound = sound_still sound.eras old new sound.there reopens sound.found sound.sound;
   };
   sequence = λ number has. record { after = number; has = sequence_kept reopens.logs number has; no_lower = omega arith; within = omega arith };
 }
@@ -125,9 +122,6 @@ memory_found None saved image memory = (nothing, memory.0)
 memory_found (Some journal) saved image memory = (found saved, (journal, memory))
 
 module _ (session : Session) (old new : Image DiskFile) (is : IsSession session) (left : IsLeftBy session old) where
-  some_sound : IsSoundIn (rules_of_session session) new → IsSomeSound new
-  some_sound sound = record { text = session.settings; rules = rules_of_session session; rules_are = (session.pipeline, is.made, refl); sound = sound }
-
   had : (number : ℕ) → HasSequence old number → number ≡ number_of (journal_of_session session)
   had number has = one_sequence old number (number_of (journal_of_session session)) has (ending_number (journal_of_session session) (checkpoint_of_session session) old left.memory)
 
@@ -142,7 +136,7 @@ module _ (session : Session) (old new : Image DiskFile) (is : IsSession session)
           more = [];
           longer = stays_kept session old new there after.0 left stays has after.1 ∙ sym (append-nil (kept there (old Output)));
         };
-        sound = λ _. some_sound (stays_sound session old new is left stays);
+        sound = λ _. stays_sound session old new is left stays;
         sequence = λ number has. record {
           after = number_of (journal_of_session session);
           has = memory_number (journal_of_session session) (checkpoint_of_session session) new stays.memory;
@@ -163,7 +157,7 @@ module _ (session : Session) (old new : Image DiskFile) (is : IsSession session)
           more = lines_text added;
           longer = gains_kept session next added old new there after comes left gains has is_found;
         };
-        sound = λ _. some_sound (steps_sound session next added old new is comes left (inr gains));
+        sound = λ _. steps_sound session next added old new is comes left (inr gains);
         sequence = λ number has. record {
           after = gains.memory.0.sequence;
           has = journal_number gains.memory.0 next new gains.memory.1;

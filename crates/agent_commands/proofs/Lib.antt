@@ -5,6 +5,7 @@ pub mod Controlling
 pub mod OneLine
 pub mod GrowLemmas
 pub mod StandLemmas
+pub mod TimeLemmas
 pub mod StatusLemmas
 mod DemoLemmas
 pub mod FollowLemmas

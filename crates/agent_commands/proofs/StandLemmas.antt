@@ -10,12 +10,14 @@ use Rattle.outside.specs.Lawful.{IsLawful}
 use Rattle.outside.specs.World.{History, Told, World}
 use Rattle.outside.specs.declared.disk.DiskFile.{DiskFile}
 use Rattle.outside.specs.declared.disk.DiskFile.TheVariants.{Settings}
+use Rattle.poll_core.proofs.EraLemmas.{SessionEras, before_poll}
 use Rattle.poll_core.proofs.ImageLemmas.{found_kept, standing_still}
 use Rattle.poll_core.proofs.StoodLemmas.{StandsBefore, stands_before}
-use Rattle.poll_core.specs.MadeOf.{HasRules}
+use Rattle.poll_core.specs.IsSession.{IsSession}
+use Rattle.poll_core.specs.MadeOf.{AreErasOf, HasRules}
 use Rattle.poll_core.specs.Polled.{IsStanding, IsSummed, TreeCounts}
 use Rattle.poll_core.specs.Reopens.{Reopens}
-use Rattle.poll_core.specs.SessionParts.{checkpoint_of_session, rules_of_session}
+use Rattle.poll_core.specs.SessionParts.{checkpoint_of_session, rules_of_session, stamp_of_session}
 use Rattle.poll_core.specs.Since.{KeepsStandingSince}
 use Rattle.poll_core.specs.StandsOn.{StandsOn}
 use Rattle.poll_core.specs.Summed.{TellsAll}
@@ -23,26 +25,25 @@ use Rattle.poll_core.specs.declared.summary.Summary.{Summary}
 use Rattle.poll_core.specs.declared.session.Session.{Session}
 use Rattle.standing.proofs.MomentLemmas.{apart_before, later_none, later_then}
 use Rattle.standing.specs.Apart.{Apart}
-use Rattle.standing.specs.AreRules.{AreRules}
+use Rattle.standing.specs.Eras.{Eras}
 use Rattle.standing.specs.Look.{Look, size}
 use Rattle.standing.specs.Marks.{Mark}
 use Rattle.standing.specs.Moments.{IsLater, IsNamed, KeepsNames}
-use Rattle.standing.specs.Rules.{Includes, Rules}
+use Rattle.standing.specs.Rules.{Includes}
 use Rattle.standing.specs.Stands.{Stands}
 use Rattle.standing.specs.Sums.{IsReached}
+use Rattle.standing.specs.Times.{AreBefore}
 use Rattle.agent_commands.specs.Headline.{HoldsAll, KeepsFrom, KeepsStanding, StoodSince}
 use Rattle.agent_commands.specs.Moment.{Moment, Meanings, moment}
 use Rattle.agent_commands.specs.Opens.{Opens}
 
--- all sessions of one text poll by the same rules
-abbrev pub AreOneRules : Type 0
-AreOneRules = (text : List ℕ) (one other : Rules) → HasRules text one → HasRules text other → one ≡ other
-
-pub reopened_stands : (rules : Rules) (history : History) (old new : Image DiskFile) → Reopens old new → IsStanding rules history old → IsStanding rules history new
-reopened_stands rules history old new reopens standing = record {
+pub reopened_stands : (history : History) (old new : Image DiskFile) → Reopens old new → IsStanding history old → IsStanding history new
+reopened_stands history old new reopens standing = record {
   there = standing.there;
   found = found_kept reopens.logs standing.there standing.found;
-  stands = standing_still rules history old new standing.there reopens standing.found standing.stands;
+  eras = standing.eras;
+  are = standing.are;
+  stands = standing_still standing.eras history old new standing.there reopens standing.found standing.stands;
 }
 
 module _ {D : Type 0} (images : Images DiskFile D) where
@@ -50,68 +51,65 @@ module _ {D : Type 0} (images : Images DiskFile D) where
   abbrev pub CountsNow : D → Type 0
   CountsNow disk = (from : ℕ) (image : Image DiskFile) → from ≤ images.moment disk → images.may_leave disk image → images.left_since disk from image
 
-  pub all_reopened : (rules : Rules) (history : History) (old new : D) → CountsNow old → Passes images Reopens old new
-      → (from : ℕ) → from ≤ images.moment old → ((image : Image DiskFile) → images.left_since old from image → IsStanding rules history image)
-      → (image : Image DiskFile) → images.left_since new from image → IsStanding rules history image
-  all_reopened rules history old new counts passes from early stood image left = elim (passes.since from image early left) [
+  pub all_reopened : (history : History) (old new : D) → CountsNow old → Passes images Reopens old new
+      → (from : ℕ) → from ≤ images.moment old → ((image : Image DiskFile) → images.left_since old from image → IsStanding history image)
+      → (image : Image DiskFile) → images.left_since new from image → IsStanding history image
+  all_reopened history old new counts passes from early stood image left = elim (passes.since from image early left) [
     | inl past ↦ stood image past
-    | inr past ↦ reopened_stands rules history past.0 image past.2 (stood past.0 (counts from past.0 early past.1))
+    | inr past ↦ reopened_stands history past.0 image past.2 (stood past.0 (counts from past.0 early past.1))
   ]
 
   -- ---- polls, one after another
 
-  pub stands_then : (rules : Rules) (old mid new : D) (before between after : World) → GoesLater between after → images.moment old ≤ images.moment mid
-      → KeepsStandingSince images rules old mid before between → KeepsStandingSince images rules mid new between after → KeepsStandingSince images rules old new before after
-  stands_then rules old mid new before between after goes later a b apart from early stood =
-      b apart from (omega (arith, early, later)) (a (apart_before rules.front_size between.history after.history goes apart) from early stood)
+  pub stands_then : (front_size : ℕ) (old mid new : D) (before between after : World) → GoesLater between after → images.moment old ≤ images.moment mid
+      → KeepsStandingSince images front_size old mid before between → KeepsStandingSince images front_size mid new between after → KeepsStandingSince images front_size old new before after
+  stands_then front_size old mid new before between after goes later a b apart from early stood =
+      b apart from (omega (arith, early, later)) (a (apart_before front_size between.history after.history goes apart) from early stood)
 
-  pub told_stands_then : (rules : Rules) (old mid new : D) (before between after : Option World) → Told GoesLater between after → images.moment old ≤ images.moment mid
-      → Told (KeepsStandingSince images rules old mid) before between → Told (KeepsStandingSince images rules mid new) between after → Told (KeepsStandingSince images rules old new) before after
-  told_stands_then rules old mid new None None None goes later a b = tt
-  told_stands_then rules old mid new None None (Some z) goes later a b = b
-  told_stands_then rules old mid new None (Some y) after goes later a b = absurd a
-  told_stands_then rules old mid new (Some x) None after goes later a b = absurd a
-  told_stands_then rules old mid new (Some x) (Some y) None goes later a b = b
-  told_stands_then rules old mid new (Some x) (Some y) (Some z) goes later a b = stands_then rules old mid new x y z goes later a b
+  pub told_stands_then : (front_size : ℕ) (old mid new : D) (before between after : Option World) → Told GoesLater between after → images.moment old ≤ images.moment mid
+      → Told (KeepsStandingSince images front_size old mid) before between → Told (KeepsStandingSince images front_size mid new) between after → Told (KeepsStandingSince images front_size old new) before after
+  told_stands_then front_size old mid new None None None goes later a b = tt
+  told_stands_then front_size old mid new None None (Some z) goes later a b = b
+  told_stands_then front_size old mid new None (Some y) after goes later a b = absurd a
+  told_stands_then front_size old mid new (Some x) None after goes later a b = absurd a
+  told_stands_then front_size old mid new (Some x) (Some y) None goes later a b = b
+  told_stands_then front_size old mid new (Some x) (Some y) (Some z) goes later a b = stands_then front_size old mid new x y z goes later a b
 
-  pub told_stands_none : (rules : Rules) (disk : D) (now : Option World) → Told (KeepsStandingSince images rules disk disk) now now
-  told_stands_none rules disk None = tt
-  told_stands_none rules disk (Some world) = λ apart from early stood. stood
+  pub told_stands_none : (front_size : ℕ) (disk : D) (now : Option World) → Told (KeepsStandingSince images front_size disk disk) now now
+  told_stands_none front_size disk None = tt
+  told_stands_none front_size disk (Some world) = λ apart from early stood. stood
 
-  pub told_reopened : (rules : Rules) (old new : D) (now : Option World) → CountsNow old → Passes images Reopens old new → Told (KeepsStandingSince images rules old new) now now
-  told_reopened rules old new None counts passes = tt
-  told_reopened rules old new (Some x) counts passes = λ apart from early stood. all_reopened rules x.history old new counts passes from early stood
+  pub told_reopened : (front_size : ℕ) (old new : D) (now : Option World) → CountsNow old → Passes images Reopens old new → Told (KeepsStandingSince images front_size old new) now now
+  told_reopened front_size old new None counts passes = tt
+  told_reopened front_size old new (Some x) counts passes = λ apart from early stood. all_reopened x.history old new counts passes from early stood
 
   -- ---- a command
 
-  opened_rules : (session : Session) (rules : Rules) (old mid : D) → AreOneRules → Opens images session old mid → IsTrue (images.tells old) → HasRules (images.seen old Settings) rules → rules ≡ rules_of_session session
-  opened_rules session rules old mid one opens tells has =
-      one (images.seen old Settings) rules (rules_of_session session) has
-      (subst (λ text. HasRules text (rules_of_session session)) (opens.settings tells) (session.pipeline, opens.is_session.made, refl))
+  -- the settings file asks for what the session was made of
+  opened_rules : (session : Session) (old mid : D) → Opens images session old mid → IsTrue (images.tells old) → HasRules (images.seen old Settings) (rules_of_session session)
+  opened_rules session old mid opens tells =
+      subst (λ text. HasRules text (rules_of_session session)) (opens.settings tells) (session.pipeline, opens.is_session.made, refl)
 
   -- a session was opened, and what it did keeps what stood
-  pub opened_stands : (session : Session) (old mid new : D) (before after : Option World) → AreOneRules → CountsNow old → Opens images session old mid → Passes images Reopens old mid
-      → Told (KeepsStandingSince images (rules_of_session session) mid new) before after → Told (KeepsStanding images old new) before after
-  opened_stands session old mid new None None one counts opens passes keeps = tt
-  opened_stands session old mid new None (Some y) one counts opens passes keeps = keeps
-  opened_stands session old mid new (Some x) None one counts opens passes keeps = keeps
-  opened_stands session old mid new (Some x) (Some y) one counts opens passes keeps = λ rules tells has.
-      let same = opened_rules session rules old mid one opens tells has in
-      λ apart from early stood.
-      let kept : KeepsStandingSince images rules mid new x y = subst (λ r. KeepsStandingSince images r mid new x y) (sym same) keeps in
-      kept apart from (omega (arith, early, passes.later)) (all_reopened rules x.history old mid counts passes from early stood)
+  pub opened_stands : (session : Session) (old mid new : D) (before after : Option World) → CountsNow old → Opens images session old mid → Passes images Reopens old mid
+      → Told (KeepsStandingSince images (rules_of_session session).front_size mid new) before after → Told (KeepsStanding images old new) before after
+  opened_stands session old mid new None None counts opens passes keeps = tt
+  opened_stands session old mid new None (Some y) counts opens passes keeps = keeps
+  opened_stands session old mid new (Some x) None counts opens passes keeps = keeps
+  opened_stands session old mid new (Some x) (Some y) counts opens passes keeps = λ tells apart from early stood.
+      keeps (apart (rules_of_session session) (opened_rules session old mid opens tells)) from (omega (arith, early, passes.later)) (all_reopened x.history old mid counts passes from early stood)
 
   -- no session was opened
   pub closed_stands : (old new : D) (now : Option World) → CountsNow old → Passes images Reopens old new → Told (KeepsStanding images old new) now now
   closed_stands old new None counts passes = tt
-  closed_stands old new (Some x) counts passes = λ rules tells has apart from early stood. all_reopened rules x.history old new counts passes from early stood
+  closed_stands old new (Some x) counts passes = λ tells apart from early stood. all_reopened x.history old new counts passes from early stood
 
   -- nothing was written
   pub same_stands : (old new : D) (now : Option World) → CountsNow old → Passes images Same old new → Told (KeepsStanding images old new) now now
   same_stands old new None counts passes = tt
-  same_stands old new (Some x) counts passes = λ rules tells has apart from early stood image left. elim (passes.since from image early left) [
+  same_stands old new (Some x) counts passes = λ tells apart from early stood image left. elim (passes.since from image early left) [
     | inl past ↦ stood image past
-    | inr past ↦ subst (λ i. IsStanding rules x.history i) (sym past.2) (stood past.0 (counts from past.0 early past.1))
+    | inr past ↦ subst (λ i. IsStanding x.history i) (sym past.2) (stood past.0 (counts from past.0 early past.1))
   ]
 
 -- ---- complete polls
@@ -120,13 +118,15 @@ module _ {D : Type 0} (images : Images DiskFile D) where
 abbrev pub ReachesAll : Type 0
 ReachesAll = (session : Session) (next : Checkpoint) (added : List Mark) (summary : Summary) (counts counts_after : TreeCounts)
     (old new : World) (summed : IsSummed session next added summary counts counts_after old new)
-    → TellsAll summary → (output path : List ℕ) (file : ℕ) → AreRules (rules_of_session session)
+    → TellsAll summary → (output path : List ℕ) (file : ℕ) (eras : Eras) → IsSession session
+    → AreErasOf session.eras eras
     → IsLater old.history new.history → Apart (rules_of_session session).front_size new.history
     → IsLawful new.history → KeepsNames old.history new.history
-    → Stands (rules_of_session session) old.history (checkpoint_of_session session).rows (checkpoint_of_session session).next_id output
+    → (stands : Stands eras old.history (checkpoint_of_session session).rows (checkpoint_of_session session).next_id output)
+    → AreBefore (stamp_of_session session) stands.marks
     → Includes (rules_of_session session) path → IsNamed new.history path file
     → (here : Look) × Contains summed.looks here × (here.file ≡ file)
-    × (0 < size here → IsReached (rules_of_session session) new.history next.rows here)
+    × (0 < size here → IsReached eras new.history next.rows here)
 
 same_world : (one other : World) → Some one ≡ Some other → one ≡ other
 same_world one other same = cc
@@ -144,37 +144,37 @@ told_later_same None = tt
 told_later_same (Some x) = later_none x.history
 
 -- what the session began with, where each image that a crash may leave stands
-stood_rows : {D : Type 0} (images : Images DiskFile D) → ((disk : D) → IsTrue (images.tells disk) → images.may_leave disk (images.seen disk)) → (session : Session) (disk : D) (history : History)
-    → StandsOn images session disk → StoodSince images (rules_of_session session) history disk disk → StandsBefore session history
-stood_rows images shown session disk history stands stood =
+stood_rows : {D : Type 0} (images : Images DiskFile D) → ((disk : D) → IsTrue (images.tells disk) → images.may_leave disk (images.seen disk)) → (session : Session) → SessionEras session → (disk : D) (history : History)
+    → StandsOn images session disk → StoodSince images history disk disk → StandsBefore session history
+stood_rows images shown session own disk history stands stood =
     let image : Image DiskFile = images.seen disk in
     let there = shown disk stood.tells in
-    stands_before session history image (stands.each.each image there) (stood.each.each image there)
+    stands_before session own history image (stands.each.each image there) (stood.each.each image there)
 
-module _ {D : Type 0} (images : Images DiskFile D) (shown : (disk : D) → IsTrue (images.tells disk) → images.may_leave disk (images.seen disk)) (law : ReachesAll) where
-  holds_all : (session : Session) (after : Checkpoint) (summary : Summary) (disk : D) (old new : World) → AreRules (rules_of_session session) → StandsOn images session disk
-      → HoldsAll session after summary (StoodSince images (rules_of_session session) old.history disk disk) old new
-  holds_all session after summary disk old new rules stands added counts counts_after summed complete stood path file included named =
-      let before = stood_rows images shown session disk old.history stands stood in
-      let found = law session after added summary counts counts_after old new summed complete.tells_all before.output path file rules complete.later complete.apart complete.lawful complete.names_kept before.stands included named in
-      record { here = found.0; looked = found.1; file_is = found.2; reached = found.3 }
+module _ {D : Type 0} (images : Images DiskFile D) (shown : (disk : D) → IsTrue (images.tells disk) → images.may_leave disk (images.seen disk)) (law : ReachesAll) (session : Session) (is : IsSession session) (own : SessionEras session) where
+  holds_all : (after : Checkpoint) (summary : Summary) (disk : D) (old new : World) → StandsOn images session disk
+      → HoldsAll session after summary (StoodSince images old.history disk disk) old new
+  holds_all after summary disk old new stands added counts counts_after summed complete stood path file included named =
+      let before = stood_rows images shown session own disk old.history stands stood in
+      let found = law session after added summary counts counts_after old new summed complete.tells_all before.output path file before.eras is before.are complete.later complete.apart complete.lawful complete.names_kept before.stands (before_poll session is before.stands.marks before.times) included named in
+      record { here = found.0; looked = found.1; file_is = found.2; eras = before.eras; are = before.are; reached = found.3 }
 
-  pub told_holds_all : (session : Session) (after : Checkpoint) (summary : Summary) (disk : D) (old new : Option World) → AreRules (rules_of_session session) → StandsOn images session disk → Told GoesLater old new
-      → (first : World) → old ≡ Some first → Told (HoldsAll session after summary (StoodSince images (rules_of_session session) first.history disk disk)) old new
-  told_holds_all session after summary disk None None rules stands later first is = tt
-  told_holds_all session after summary disk None (Some y) rules stands later first is = later
-  told_holds_all session after summary disk (Some x) None rules stands later first is = later
-  told_holds_all session after summary disk (Some x) (Some y) rules stands later first is =
-      subst (λ (world : World). HoldsAll session after summary (StoodSince images (rules_of_session session) world.history disk disk) x y) (same_world x first is) (holds_all session after summary disk x y rules stands)
+  pub told_holds_all : (after : Checkpoint) (summary : Summary) (disk : D) (old new : Option World) → StandsOn images session disk → Told GoesLater old new
+      → (first : World) → old ≡ Some first → Told (HoldsAll session after summary (StoodSince images first.history disk disk)) old new
+  told_holds_all after summary disk None None stands later first told = tt
+  told_holds_all after summary disk None (Some y) stands later first told = later
+  told_holds_all after summary disk (Some x) None stands later first told = later
+  told_holds_all after summary disk (Some x) (Some y) stands later first told =
+      subst (λ (world : World). HoldsAll session after summary (StoodSince images world.history disk disk) x y) (same_world x first told) (holds_all after summary disk x y stands)
 
 module _ {D : Type 0} (images : Images DiskFile D) (only_now : (disk : D) (image : Image DiskFile) → images.left_since disk (images.moment disk) image → images.may_leave disk image) (counts : (disk : D) → CountsNow images disk) where
   -- what stood at the begin stands now
-  stood_now : (rules : Rules) (begun now : D) (first old new : World) → images.moment begun ≤ images.moment now → KeepsStandingSince images rules begun now first old → IsLater old.history new.history → Apart rules.front_size new.history
-      → StoodSince images rules first.history begun now → StoodSince images rules old.history now now
-  stood_now rules begun now first old new later keeps goes apart stood = record {
+  stood_now : (front_size : ℕ) (begun now : D) (first old new : World) → images.moment begun ≤ images.moment now → KeepsStandingSince images front_size begun now first old → IsLater old.history new.history → Apart front_size new.history
+      → StoodSince images first.history begun now → StoodSince images old.history now now
+  stood_now front_size begun now first old new later keeps goes apart stood = record {
     each = record {
       each = λ image left.
-          keeps (apart_before rules.front_size old.history new.history goes apart) (images.moment begun) (omega arith) (λ one since. stood.each.each one (only_now begun one since))
+          keeps (apart_before front_size old.history new.history goes apart) (images.moment begun) (omega arith) (λ one since. stood.each.each one (only_now begun one since))
           image (counts now (images.moment begun) image later left);
     };
     tells = stood.tells;
@@ -182,34 +182,35 @@ module _ {D : Type 0} (images : Images DiskFile D) (only_now : (disk : D) (image
 
   -- what a poll holds where the images stood at its begin, it holds where they stood when the command began
   pub holds_since : (session : Session) (after : Checkpoint) (summary : Summary) (begun now : D) (first : World) (earlier old new : Option World) → images.moment begun ≤ images.moment now
-      → Told (KeepsStandingSince images (rules_of_session session) begun now) earlier old → earlier ≡ Some first → Told GoesLater old new
-      → ((own : World) → old ≡ Some own → Told (HoldsAll session after summary (StoodSince images (rules_of_session session) own.history now now)) old new)
-      → Told (HoldsAll session after summary (StoodSince images (rules_of_session session) first.history begun now)) old new
+      → Told (KeepsStandingSince images (rules_of_session session).front_size begun now) earlier old → earlier ≡ Some first → Told GoesLater old new
+      → ((own : World) → old ≡ Some own → Told (HoldsAll session after summary (StoodSince images own.history now now)) old new)
+      → Told (HoldsAll session after summary (StoodSince images first.history begun now)) old new
   holds_since session after summary begun now first earlier None None later keeps is goes own = tt
   holds_since session after summary begun now first earlier None (Some y) later keeps is goes own = goes
   holds_since session after summary begun now first earlier (Some x) None later keeps is goes own = goes
   holds_since session after summary begun now first earlier (Some x) (Some y) later keeps is goes own = λ added count count_after summed complete stood.
-      let kept : KeepsStandingSince images (rules_of_session session) begun now first x = subst (λ (world : Option World). Told (KeepsStandingSince images (rules_of_session session) begun now) world (Some x)) is keeps in
-      own x refl added count count_after summed complete (stood_now (rules_of_session session) begun now first x y later kept complete.later complete.apart stood)
+      let front_size : ℕ = (rules_of_session session).front_size in
+      let kept : KeepsStandingSince images front_size begun now first x = subst (λ (world : Option World). Told (KeepsStandingSince images front_size begun now) world (Some x)) is keeps in
+      own x refl added count count_after summed complete (stood_now front_size begun now first x y later kept complete.later complete.apart stood)
 
 -- ---- from the command's begin on
 
-module _ {T D K : Type 0} (meanings : Meanings T D K) where
-  pub keeps_none : (rules : Rules) (now : Moment T D K) → KeepsFrom meanings rules now now
-  keeps_none rules now = record { later = omega arith; goes = told_later_same (meanings.trees.world now.tree); standing = told_stands_none meanings.disks.images rules now.disk (meanings.trees.world now.tree) }
+module _ {T D K C : Type 0} (meanings : Meanings T D K C) where
+  pub keeps_none : (front_size : ℕ) (now : Moment T D K C) → KeepsFrom meanings front_size now now
+  keeps_none front_size now = record { later = omega arith; goes = told_later_same (meanings.trees.world now.tree); standing = told_stands_none meanings.disks.images front_size now.disk (meanings.trees.world now.tree) }
 
-  pub keeps_then : (rules : Rules) (begun mid now : Moment T D K) → KeepsFrom meanings rules begun mid → KeepsFrom meanings rules mid now → KeepsFrom meanings rules begun now
-  keeps_then rules begun mid now a b = record {
+  pub keeps_then : (front_size : ℕ) (begun mid now : Moment T D K C) → KeepsFrom meanings front_size begun mid → KeepsFrom meanings front_size mid now → KeepsFrom meanings front_size begun now
+  keeps_then front_size begun mid now a b = record {
     later = omega (arith, a.later, b.later);
     goes = told_later_then (meanings.trees.world begun.tree) (meanings.trees.world mid.tree) (meanings.trees.world now.tree) a.goes b.goes;
-    standing = told_stands_then meanings.disks.images rules begun.disk mid.disk now.disk (meanings.trees.world begun.tree) (meanings.trees.world mid.tree) (meanings.trees.world now.tree) b.goes a.later a.standing b.standing;
+    standing = told_stands_then meanings.disks.images front_size begun.disk mid.disk now.disk (meanings.trees.world begun.tree) (meanings.trees.world mid.tree) (meanings.trees.world now.tree) b.goes a.later a.standing b.standing;
   }
 
   -- a session was opened, and no file was looked at
-  pub keeps_opened : (rules : Rules) (tree : T) (old mid : D) (report : K) → CountsNow meanings.disks.images old → Passes meanings.disks.images Reopens old mid
-      → KeepsFrom meanings rules (moment tree old report) (moment tree mid report)
-  keeps_opened rules tree old mid report counts passes = record {
+  pub keeps_opened : (front_size : ℕ) (tree : T) (old mid : D) (report : K) (clock : C) → CountsNow meanings.disks.images old → Passes meanings.disks.images Reopens old mid
+      → KeepsFrom meanings front_size (moment tree old report clock) (moment tree mid report clock)
+  keeps_opened front_size tree old mid report clock counts passes = record {
     later = passes.later;
     goes = told_later_same (meanings.trees.world tree);
-    standing = told_reopened meanings.disks.images rules old mid (meanings.trees.world tree) counts passes;
+    standing = told_reopened meanings.disks.images front_size old mid (meanings.trees.world tree) counts passes;
   }

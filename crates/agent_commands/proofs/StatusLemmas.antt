@@ -1,6 +1,7 @@
 -- What statuses tell.
 use Rattle.std.proofs.Common.{◌≡◌, ℕ, ◌+◌, ◌≤◌, List, refl, sym, ◌∙◌, arith, inl, inr}
 use Rattle.std.specs.Prelude.{◌≢◌, ◌⊎◌, Option, Result, Ok, Err}
+use Rattle.outside.specs.ClockMeaning.{ClockMeaning}
 use Rattle.outside.specs.Count.{HasOneCause, Rose}
 use Rattle.outside.specs.DiskMeaning.{DiskMeaning}
 use Rattle.outside.specs.Images.{Images}
@@ -8,6 +9,7 @@ use Rattle.outside.specs.StreamMeaning.{SinkMeaning}
 use Rattle.outside.specs.TreeMeaning.{TreeMeaning}
 use Rattle.outside.specs.declared.disk.DiskFile.{DiskFile}
 use Rattle.outside.specs.declared.fault.Failed.{Failed}
+use Rattle.poll_core.specs.SessionParts.{session_at}
 use Rattle.poll_core.specs.declared.session.Session.{Session}
 use Rattle.agent_commands.specs.Cause.{HasDiskCause}
 use Rattle.agent_commands.specs.Committed as committed
@@ -20,7 +22,7 @@ use Rattle.agent_commands.specs.Once as once
 use Rattle.agent_commands.specs.Once.{IsNotOpened, OnceEnds}
 use Rattle.agent_commands.specs.Opens.{IsOpeningFault}
 use Rattle.agent_commands.specs.Pipe as pipe
-use Rattle.agent_commands.specs.Pipe.{IsPipelineFault, PipeEnds}
+use Rattle.agent_commands.specs.Pipe.{IsPipelineFault, PipeEnds, PipeMoment}
 use Rattle.agent_commands.specs.Status.{IsStatus, status_of}
 use Rattle.agent_commands.specs.Turn.{IsPollFault, IsTurnStatus, Stops}
 use Rattle.agent_commands.specs.declared.control.Request.{Request}
@@ -191,31 +193,31 @@ turn_is_other status (inr (inr (inl is))) two = omega (arith, is, two)
 turn_is_other status (inr (inr (inr (inl is)))) two = omega (arith, is, two)
 turn_is_other status (inr (inr (inr (inr is)))) two = omega (arith, is, two)
 
-module _ {T D K : Type 0} (meanings : Meanings T D K) where
-  stops_status : (session : Session) (status : ℕ) (old new : Moment T D K) → Stops meanings session status old new → IsCommandStatus status
+module _ {T D K C : Type 0} (meanings : Meanings T D K C) where
+  stops_status : (session : Session) (status : ℕ) (old new : Moment T D K C) → Stops meanings session status old new → IsCommandStatus status
   stops_status session status old new (inl untold) = untold_status status untold.is
-  stops_status session status old new (inr refused) = of_fault status refused.fault refused.is (turn_is_other (status_of refused.fault) (status_of_poll meanings.trees session old.tree new.tree refused.fault refused.cause))
+  stops_status session status old new (inr refused) = of_fault status refused.fault refused.is (turn_is_other (status_of refused.fault) (status_of_poll meanings.trees (session_at session refused.now) old.tree new.tree refused.fault refused.cause))
 
-  not_opened_status : (status : ℕ) (old new : Moment T D K) → IsNotOpened meanings old new status → IsCommandStatus status
+  not_opened_status : (status : ℕ) (old new : Moment T D K C) → IsNotOpened meanings old new status → IsCommandStatus status
   not_opened_status status old new not = of_fault status not.fault not.is (λ two. let low = (opening_status meanings.disks.images old.disk not.fault not.cause).0 in omega (arith, low, two))
 
-  pub once_status : (old new : Moment T D K) (status : ℕ) → OnceEnds meanings old new status → IsCommandStatus status
+  pub once_status : (old new : Moment T D K C) (status : ℕ) → OnceEnds meanings old new status → IsCommandStatus status
   once_status old new _ (once.polls done) = (inl refl, λ two. omega (arith, two))
-  once_status old new _ (once.stops status done) = stops_status done.session status (moment old.tree done.between old.report) new done.stops
+  once_status old new _ (once.stops status done) = stops_status done.session status (moment old.tree done.between old.report old.clock) new done.stops
   once_status old new _ (once.not_opened status not) = not_opened_status status old new not
 
   untold_not_long : (status : ℕ) → (status ≡ 9) ⊎ (status ≡ 10) → status ≡ 15 → ⊥
   untold_not_long status (inl is) long = omega (arith, is, long)
   untold_not_long status (inr is) long = omega (arith, is, long)
 
-  stops_not_long : (session : Session) (status : ℕ) (old new : Moment T D K) → Stops meanings session status old new → status ≡ 15 → ⊥
+  stops_not_long : (session : Session) (status : ℕ) (old new : Moment T D K C) → Stops meanings session status old new → status ≡ 15 → ⊥
   stops_not_long session status old new (inl untold) long = untold_not_long status untold.is long
-  stops_not_long session status old new (inr refused) long = (other_status (status_of refused.fault) (status_of_poll meanings.trees session old.tree new.tree refused.fault refused.cause)).2 (sym refused.is ∙ long)
+  stops_not_long session status old new (inr refused) long = (other_status (status_of refused.fault) (status_of_poll meanings.trees (session_at session refused.now) old.tree new.tree refused.fault refused.cause)).2 (sym refused.is ∙ long)
 
   -- only a command that takes control lines can take too many bytes
-  pub once_not_long : (old new : Moment T D K) (status : ℕ) → OnceEnds meanings old new status → status ≡ 15 → ⊥
+  pub once_not_long : (old new : Moment T D K C) (status : ℕ) → OnceEnds meanings old new status → status ≡ 15 → ⊥
   once_not_long old new _ (once.polls done) long = omega (arith, long)
-  once_not_long old new _ (once.stops status done) long = stops_not_long done.session status (moment old.tree done.between old.report) new done.stops long
+  once_not_long old new _ (once.stops status done) long = stops_not_long done.session status (moment old.tree done.between old.report old.clock) new done.stops long
   once_not_long old new _ (once.not_opened status not) long = let high = (opening_status meanings.disks.images old.disk not.fault not.cause).2 in omega (arith, high, not.is, long)
 
   at_status : (request : Result Request Failed) (number status : ℕ) (old new : Option (List ℕ)) → StopsAt request number status old new → IsCommandStatus status
@@ -226,14 +228,14 @@ module _ {T D K : Type 0} (meanings : Meanings T D K) where
   at_status (Ok Exhausted) number status old new at = of_fault status ControlLong at.0 (λ two. omega (arith, two))
   at_status (Err _) number status old new at = of_fault status Control at.0 (λ two. omega (arith, two))
 
-  follows_status : (begun : Moment T D K) (end : Progress) (status : ℕ) (rest_after : Option (List ℕ)) (new : Moment T D K) (number left : ℕ) (session : Session) (rest : Option (List ℕ)) (old : Moment T D K)
+  follows_status : (begun : Moment T D K C) (end : Progress) (status : ℕ) (rest_after : Option (List ℕ)) (new : Moment T D K C) (number left : ℕ) (session : Session) (rest : Option (List ℕ)) (old : Moment T D K C)
       → Follows meanings begun end status rest_after new number left session rest old → IsCommandStatus status
   follows_status begun end status rest_after new number left session rest old (follow.polls _ _ left_after _ next _ between _ mid asks turns more) = follows_status begun end status rest_after new (number + 1) left_after next between mid more
   follows_status begun end status rest_after new number left session rest old (follow.stops _ _ left_after _ _ _ asks stops _ _) = stops_status session status old new stops
-  follows_status begun end status rest_after new number left session rest old (follow.ends _ _ left_after _ _ _ request asks at _ _ _ _) = at_status request number status (meanings.reports.written old.report) (meanings.reports.written new.report) at
+  follows_status begun end status rest_after new number left session rest old (follow.ends _ _ left_after _ _ _ request asks at _ _ _ _ _) = at_status request number status (meanings.reports.written old.report) (meanings.reports.written new.report) at
 
-  pub follow_status : (rest rest_after : Option (List ℕ)) (old new : Moment T D K) (status : ℕ) → FollowEnds meanings rest rest_after old new status → IsCommandStatus status
-  follow_status rest rest_after old new status (follow.serves done) = follows_status old done.served.end status rest_after new 1 max_control done.session rest (moment old.tree done.between old.report) done.served.follows
+  pub follow_status : (rest rest_after : Option (List ℕ)) (old new : Moment T D K C) (status : ℕ) → FollowEnds meanings rest rest_after old new status → IsCommandStatus status
+  follow_status rest rest_after old new status (follow.serves done) = follows_status old done.served.end status rest_after new 1 max_control done.session rest (moment old.tree done.between old.report old.clock) done.served.follows
   follow_status rest rest_after old new status (follow.not_opened not _) = not_opened_status status old new not
 
 pub committed_status : {D K : Type 0} (disks : DiskMeaning D) (reports : SinkMeaning K) (disk : D) (report report_after : K) (status : ℕ) → CommittedEnds disks reports disk report report_after status → IsCommandStatus status
@@ -242,11 +244,11 @@ committed_status disks reports disk report report_after _ (committed.failed done
 committed_status disks reports disk report report_after _ (committed.no_memory done) = untold_status 10 (inr refl)
 committed_status disks reports disk report report_after _ (committed.unread status done) = of_fault status done.fault done.is (λ two. let low = reading_status disks.images disk done.fault done.cause in omega (arith, low, two))
 
-pub pipe_status : {D : Type 0} (disks : DiskMeaning D) (disk : D) (rest rest_after report report_after : Option (List ℕ)) (status : ℕ) → PipeEnds disks disk rest rest_after report report_after status → IsCommandStatus status
-pipe_status disks disk rest rest_after report report_after _ (pipe.whole done) = (inl refl, λ two. omega (arith, two))
-pipe_status disks disk rest rest_after report report_after _ (pipe.control_failed done) = of_fault 8 Control refl (λ two. omega (arith, two))
-pipe_status disks disk rest rest_after report report_after _ (pipe.report_failed done) = untold_status 9 (inl refl)
-pipe_status disks disk rest rest_after report report_after _ (pipe.no_memory done) = untold_status 10 (inr refl)
-pipe_status disks disk rest rest_after report report_after _ (pipe.full size done) = of_fault 11 (OutputFull size) refl (λ two. omega (arith, two))
-pipe_status disks disk rest rest_after report report_after _ (pipe.too_long done) = of_fault 15 ControlLong refl (λ two. omega (arith, two))
-pipe_status disks disk rest rest_after report report_after _ (pipe.not_piped status not) = of_fault status not.fault not.is (pipeline_fault_status disks.images disk not.fault not.cause)
+pub pipe_status : {D C : Type 0} (disks : DiskMeaning D) (clocks : ClockMeaning C) (disk : D) (old new : PipeMoment C) (status : ℕ) → PipeEnds disks clocks disk old new status → IsCommandStatus status
+pipe_status disks clocks disk old new _ (pipe.whole done) = (inl refl, λ two. omega (arith, two))
+pipe_status disks clocks disk old new _ (pipe.control_failed done) = of_fault 8 Control refl (λ two. omega (arith, two))
+pipe_status disks clocks disk old new _ (pipe.report_failed done) = untold_status 9 (inl refl)
+pipe_status disks clocks disk old new _ (pipe.no_memory done) = untold_status 10 (inr refl)
+pipe_status disks clocks disk old new _ (pipe.full size done) = of_fault 11 (OutputFull size) refl (λ two. omega (arith, two))
+pipe_status disks clocks disk old new _ (pipe.too_long done) = of_fault 15 ControlLong refl (λ two. omega (arith, two))
+pipe_status disks clocks disk old new _ (pipe.not_piped status not) = of_fault status not.fault not.is (pipeline_fault_status disks.images disk not.fault not.cause)

@@ -4,18 +4,9 @@ use Rattle.outside.specs.Image.{Image}
 use Rattle.outside.specs.declared.disk.DiskFile.{DiskFile}
 use Rattle.outside.specs.declared.disk.DiskFile.TheVariants.{Settings, Output}
 use Rattle.poll_core.specs.Found.{IsFound}
-use Rattle.poll_core.specs.MadeOf.{HasRules}
-use Rattle.poll_core.specs.Polled.{IsSoundIn}
+use Rattle.poll_core.specs.Polled.{IsSoundImage}
 use Rattle.poll_core.specs.Sequence.{HasSequence}
-use Rattle.standing.specs.Rules.{Rules}
 use Rattle.standing.specs.Standing.{Found, kept}
-
--- the image is sound by the rules of some settings
-pub record IsSomeSound (image : Image DiskFile) : Type 0 where
-  pub text : List ℕ
-  pub rules : Rules
-  pub rules_are : HasRules text rules
-  pub sound : IsSoundIn rules image
 
 -- what is found there keeps all that was kept of the output, with more behind it
 pub record KeepsMore (there : Found) (old new : Image DiskFile) : Type 0 where
@@ -35,5 +26,5 @@ pub record CountsUp (most number : ℕ) (image : Image DiskFile) : Type 0 where
 pub record GrowsBy (most : ℕ) (old new : Image DiskFile) : Type 0 where
   pub settings : new Settings ≡ old Settings
   pub kept_then : (there : Found) → IsFound old there → KeepsMore there old new
-  pub sound : IsSomeSound old → IsSomeSound new
+  pub sound : IsSoundImage old → IsSoundImage new
   pub sequence : (number : ℕ) → HasSequence old number → CountsUp most number new

@@ -12,15 +12,16 @@ use Rattle.agent_commands.specs.Status.{fault_line, status_of}
 use Rattle.agent_commands.specs.Turn.{Turns, Stops}
 use Rattle.agent_commands.specs.declared.fault.Fault.{Fault}
 
-module _ {T D K : Type 0} (meanings : Meanings T D K) (old new : Moment T D K) where
-  -- No session was opened, for the reason that the status and the report have, and no file was looked at. A refusal leaves
-  -- the disk as it was, and whatever it is, nothing that was kept is lost.
+module _ {T D K C : Type 0} (meanings : Meanings T D K C) (old new : Moment T D K C) where
+  -- No session was opened, for the reason that the status and the report have, and neither a file nor the clock was looked at. A
+  -- refusal leaves the disk as it was, and whatever it is, nothing that was kept is lost.
   pub record IsNotOpened (status : ℕ) : Type 0 where
     pub fault : Fault
     pub is : status ≡ status_of fault
     pub cause : IsOpeningFault meanings.disks.images old.disk fault
     pub told : Told (GrowsByPart (fault_line fault)) (meanings.reports.written old.report) (meanings.reports.written new.report)
     pub same_tree : new.tree ≡ old.tree
+    pub same_clock : new.clock ≡ old.clock
     pub untouched : IsRefusal fault → Passes meanings.disks.images Same old.disk new.disk
     pub crash : Passes meanings.disks.images (GrowsBy 0) old.disk new.disk
 
@@ -30,14 +31,14 @@ module _ {T D K : Type 0} (meanings : Meanings T D K) (old new : Moment T D K) w
     pub between : D
     pub opens : Opens meanings.disks.images session old.disk between
     pub next : Session
-    pub turns : Turns meanings session old next (moment old.tree between old.report) new
+    pub turns : Turns meanings session old next (moment old.tree between old.report old.clock) new
 
   -- A session was opened, and a poll of it ended the command.
   pub record StopsOnce (status : ℕ) : Type 0 where
     pub session : Session
     pub between : D
     pub opens : Opens meanings.disks.images session old.disk between
-    pub stops : Stops meanings session status (moment old.tree between old.report) new
+    pub stops : Stops meanings session status (moment old.tree between old.report old.clock) new
 
   pub data OnceEnds : ℕ → Type 0 where
     polls : PollsOnce → OnceEnds 0

@@ -7,7 +7,7 @@ use Rattle.outside.specs.declared.disk.DiskFile.TheVariants as file
 use Rattle.poll_core.specs.IsSession.{IsSession}
 use Rattle.poll_core.specs.OpenFaults.{IsNotBuilt, IsRefused}
 use Rattle.poll_core.specs.Remembers.{GoesOnFrom}
-use Rattle.poll_core.specs.SessionParts.{limit_of}
+use Rattle.poll_core.specs.SessionParts.{checkpoint_of_session, limit_of, settings_of_session, time_of_session}
 use Rattle.poll_core.specs.StandsOn.{StandsOn}
 use Rattle.poll_core.specs.declared.fault.OpenFault.TheVariants as opening
 use Rattle.poll_core.specs.declared.session.Session.{Session}
@@ -15,13 +15,15 @@ use Rattle.settings_text.specs.Grammar as grammar
 use Rattle.agent_commands.specs.declared.fault.Fault.{Fault}
 use Rattle.agent_commands.specs.declared.fault.Fault.TheVariants.{Usage, Settings, Build, CheckpointBad, SettingsChanged, OutputShort, Disk, Control, Memory, OutputFull, ControlLine, Worn, ControlLong}
 
--- The session has the settings of the settings file and goes on from what reads give of the disk, and then it stands on it.
+-- The session has the settings of the settings file and goes on from what reads give of the disk, and then it stands on it. Its time
+-- is the greatest time of a line that is kept.
 pub record Opens {D : Type 0} (images : Images DiskFile D) (session : Session) (disk disk_after : D) : Type 0 where
   pub is_session : IsSession session
   pub limit : limit_of session ≡ output_limit
-  pub settings : IsTrue (images.tells disk) → session.settings ≡ images.seen disk file.Settings
+  pub settings : IsTrue (images.tells disk) → settings_of_session session ≡ images.seen disk file.Settings
   pub goes_on : IsTrue (images.tells disk) → GoesOnFrom session (images.seen disk)
   pub stands : StandsOn images session disk_after
+  pub time : time_of_session session ≡ (checkpoint_of_session session).observed
 
 -- Want of memory is free, and a fault of the disk has its own clause.
 abbrev pub IsOpeningFault : {D : Type 0} (images : Images DiskFile D) (disk : D) → Fault → Type 0

@@ -1,10 +1,12 @@
 -- The command `pipe`: the lines of the control input.
-use Rattle.std.specs.Prelude.{◌≡◌, ⊤, ℕ, IsTrue, List, Option, Err}
+use Rattle.std.specs.Prelude.{◌≡◌, ⊤, ℕ, Bool, true, false, IsTrue, List, Option, Some, None, Err}
+use Rattle.outside.specs.ClockMeaning.{ClockMeaning, Reads}
 use Rattle.outside.specs.DiskMeaning.{DiskMeaning}
 use Rattle.outside.specs.Images.{Images}
 use Rattle.outside.specs.World.{Told}
 use Rattle.outside.specs.declared.disk.DiskFile.{DiskFile}
 use Rattle.outside.specs.declared.disk.DiskFile.TheVariants as file
+use Rattle.pipeline.specs.Parts.{settings_of}
 use Rattle.pipeline.specs.declared.Pipeline.{Pipeline}
 use Rattle.poll_core.specs.MadeOf.{IsMadeOf}
 use Rattle.poll_core.specs.OpenFaults.{IsNotBuilt}
@@ -35,34 +37,56 @@ IsPipelineFault images disk (ControlLine number) = ⊥
 IsPipelineFault images disk Worn = ⊥
 IsPipelineFault images disk ControlLong = ⊥
 
-module _ {D : Type 0} (disks : DiskMeaning D) (disk : D) (rest rest_after report report_after : Option (List ℕ)) where
-  -- The lines were printed in this way.
-  pub record Pipes (prints : Pipeline → Option (List ℕ) → Type 0) : Type 0 where
+-- the outside of the command at one moment, besides the disk, as far as it is told
+pub record PipeMoment (C : Type 0) : Type 0 where
+  pub rest : Option (List ℕ)
+  pub written : Option (List ℕ)
+  pub clock : C
+
+abbrev pub pipe_moment : {C : Type 0} → Option (List ℕ) → Option (List ℕ) → C → PipeMoment C
+pipe_moment rest written clock = record { rest = rest; written = written; clock = clock }
+
+-- The time of all lines: one reading of the clock, where they are to have a time; else they have none, and the clock isn't read.
+abbrev pub IsStamp : {C : Type 0} → ClockMeaning C → Bool → Option ℕ → C → C → Type 0
+IsStamp clocks true (Some now) clock clock_after = Told (Reads now) (clocks.readings clock) (clocks.readings clock_after)
+IsStamp clocks true None clock clock_after = ⊥
+IsStamp clocks false (Some now) clock clock_after = ⊥
+IsStamp clocks false None clock clock_after = clock_after ≡ clock
+
+module _ {D C : Type 0} (disks : DiskMeaning D) (clocks : ClockMeaning C) (disk : D) (old new : PipeMoment C) where
+  -- The lines were printed in this way, with this time.
+  pub record Pipes (prints : Pipeline → Option ℕ → Option (List ℕ) → Type 0) : Type 0 where
     pub pipeline : Pipeline
     pub is_pipeline : IsPipeline disks.images disk pipeline
-    pub told : prints pipeline report_after
+    pub observed : Option ℕ
+    pub stamp : IsStamp clocks (settings_of pipeline).include_observed_time observed old.clock new.clock
+    pub told : prints pipeline observed new.written
 
   -- The lines were printed in this way, and then the line that tells this fault, or a part of it where its print failed.
-  pub record PipesThen (fault : Fault) (prints : Pipeline → Option (List ℕ) → Type 0) : Type 0 where
+  pub record PipesThen (fault : Fault) (prints : Pipeline → Option ℕ → Option (List ℕ) → Type 0) : Type 0 where
     pub pipeline : Pipeline
     pub is_pipeline : IsPipeline disks.images disk pipeline
+    pub observed : Option ℕ
+    pub stamp : IsStamp clocks (settings_of pipeline).include_observed_time observed old.clock new.clock
     pub between : Option (List ℕ)
-    pub told : prints pipeline between
-    pub fault_told : Told (GrowsByPart (fault_line fault)) between report_after
+    pub told : prints pipeline observed between
+    pub fault_told : Told (GrowsByPart (fault_line fault)) between new.written
 
-  -- There was no pipeline, for the reason that the status and the report have, and nothing of the input was taken.
+  -- There was no pipeline, for the reason that the status and the report have, nothing of the input was taken, and the clock wasn't
+  -- read.
   pub record IsNotPiped (status : ℕ) : Type 0 where
     pub fault : Fault
     pub is : status ≡ status_of fault
     pub cause : IsPipelineFault disks.images disk fault
-    pub told : Told (GrowsByPart (fault_line fault)) report report_after
-    pub untouched : rest_after ≡ rest
+    pub told : Told (GrowsByPart (fault_line fault)) old.written new.written
+    pub untouched : new.rest ≡ old.rest
+    pub same_clock : new.clock ≡ old.clock
 
   pub data PipeEnds : ℕ → Type 0 where
-    whole : Pipes (λ pipeline now. PrintsWhole pipeline rest rest_after report now) → PipeEnds 0
-    control_failed : PipesThen Control (λ pipeline now. PrintsOpen pipeline rest rest_after report now) → PipeEnds 8
-    report_failed : Pipes (λ pipeline now. StopsWithin pipeline rest rest_after report now) → PipeEnds 9
-    no_memory : PipesThen Memory (λ pipeline now. StopsWithin pipeline rest rest_after report now) → PipeEnds 10
-    full : (size : ℕ) → PipesThen (OutputFull size) (λ pipeline now. FillsUp pipeline rest rest_after report now size) → PipeEnds 11
-    too_long : PipesThen ControlLong (λ pipeline now. TakesMost pipeline rest rest_after report now) → PipeEnds 15
+    whole : Pipes (λ pipeline observed now. PrintsWhole pipeline observed old.rest new.rest old.written now) → PipeEnds 0
+    control_failed : PipesThen Control (λ pipeline observed now. PrintsOpen pipeline observed old.rest new.rest old.written now) → PipeEnds 8
+    report_failed : Pipes (λ pipeline observed now. StopsWithin pipeline observed old.rest new.rest old.written now) → PipeEnds 9
+    no_memory : PipesThen Memory (λ pipeline observed now. StopsWithin pipeline observed old.rest new.rest old.written now) → PipeEnds 10
+    full : (size : ℕ) → PipesThen (OutputFull size) (λ pipeline observed now. FillsUp pipeline observed old.rest new.rest old.written now size) → PipeEnds 11
+    too_long : PipesThen ControlLong (λ pipeline observed now. TakesMost pipeline observed old.rest new.rest old.written now) → PipeEnds 15
     not_piped : (status : ℕ) → IsNotPiped status → PipeEnds status

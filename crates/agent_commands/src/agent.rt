@@ -16,7 +16,7 @@ ghost use Rattle.agent_commands.specs.Grows.{GrowsBy};
 ghost use Rattle.agent_commands.specs.Headline.{KeepsStanding};
 ghost use Rattle.agent_commands.specs.Moment.{meanings, moment};
 ghost use Rattle.agent_commands.specs.Once.{OnceEnds};
-ghost use Rattle.agent_commands.specs.Pipe.{PipeEnds};
+ghost use Rattle.agent_commands.specs.Pipe.{PipeEnds, pipe_moment};
 ghost use Rattle.agent_commands.specs.Status.{IsStatus};
 ghost use Rattle.agent_commands.specs.Words.{IsNotRun, IsWordsFault};
 
@@ -29,30 +29,32 @@ use crate::pipe::pipe;
 use crate::report::refuse;
 use command_words::laws::words_spell_one_command;
 use command_words::{Command, command_of};
-use outside::{Disk, Sink, Source, Tree};
+use outside::{Clock, Disk, Sink, Source, Tree};
 use std::alloc::{AllocError, Global};
 
 /// Runs the command that the words are, and answers the exit status.
 ///
 /// `control` is the input that `follow` serves and of which `pipe` prints the lines, and `report` the output for summaries and faults.
-pub fn run_agent<T: Tree, D: Disk, S: Source, K: Sink>(
+/// `clock` is read before each poll, and by `pipe` once where the settings ask for the time of its lines.
+pub fn run_agent<T: Tree, D: Disk, S: Source, K: Sink, C: Clock>(
     alloc: Global,
     words: &[String],
     tree: &mut T,
     disk: &mut D,
     control: &mut S,
     report: &mut K,
+    clock: &mut C,
 ) -> u8
     ensures answers { IsStatus result }
 
-    // One poll: its course, status by status. Wherever it is stopped, nothing that was kept is lost.
+    // One poll, at one reading of the clock: its course, status by status. Wherever it is stopped, nothing that was kept is lost.
     ensures once { IsCommand (texts words.now) Command.Once
-        → OnceEnds (meanings T.meaning D.meaning K.meaning) (moment tree.old disk.old report.old) (moment tree.new disk.new report.new) result }
+        → OnceEnds (meanings T.meaning D.meaning K.meaning C.meaning) (moment tree.old disk.old report.old clock.old) (moment tree.new disk.new report.new clock.new) result }
     ensures once_crash { IsCommand (texts words.now) Command.Once → Passes D.meaning.images (GrowsBy 1) disk.old disk.new }
 
-    // Polls as control lines ask for them.
+    // Polls as control lines ask for them, each at a reading of the clock.
     ensures follow { IsCommand (texts words.now) Command.Follow
-        → FollowEnds (meanings T.meaning D.meaning K.meaning) (S.meaning.rest control.old) (S.meaning.rest control.new) (moment tree.old disk.old report.old) (moment tree.new disk.new report.new) result }
+        → FollowEnds (meanings T.meaning D.meaning K.meaning C.meaning) (S.meaning.rest control.old) (S.meaning.rest control.new) (moment tree.old disk.old report.old clock.old) (moment tree.new disk.new report.new clock.new) result }
 
     // How much of the output is kept, and nothing is written.
     ensures committed { IsCommand (texts words.now) Command.Committed → CommittedEnds D.meaning K.meaning disk.old report.old report.new result }
@@ -60,7 +62,7 @@ pub fn run_agent<T: Tree, D: Disk, S: Source, K: Sink>(
 
     // The lines of the control input, and nothing is written to the disk.
     ensures pipe { IsCommand (texts words.now) Command.Pipe
-        → PipeEnds D.meaning disk.old (S.meaning.rest control.old) (S.meaning.rest control.new) (K.meaning.written report.old) (K.meaning.written report.new) result }
+        → PipeEnds D.meaning C.meaning disk.old (pipe_moment (S.meaning.rest control.old) (K.meaning.written report.old) clock.old) (pipe_moment (S.meaning.rest control.new) (K.meaning.written report.new) clock.new) result }
     ensures pipe_only_read { IsCommand (texts words.now) Command.Pipe → OnlyRead D.meaning disk.old disk.new }
 
     // A demonstration in memory, in which the disk has no part.
@@ -91,10 +93,11 @@ pub fn run_agent<T: Tree, D: Disk, S: Source, K: Sink>(
     // Only what a command is for is touched.
     ensures control_untouched { (IsCommand (texts words.now) Command.Follow → ⊥) → (IsCommand (texts words.now) Command.Pipe → ⊥) → control.new ≡ control.old }
     ensures tree_untouched { (IsCommand (texts words.now) Command.Once → ⊥) → (IsCommand (texts words.now) Command.Follow → ⊥) → tree.new ≡ tree.old }
+    ensures clock_untouched { (IsCommand (texts words.now) Command.Once → ⊥) → (IsCommand (texts words.now) Command.Follow → ⊥) → (IsCommand (texts words.now) Command.Pipe → ⊥) → clock.new ≡ clock.old }
 {
     words_spell_one_command();
     match command_for(alloc, words) {
-        Ok(command) => run(alloc, command, tree, disk, control, report),
+        Ok(command) => run(alloc, command, tree, disk, control, report, clock),
         Err(fault) => refuse(alloc, fault, report),
     }
 }
@@ -112,26 +115,27 @@ fn command_for(alloc: Global, words: &[String]) -> Result<Command, Fault>
 }
 
 // Runs a command, and answers the exit status.
-fn run<T: Tree, D: Disk, S: Source, K: Sink>(
+fn run<T: Tree, D: Disk, S: Source, K: Sink, C: Clock>(
     alloc: Global,
     command: Command,
     tree: &mut T,
     disk: &mut D,
     control: &mut S,
     report: &mut K,
+    clock: &mut C,
 ) -> u8
     requires { (rounds : ℕ) → command ≡ Command.Demo rounds → rounds ≤ 1000 }
     ensures answers { IsStatus result }
     ensures no_usage { result ≡ 2 → ⊥ }
     ensures once { command ≡ Command.Once
-        → OnceEnds (meanings T.meaning D.meaning K.meaning) (moment tree.old disk.old report.old) (moment tree.new disk.new report.new) result }
+        → OnceEnds (meanings T.meaning D.meaning K.meaning C.meaning) (moment tree.old disk.old report.old clock.old) (moment tree.new disk.new report.new clock.new) result }
     ensures once_crash { command ≡ Command.Once → Passes D.meaning.images (GrowsBy 1) disk.old disk.new }
     ensures follow { command ≡ Command.Follow
-        → FollowEnds (meanings T.meaning D.meaning K.meaning) (S.meaning.rest control.old) (S.meaning.rest control.new) (moment tree.old disk.old report.old) (moment tree.new disk.new report.new) result }
+        → FollowEnds (meanings T.meaning D.meaning K.meaning C.meaning) (S.meaning.rest control.old) (S.meaning.rest control.new) (moment tree.old disk.old report.old clock.old) (moment tree.new disk.new report.new clock.new) result }
     ensures committed { command ≡ Command.Committed → CommittedEnds D.meaning K.meaning disk.old report.old report.new result }
     ensures only_read { command ≡ Command.Committed → OnlyRead D.meaning disk.old disk.new }
     ensures pipe { command ≡ Command.Pipe
-        → PipeEnds D.meaning disk.old (S.meaning.rest control.old) (S.meaning.rest control.new) (K.meaning.written report.old) (K.meaning.written report.new) result }
+        → PipeEnds D.meaning C.meaning disk.old (pipe_moment (S.meaning.rest control.old) (K.meaning.written report.old) clock.old) (pipe_moment (S.meaning.rest control.new) (K.meaning.written report.new) clock.new) result }
     ensures pipe_only_read { command ≡ Command.Pipe → OnlyRead D.meaning disk.old disk.new }
     ensures demo { (rounds : ℕ) → command ≡ Command.Demo rounds → DemoEnds rounds (K.meaning.written report.old) (K.meaning.written report.new) result }
     ensures demo_untouched { (rounds : ℕ) → command ≡ Command.Demo rounds → disk.new ≡ disk.old }
@@ -146,12 +150,13 @@ fn run<T: Tree, D: Disk, S: Source, K: Sink>(
     ensures control_taken { Told (TakesAtMost max_control) (S.meaning.rest control.old) (S.meaning.rest control.new) }
     ensures control_untouched { command ≢ Command.Follow → command ≢ Command.Pipe → control.new ≡ control.old }
     ensures tree_untouched { command ≢ Command.Once → command ≢ Command.Follow → tree.new ≡ tree.old }
+    ensures clock_untouched { command ≢ Command.Once → command ≢ Command.Follow → command ≢ Command.Pipe → clock.new ≡ clock.old }
 {
     match command {
-        Command::Once => once(alloc, tree, disk, report),
-        Command::Follow => follow(alloc, tree, disk, control, report),
+        Command::Once => once(alloc, tree, disk, report, clock),
+        Command::Follow => follow(alloc, tree, disk, control, report, clock),
         Command::Committed => committed(alloc, disk, report),
-        Command::Pipe => pipe(alloc, disk, control, report),
+        Command::Pipe => pipe(alloc, disk, control, report, clock),
         Command::Demo(rounds) => show_demo(alloc, rounds, report),
     }
 }

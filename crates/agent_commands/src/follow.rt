@@ -18,23 +18,23 @@ use crate::fault::Fault;
 use crate::opening::open_session;
 use crate::report::refuse;
 use crate::turn::turn;
-use outside::{Disk, Failed, Sink, Source, Tree};
+use outside::{Clock, Disk, Failed, Sink, Source, Tree};
 use poll_core::Session;
-use poll_core::laws::settings_give_one_set_of_rules;
 use std::alloc::Global;
 
 /// The most bytes of all control lines.
 const MAX_CONTROL: u64 = 1 << 40;
 
 /// Opens a session, serves the control lines, and answers the exit status.
-pub fn follow<T: Tree, D: Disk, S: Source, K: Sink>(
+pub fn follow<T: Tree, D: Disk, S: Source, K: Sink, C: Clock>(
     alloc: Global,
     tree: &mut T,
     disk: &mut D,
     control: &mut S,
     report: &mut K,
+    clock: &mut C,
 ) -> u8
-    ensures ends { FollowEnds (meanings T.meaning D.meaning K.meaning) (S.meaning.rest control.old) (S.meaning.rest control.new) (moment tree.old disk.old report.old) (moment tree.new disk.new report.new) result }
+    ensures ends { FollowEnds (meanings T.meaning D.meaning K.meaning C.meaning) (S.meaning.rest control.old) (S.meaning.rest control.new) (moment tree.old disk.old report.old clock.old) (moment tree.new disk.new report.new clock.new) result }
     ensures standing { Told (KeepsStanding D.meaning.images disk.old disk.new) (T.meaning.world tree.old) (T.meaning.world tree.new) }
     ensures control_failed { result ≡ 8 → Rose (S.meaning.faults control.old) (S.meaning.faults control.new) }
     ensures control_stood { result ≢ 8 → S.meaning.faults control.new ≡ S.meaning.faults control.old }
@@ -45,28 +45,28 @@ pub fn follow<T: Tree, D: Disk, S: Source, K: Sink>(
     ensures taken { Told (TakesAtMost max_control) (S.meaning.rest control.old) (S.meaning.rest control.new) }
     ensures control_long { result ≡ 15 → Told (TakesExactly max_control) (S.meaning.rest control.old) (S.meaning.rest control.new) }
 {
-    settings_give_one_set_of_rules();
     let session = match open_session(alloc, disk) {
         Ok(session) => session,
         Err(fault) => return refuse(alloc, fault, report),
     };
-    serve(alloc, session, tree, disk, control, report)
+    serve(alloc, session, tree, disk, control, report, clock)
 }
 
 // Serves control lines, until one of them ends the command.
-fn serve<T: Tree, D: Disk, S: Source, K: Sink>(
+fn serve<T: Tree, D: Disk, S: Source, K: Sink, C: Clock>(
     alloc: Global,
     session: Session,
     tree: &mut T,
     disk: &mut D,
     control: &mut S,
     report: &mut K,
+    clock: &mut C,
 ) -> u8
     requires session { IsSession session }
     requires stands { StandsOn D.meaning.images session disk.old }
-    ensures served { (begun : Moment T D K) → KeepsFrom (meanings T.meaning D.meaning K.meaning) (rules_of_session session) begun (moment tree.old disk.old report.old)
-        → IsServed (meanings T.meaning D.meaning K.meaning) begun session (S.meaning.rest control.old) (S.meaning.rest control.new) (moment tree.old disk.old report.old) (moment tree.new disk.new report.new) result }
-    ensures standing { Told (KeepsStandingSince D.meaning.images (rules_of_session session) disk.old disk.new) (T.meaning.world tree.old) (T.meaning.world tree.new) }
+    ensures served { (begun : Moment T D K C) → KeepsFrom (meanings T.meaning D.meaning K.meaning C.meaning) (rules_of_session session).front_size begun (moment tree.old disk.old report.old clock.old)
+        → IsServed (meanings T.meaning D.meaning K.meaning C.meaning) begun session (S.meaning.rest control.old) (S.meaning.rest control.new) (moment tree.old disk.old report.old clock.old) (moment tree.new disk.new report.new clock.new) result }
+    ensures standing { Told (KeepsStandingSince D.meaning.images (rules_of_session session).front_size disk.old disk.new) (T.meaning.world tree.old) (T.meaning.world tree.new) }
     ensures control_failed { result ≡ 8 → Rose (S.meaning.faults control.old) (S.meaning.faults control.new) }
     ensures control_stood { result ≢ 8 → S.meaning.faults control.new ≡ S.meaning.faults control.old }
     ensures disk_failed { result ≡ 7 → Rose (D.meaning.faults disk.old) (D.meaning.faults disk.new) }
@@ -84,7 +84,7 @@ fn serve<T: Tree, D: Disk, S: Source, K: Sink>(
         if !is_poll(request) {
             return stop(alloc, request, number, report);
         }
-        session = match turn(alloc, session, tree, disk, report) {
+        session = match turn(alloc, session, tree, disk, report, clock) {
             Ok(next) => next,
             Err(status) => return status,
         };

@@ -1,4 +1,4 @@
-//! The commands of the agent, over any tree of log files, disk, control input and report.
+//! The commands of the agent, over any tree of log files, disk, control input, report and clock.
 //!
 //! The contract for the layer above: [`run_agent`] is the whole program, and its contract is the product's promise: what each
 //! command does, with which status it ends and why, what it reports, and that whatever others do to the files meanwhile, and

@@ -11,18 +11,18 @@ ghost use Rattle.agent_commands.specs.Once.{OnceEnds};
 use crate::opening::open_session;
 use crate::report::refuse;
 use crate::turn::turn;
-use outside::{Disk, Sink, Tree};
-use poll_core::laws::settings_give_one_set_of_rules;
+use outside::{Clock, Disk, Sink, Tree};
 use std::alloc::Global;
 
 /// Opens a session, makes one poll and reports it, and answers the exit status.
-pub fn once<T: Tree, D: Disk, K: Sink>(
+pub fn once<T: Tree, D: Disk, K: Sink, C: Clock>(
     alloc: Global,
     tree: &mut T,
     disk: &mut D,
     report: &mut K,
+    clock: &mut C,
 ) -> u8
-    ensures ends { OnceEnds (meanings T.meaning D.meaning K.meaning) (moment tree.old disk.old report.old) (moment tree.new disk.new report.new) result }
+    ensures ends { OnceEnds (meanings T.meaning D.meaning K.meaning C.meaning) (moment tree.old disk.old report.old clock.old) (moment tree.new disk.new report.new clock.new) result }
     ensures crash { Passes D.meaning.images (GrowsBy 1) disk.old disk.new }
     ensures standing { Told (KeepsStanding D.meaning.images disk.old disk.new) (T.meaning.world tree.old) (T.meaning.world tree.new) }
     ensures disk_failed { result ≡ 7 → Rose (D.meaning.faults disk.old) (D.meaning.faults disk.new) }
@@ -30,12 +30,11 @@ pub fn once<T: Tree, D: Disk, K: Sink>(
     ensures report_failed { result ≡ 9 → Rose (K.meaning.faults report.old) (K.meaning.faults report.new) }
     ensures report_stood { result ≡ 0 → K.meaning.faults report.new ≡ K.meaning.faults report.old }
 {
-    settings_give_one_set_of_rules();
     let session = match open_session(alloc, disk) {
         Ok(session) => session,
         Err(fault) => return refuse(alloc, fault, report),
     };
-    if let Err(status) = turn(alloc, session, tree, disk, report) {
+    if let Err(status) = turn(alloc, session, tree, disk, report, clock) {
         return status;
     }
     0

@@ -1,4 +1,4 @@
-// One poll of a command, and its report.
+// One poll of a command at a reading of the clock, and its report.
 ghost use Rattle.std.specs.Prelude.{◌≡◌, ◌≢◌, Err, Some, IfOk, IfErr};
 ghost use Rattle.file_pass.specs.TreeTerms.{GoesLater};
 ghost use Rattle.outside.specs.Count.{Rose};
@@ -13,31 +13,34 @@ ghost use Rattle.agent_commands.specs.Cause.{HasDiskCause};
 ghost use Rattle.agent_commands.specs.Grows.{GrowsBy};
 ghost use Rattle.agent_commands.specs.Headline.{HoldsAll, KeepsFrom, StoodSince};
 ghost use Rattle.agent_commands.specs.Moment.{Moment, meanings, moment};
-ghost use Rattle.agent_commands.specs.Turn.{IsPollFault, IsTurnStatus, Stops, Turns};
+ghost use Rattle.agent_commands.specs.Turn.{IsAtReading, IsPollFault, IsTurnStatus, Stops, Turns};
 
 use crate::fault::Fault;
 use crate::report::{refuse, report_summary};
-use outside::{CallFault, Disk, Sink, Tree};
-use poll_core::laws::{a_complete_poll_reaches_all, a_session_polls_by_rules};
+use outside::{CallFault, Clock, Disk, Sink, Tree};
+use poll_core::laws::{
+    a_complete_poll_reaches_all, a_session_polls_by_rules, settings_give_one_set_of_rules,
+};
 use poll_core::{Session, Summary};
 use std::alloc::Global;
 
-/// Makes a poll and reports it. On Ok the session goes on; on Err the command ends with this status.
-pub fn turn<T: Tree, D: Disk, K: Sink>(
+/// Reads the clock, makes a poll at its time and reports it. On Ok the session goes on; on Err the command ends with this status.
+pub fn turn<T: Tree, D: Disk, K: Sink, C: Clock>(
     alloc: Global,
     session: Session,
     tree: &mut T,
     disk: &mut D,
     report: &mut K,
+    clock: &mut C,
 ) -> Result<Session, u8>
     requires session { IsSession session }
     requires stands { StandsOn D.meaning.images session disk.old }
     ensures session { IfOk result IsSession }
-    ensures turns { IfOk result (λ next. (begun : Moment T D K) → KeepsFrom (meanings T.meaning D.meaning K.meaning) (rules_of_session session) begun (moment tree.old disk.old report.old)
-        → Turns (meanings T.meaning D.meaning K.meaning) session begun next (moment tree.old disk.old report.old) (moment tree.new disk.new report.new)) }
-    ensures stops { IfErr result (λ status. Stops (meanings T.meaning D.meaning K.meaning) session status (moment tree.old disk.old report.old) (moment tree.new disk.new report.new)) }
+    ensures turns { IfOk result (λ next. (begun : Moment T D K C) → KeepsFrom (meanings T.meaning D.meaning K.meaning C.meaning) (rules_of_session session).front_size begun (moment tree.old disk.old report.old clock.old)
+        → Turns (meanings T.meaning D.meaning K.meaning C.meaning) session begun next (moment tree.old disk.old report.old clock.old) (moment tree.new disk.new report.new clock.new)) }
+    ensures stops { IfErr result (λ status. Stops (meanings T.meaning D.meaning K.meaning C.meaning) session status (moment tree.old disk.old report.old clock.old) (moment tree.new disk.new report.new clock.new)) }
     ensures crash { Passes D.meaning.images (GrowsBy 1) disk.old disk.new }
-    ensures standing { Told (KeepsStandingSince D.meaning.images (rules_of_session session) disk.old disk.new) (T.meaning.world tree.old) (T.meaning.world tree.new) }
+    ensures standing { Told (KeepsStandingSince D.meaning.images (rules_of_session session).front_size disk.old disk.new) (T.meaning.world tree.old) (T.meaning.world tree.new) }
     ensures later { Told GoesLater (T.meaning.world tree.old) (T.meaning.world tree.new) }
     ensures disk_failed { result ≡ Err 7 → Rose (D.meaning.faults disk.old) (D.meaning.faults disk.new) }
     ensures disk_stood { result ≢ Err 7 → D.meaning.faults disk.new ≡ D.meaning.faults disk.old }
@@ -45,6 +48,7 @@ pub fn turn<T: Tree, D: Disk, K: Sink>(
     ensures report_stood { IfOk result (λ next. K.meaning.faults report.new ≡ K.meaning.faults report.old) }
     ensures answers { IfErr result IsTurnStatus }
 {
+    let session = at_reading(session, clock);
     let (next, summary) = match poll(alloc, session, tree, disk) {
         Ok(done) => done,
         Err(fault) => return Err(refuse(alloc, fault, report)),
@@ -54,6 +58,16 @@ pub fn turn<T: Tree, D: Disk, K: Sink>(
         Err(CallFault::Failed) => Err(9),
         Err(CallFault::Memory) => Err(10),
     }
+}
+
+// The session at the time that the clock gives.
+fn at_reading<C: Clock>(session: Session, clock: &mut C) -> Session
+    ensures session { IsSession session → IsSession result }
+    ensures at { IsAtReading C.meaning session result clock.old clock.new }
+{
+    let mut session = session;
+    session.at(clock.now());
+    session
 }
 
 // Makes a poll.
@@ -68,14 +82,15 @@ fn poll<T: Tree, D: Disk>(
     ensures session { IfOk result (λ done. IsSession done.0) }
     ensures polled { IfOk result (λ done. Polled T.meaning D.meaning session done.0 done.1 tree.old tree.new disk.old disk.new) }
     ensures whole { IfOk result (λ done. (first : World) → T.meaning.world tree.old ≡ Some first
-        → Told (HoldsAll session (checkpoint_of_session done.0) done.1 (StoodSince D.meaning.images (rules_of_session session) first.history disk.old disk.old))
+        → Told (HoldsAll session (checkpoint_of_session done.0) done.1 (StoodSince D.meaning.images first.history disk.old disk.old))
         (T.meaning.world tree.old) (T.meaning.world tree.new)) }
     ensures fault { IfErr result (IsPollFault T.meaning session tree.old tree.new) }
     ensures crash { Passes D.meaning.images (GrowsBy 1) disk.old disk.new }
-    ensures standing { Told (KeepsStandingSince D.meaning.images (rules_of_session session) disk.old disk.new) (T.meaning.world tree.old) (T.meaning.world tree.new) }
+    ensures standing { Told (KeepsStandingSince D.meaning.images (rules_of_session session).front_size disk.old disk.new) (T.meaning.world tree.old) (T.meaning.world tree.new) }
     ensures later { Told GoesLater (T.meaning.world tree.old) (T.meaning.world tree.new) }
     ensures cause { HasDiskCause result (D.meaning.faults disk.old) (D.meaning.faults disk.new) }
 {
+    settings_give_one_set_of_rules();
     a_session_polls_by_rules(&session);
     a_complete_poll_reaches_all();
     Ok(session.poll(alloc, tree, disk)?)

@@ -1,5 +1,5 @@
 -- One more change and a new checkpoint, from the bytes that are written.
-use Rattle.std.proofs.Common.{◌≡◌, ℕ, ◌+◌, List, [], ◌++◌, ◌∷◌, Option, Some, None, refl, sym, subst, inl, inr}
+use Rattle.std.proofs.Common.{◌≡◌, ℕ, List, [], ◌++◌, ◌∷◌, Option, Some, None, refl, sym, ap, ◌∙◌, subst, inl, inr, arith}
 use Rattle.outside.proofs.Passing.{passes_weaker}
 use Rattle.outside.specs.Crash.{Passes}
 use Rattle.outside.specs.Image.{Image}
@@ -9,13 +9,15 @@ use Rattle.slot_store.specs.Synced.{EachLeft, LeavesChanged}
 use Rattle.record_log.specs.Appended as bytes
 use Rattle.record_log.specs.LogOf as bytes_of
 use Rattle.record_log.specs.declared.log.Log.{Log}
+use Rattle.checkpoint_store.specs.Changed.{changed}
+use Rattle.checkpoint_store.specs.Limits.{newest}
 use Rattle.checkpoint_store.specs.Rules.{IsCheckpoint}
 use Rattle.checkpoint_store.specs.Spelling.{change_spelling, checkpoint_spelling}
 use Rattle.checkpoint_store.specs.declared.Change.{Change}
 use Rattle.checkpoint_store.specs.declared.Checkpoint.{Checkpoint}
 use Rattle.checkpoint_journal.proofs.SaysLemmas.{says_changed}
 use Rattle.checkpoint_journal.specs.JournalOf.{log_of, EndsWith}
-use Rattle.checkpoint_journal.specs.Says.{no_change}
+use Rattle.checkpoint_journal.specs.Says.{no_change, Says}
 use Rattle.checkpoint_journal.specs.Written.{KeepsJournal, GainsChange, Appends, log_before, started, StandsIn, KeepsOld, Rewrites}
 use Rattle.checkpoint_journal.specs.declared.journal.Journal.{Journal}
 
@@ -34,30 +36,35 @@ keeps_journal journal old new keeps checkpoint has = record {
   base = has.base;
   records = has.records;
   log_is = keeps has.base has.records has.log_is;
-  version_is = has.version_is;
   says = has.says;
 }
 
-pub gains_change : (journal : Journal) (change : Change) (payload : List ℕ) (old new : Image DiskFile) → payload ≡ change_spelling change → bytes.GainsRecord (log_of journal) payload old new → GainsChange journal change old new
-gains_change journal change payload old new same gains checkpoint has fits =
-    let gained : bytes.GainsRecord (log_of journal) (change_spelling change) old new = subst (λ list. bytes.GainsRecord (log_of journal) list old new) same gains in
+-- the payload is the spelling of the change, and the base is of the version by which it is spelled
+pub record IsSpelled (journal : Journal) (change : Change) (payload : List ℕ) : Type 0 where
+  pub newest_is : journal.version ≡ newest
+  pub payload_is : payload ≡ change_spelling newest change
+
+pub gains_change : (journal : Journal) (change : Change) (payload : List ℕ) (old new : Image DiskFile) → IsSpelled journal change payload → bytes.GainsRecord (log_of journal) payload old new → GainsChange journal change old new
+gains_change journal change payload old new spelled gains checkpoint has fits =
+    let gained : bytes.GainsRecord (log_of journal) (change_spelling newest change) old new = subst (λ list. bytes.GainsRecord (log_of journal) list old new) spelled.payload_is gains in
+    let said : Says newest has.base has.records checkpoint = subst (λ (version : ℕ). Says version has.base has.records checkpoint) spelled.newest_is has.says in
+    let records = has.records ++ change_spelling newest change ∷ [] in
     record {
       journal_is = record {
         base = has.base;
-        records = has.records ++ change_spelling change ∷ [];
+        records = records;
         log_is = gained.log_is has.base has.records has.log_is;
-        version_is = has.version_is;
-        says = says_changed has.base has.records checkpoint change has.says fits;
+        says = subst (λ (version : ℕ). Says version has.base records (changed checkpoint change)) (sym spelled.newest_is) (says_changed newest has.base has.records checkpoint change said fits);
       };
       ends = gained.ends;
     }
 
-pub appends_change : (journal : Journal) (change : Change) (payload : List ℕ) (old new : Image DiskFile) → payload ≡ change_spelling change → bytes.Appends (log_of journal) payload old new → Appends journal change old new
-appends_change journal change payload old new same appends = record {
+pub appends_change : (journal : Journal) (change : Change) (payload : List ℕ) (old new : Image DiskFile) → IsSpelled journal change payload → bytes.Appends (log_of journal) payload old new → Appends journal change old new
+appends_change journal change payload old new spelled appends = record {
   others = appends.others;
   choice = elim appends.choice [
     | inl keeps ↦ inl (keeps_journal journal old new keeps)
-    | inr gains ↦ inr (gains_change journal change payload old new same gains)
+    | inr gains ↦ inr (gains_change journal change payload old new spelled gains)
   ];
 }
 
@@ -74,21 +81,25 @@ pub keeps_old : (before : Option Journal) (old new : Image DiskFile) → bytes.K
 keeps_old None old new keeps = keeps
 keeps_old (Some journal) old new keeps = keeps_journal journal old new keeps
 
-pub is_rewritten : (before : Option Journal) (checkpoint : Checkpoint) (payload : List ℕ) (image : Image DiskFile) → IsCheckpoint checkpoint → payload ≡ checkpoint_spelling checkpoint → bytes.IsRewritten (log_before before) payload image → EndsWith (started before checkpoint) checkpoint image
+pub is_rewritten : (before : Option Journal) (checkpoint : Checkpoint) (payload : List ℕ) (image : Image DiskFile) → IsCheckpoint newest checkpoint → payload ≡ checkpoint_spelling newest checkpoint → bytes.IsRewritten (log_before before) payload image → EndsWith (started before checkpoint) checkpoint image
 is_rewritten before checkpoint payload image lawful same rewritten =
-    let written : bytes.IsRewritten (log_before before) (checkpoint_spelling checkpoint) image = subst (λ list. bytes.IsRewritten (log_before before) list image) same rewritten in
+    let written : bytes.IsRewritten (log_before before) (checkpoint_spelling newest checkpoint) image = subst (λ list. bytes.IsRewritten (log_before before) list image) same rewritten in
     record {
       journal_is = record {
-        base = checkpoint_spelling checkpoint;
+        base = checkpoint_spelling newest checkpoint;
         records = [];
         log_is = written.log_is;
-        version_is = refl;
-        says = record { first = checkpoint; base_is = record { lawful = lawful; spelled = refl }; changes = no_change checkpoint };
+        says = record {
+          first = checkpoint;
+          base_is = record { version = newest; known = (omega arith, omega arith); lawful = lawful; spelled = refl };
+          version_is = refl;
+          changes = no_change checkpoint;
+        };
       };
       ends = written.ends;
     }
 
-pub rewrites : (before : Option Journal) (checkpoint : Checkpoint) (payload : List ℕ) (old new : Image DiskFile) → IsCheckpoint checkpoint → payload ≡ checkpoint_spelling checkpoint → bytes.Rewrites (log_before before) payload old new → Rewrites before checkpoint old new
+pub rewrites : (before : Option Journal) (checkpoint : Checkpoint) (payload : List ℕ) (old new : Image DiskFile) → IsCheckpoint newest checkpoint → payload ≡ checkpoint_spelling newest checkpoint → bytes.Rewrites (log_before before) payload old new → Rewrites before checkpoint old new
 rewrites before checkpoint payload old new lawful same written = record {
   others = written.others;
   choice = elim written.choice [
@@ -99,14 +110,18 @@ rewrites before checkpoint payload old new lawful same written = record {
 
 -- ---- the same over all images, from what was handed to the calls
 
+-- what was put into an empty list is all of it
+pub put_alone : (spelling start out given : List ℕ) → start ≡ [] → out ≡ start ++ spelling → given ≡ out → given ≡ spelling
+put_alone spelling start out given empty put same = same ∙ put ∙ ap (λ items. items ++ spelling) empty
+
 -- the log and the payload that an append hands on
 pub record IsAppend (journal : Journal) (change : Change) (log : Log) (payload : List ℕ) : Type 0 where
   pub log_is : log ≡ log_of journal
-  pub payload_is : payload ≡ change_spelling change
+  pub spelled : IsSpelled journal change payload
 
 module _ {D : Type 0} {images : Images DiskFile D} {old new : D} (journal : Journal) (change : Change) (log : Log) (payload : List ℕ) (terms : IsAppend journal change log payload) where
   pub append_passes : Passes images (bytes.Appends log payload) old new → Passes images (Appends journal change) old new
-  append_passes passes = passes_weaker passes (λ x y step. appends_change journal change payload x y terms.payload_is (subst (λ (one : Log). bytes.Appends one payload x y) terms.log_is step))
+  append_passes passes = passes_weaker passes (λ x y step. appends_change journal change payload x y terms.spelled (subst (λ (one : Log). bytes.Appends one payload x y) terms.log_is step))
 
   pub append_keeps : Passes images (bytes.KeepsLog log) old new → Passes images (KeepsJournal journal) old new
   append_keeps passes = passes_weaker passes (λ x y step. keeps_journal journal x y (subst (λ (one : Log). bytes.KeepsLog one x y) terms.log_is step))
@@ -115,14 +130,14 @@ module _ {D : Type 0} {images : Images DiskFile D} {old new : D} (journal : Jour
   append_leaves leaves = record {
     each = λ image left.
         let past = leaves.each image left in
-        (past.0, past.1, gains_change journal change payload past.0 image terms.payload_is (subst (λ (one : Log). bytes.GainsRecord one payload past.0 image) terms.log_is past.2));
+        (past.0, past.1, gains_change journal change payload past.0 image terms.spelled (subst (λ (one : Log). bytes.GainsRecord one payload past.0 image) terms.log_is past.2));
   }
 
 -- the log and the payload that a rewrite hands on
 pub record IsRewrite (before : Option Journal) (checkpoint : Checkpoint) (log : Option Log) (payload : List ℕ) : Type 0 where
-  pub lawful : IsCheckpoint checkpoint
+  pub lawful : IsCheckpoint newest checkpoint
   pub log_is : log ≡ log_before before
-  pub payload_is : payload ≡ checkpoint_spelling checkpoint
+  pub payload_is : payload ≡ checkpoint_spelling newest checkpoint
 
 pub rewrite_stands : {D : Type 0} {images : Images DiskFile D} {disk : D} (before : Option Journal) (checkpoint : Checkpoint) (log : Option Log) (payload : List ℕ) → IsRewrite before checkpoint log payload → EachLeft images disk (StandsIn before) → EachLeft images disk (bytes.StandsIn log)
 rewrite_stands {images = images} {disk = disk} before checkpoint log payload terms stands = subst (λ (one : Option Log). EachLeft images disk (bytes.StandsIn one)) (sym terms.log_is) (logs_stand before stands)

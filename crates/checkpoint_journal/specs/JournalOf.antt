@@ -1,5 +1,5 @@
 -- The journal of an image, and its checkpoint.
-use Rattle.std.specs.Prelude.{◌≡◌, ℕ, List, length, map, slice_index, Option, Some, None}
+use Rattle.std.specs.Prelude.{◌≡◌, ℕ, List, length, map, Option, Some, None}
 use Rattle.outside.specs.Image.{Image}
 use Rattle.outside.specs.declared.disk.DiskFile.{DiskFile}
 use Rattle.slot_store.specs.ChosenSlot.{chosen_slot}
@@ -18,13 +18,13 @@ log_of journal = record { slot = journal.slot; end = journal.end; sequence = jou
 abbrev pub journal_of : Log → ℕ → Journal
 journal_of log version = record { slot = log.slot; end = log.end; sequence = log.sequence; version = version }
 
--- The image has this journal, and it makes this checkpoint: the base, changed by the records in turn.
+-- The image has this journal, and it makes this checkpoint: the base, which is of the journal's version, changed by the
+-- records in turn.
 pub record HasJournal (journal : Journal) (checkpoint : Checkpoint) (image : Image DiskFile) : Type 0 where
   pub base : List ℕ
   pub records : List (List ℕ)
   pub log_is : HasLog (log_of journal) base records image
-  pub version_is : slice_index base 0 ≡ journal.version
-  pub says : Says base records checkpoint
+  pub says : Says journal.version base records checkpoint
 
 -- Besides, the chosen file ends with the journal.
 pub record EndsWith (journal : Journal) (checkpoint : Checkpoint) (image : Image DiskFile) : Type 0 where
@@ -56,5 +56,4 @@ FoundIn (Some found) image = HasJournal found.0 found.1 image
 -- what the bytes of a log say
 pub record IsUnderstood (contents : Contents) (journal : Journal) (checkpoint : Checkpoint) : Type 0 where
   pub log_is : log_of journal ≡ contents.log
-  pub version_is : slice_index contents.base.items 0 ≡ journal.version
-  pub says : Says contents.base.items (map (λ payload. payload.items) contents.records.items) checkpoint
+  pub says : Says journal.version contents.base.items (map (λ payload. payload.items) contents.records.items) checkpoint

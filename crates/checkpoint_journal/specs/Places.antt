@@ -10,15 +10,15 @@ use Rattle.checkpoint_journal.specs.declared.fault.JournalFault.{JournalFault}
 use Rattle.checkpoint_journal.specs.declared.fault.JournalFault.TheVariants as journal
 
 -- the first record begins at this place
-pub record FailsBehind (begin : ℕ) (first : Checkpoint) (records : List (List ℕ)) (at : ℕ) : Type 0 where
+pub record FailsBehind (version begin : ℕ) (first : Checkpoint) (records : List (List ℕ)) (at : ℕ) : Type 0 where
   pub fault : ℕ
-  pub fails : FailsIn first records fault
+  pub fails : FailsIn version first records fault
   pub place : at ≡ begin + fault
 
 -- the payload begins at this place
-pub record NoChangeAt (start : ℕ) (before : Checkpoint) (payload : List ℕ) (at : ℕ) : Type 0 where
+pub record NoChangeAt (version start : ℕ) (before : Checkpoint) (payload : List ℕ) (at : ℕ) : Type 0 where
   pub fault : ℕ
-  pub fails : SpellsNoChange before payload fault
+  pub fails : SpellsNoChange version before payload fault
   pub place : at ≡ start + fault
 
 -- how a fault is told in bytes that begin at this place; no place is past the last number

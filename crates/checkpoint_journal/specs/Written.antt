@@ -9,22 +9,22 @@ use Rattle.record_log.specs.Appended.{slot_before}
 use Rattle.record_log.specs.declared.log.Log.{Log}
 use Rattle.checkpoint_store.specs.Changed.{changed}
 use Rattle.checkpoint_store.specs.Fits.{Fits}
+use Rattle.checkpoint_store.specs.Limits.{newest}
 use Rattle.checkpoint_store.specs.Spelling.{change_spelling, checkpoint_spelling}
 use Rattle.checkpoint_store.specs.declared.Change.{Change}
 use Rattle.checkpoint_store.specs.declared.Checkpoint.{Checkpoint}
 use Rattle.checkpoint_journal.specs.JournalOf.{log_of, HasJournal, EndsWith}
 use Rattle.checkpoint_journal.specs.declared.journal.Journal.{Journal}
-use Rattle.checkpoint_journal.specs.declared.journal.TheConstants.{NEWEST_VERSION}
 
 -- The image has this journal, its file ends with it, and the change fits its checkpoint.
 pub record Awaits (journal : Journal) (change : Change) (image : Image DiskFile) : Type 0 where
   pub checkpoint : Checkpoint
   pub stands : EndsWith journal checkpoint image
-  pub fits : Fits checkpoint change
+  pub fits : Fits newest checkpoint change
 
--- the journal with one more change
+-- the journal with one more change, which is written by the newest version
 abbrev pub appended : Journal → Change → Journal
-appended journal change = record journal { end = journal.end + 17 + length (change_spelling change); sequence = journal.sequence + 1 }
+appended journal change = record journal { end = journal.end + 17 + length (change_spelling newest change); sequence = journal.sequence + 1 }
 
 -- the journal stays, whatever it makes
 abbrev pub KeepsJournal : Journal → Image DiskFile → Image DiskFile → Type 0
@@ -32,7 +32,7 @@ KeepsJournal journal old new = (checkpoint : Checkpoint) → HasJournal journal 
 
 -- The journal has the change behind it, which makes of the checkpoint before what it is to make.
 abbrev pub GainsChange : Journal → Change → Image DiskFile → Image DiskFile → Type 0
-GainsChange journal change old new = (checkpoint : Checkpoint) → HasJournal journal checkpoint old → Fits checkpoint change → EndsWith (appended journal change) (changed checkpoint change) new
+GainsChange journal change old new = (checkpoint : Checkpoint) → HasJournal journal checkpoint old → Fits newest checkpoint change → EndsWith (appended journal change) (changed checkpoint change) new
 
 -- The journal is the old one or has the change, and each other file stands.
 pub record Appends (journal : Journal) (change : Change) (old new : Image DiskFile) : Type 0 where
@@ -48,11 +48,11 @@ log_before (Some journal) = Some (log_of journal)
 abbrev pub written_file : Option Journal → DiskFile
 written_file before = free_file (slot_before (log_before before))
 
--- the journal of a checkpoint alone
+-- the journal of a checkpoint alone, which is written by the newest version
 abbrev pub started : Option Journal → Checkpoint → Journal
 started before checkpoint =
-    let slot = next_slot (slot_before (log_before before)) (checkpoint_spelling checkpoint) in
-    record { slot = slot; end = length (checkpoint_spelling checkpoint) + 17; sequence = slot.sequence; version = NEWEST_VERSION }
+    let slot = next_slot (slot_before (log_before before)) (checkpoint_spelling newest checkpoint) in
+    record { slot = slot; end = length (checkpoint_spelling newest checkpoint) + 17; sequence = slot.sequence; version = newest }
 
 -- The image has this journal, with which its file ends, or no slot is open.
 abbrev pub StandsIn : Option Journal → Image DiskFile → Type 0

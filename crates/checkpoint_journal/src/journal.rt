@@ -8,6 +8,7 @@ ghost use Rattle.slot_store.specs.Counted.{HasDone, DoneFewer, HasWritten};
 ghost use Rattle.slot_store.specs.Frame.{last_number};
 ghost use Rattle.slot_store.specs.OnlyRead.{KeepsTerms};
 ghost use Rattle.slot_store.specs.Synced.{EachLeft, LeavesChanged};
+ghost use Rattle.checkpoint_store.specs.Limits.{newest};
 ghost use Rattle.checkpoint_store.specs.Spelling.{change_spelling};
 
 use checkpoint_store::{Change, encode_change};
@@ -16,11 +17,8 @@ use record_log::Log;
 use slot_store::{CommitFault, Slot};
 use std::alloc::Global;
 
-/// The version of the checkpoints that are written.
-pub const NEWEST_VERSION: u8 = 1;
-
 /// Where a journal stands: its slot, the place behind its last record, the last sequence number, and the version of its
-/// base, which is the base's first byte.
+/// base, which is the base's first byte and by which its changes are spelled.
 #[derive(Clone, Copy, Debug, PartialEq, Eq)]
 pub struct Journal {
     pub slot: Slot,
@@ -35,7 +33,7 @@ impl Journal {
     ghost use Rattle.checkpoint_journal.specs.Written.{Awaits, appended, KeepsJournal, GainsChange, Appends};
 
     /// Adds a change behind the others. Each image has this journal, its file ends with it, and the change fits its
-    /// checkpoint. A base of an older version has to be rewritten first.
+    /// checkpoint. Only the newest version is written, so a journal over an older base has to be rewritten.
     ///
     /// At each moment a crash leaves the checkpoint as it was or changed, and after Ok changed. Where fewer than four
     /// calls on the disk succeeded it leaves the checkpoint as it was. After a fault the disk is to be read again.
@@ -46,9 +44,9 @@ impl Journal {
         change: &Change,
     ) -> Result<Journal, CommitFault>
         requires file { IsSlotFile self.slot.file }
-        requires newest { self.version ≡ NEWEST_VERSION }
+        requires newest { self.version ≡ newest }
         requires stands { EachLeft D.meaning.images disk.old (Awaits self change.now) }
-        requires ends { self.end + 17 + length (change_spelling change.now) ≤ last_number }
+        requires ends { self.end + 17 + length (change_spelling newest change.now) ≤ last_number }
         ensures journal { IfOk result (λ journal. journal ≡ appended self change.now) }
         ensures file { IfOk result (λ journal. IsSlotFile journal.slot.file) }
 
@@ -64,7 +62,7 @@ impl Journal {
         ensures worn_only { (sequence : ℕ) → result ≡ Err (CommitFault.Worn sequence) → (sequence ≡ last_number) × (disk.new ≡ disk.old) }
         ensures cause { HasCommitCause result (D.meaning.faults disk.old) (D.meaning.faults disk.new) }
         ensures done { HasDone result 6 (D.meaning.done disk.old) (D.meaning.done disk.new) }
-        ensures counted { HasWritten result self.slot.file (length (change_spelling change.now) + 18) (D.meaning.written disk.old) (D.meaning.written disk.new) }
+        ensures counted { HasWritten result self.slot.file (length (change_spelling newest change.now) + 18) (D.meaning.written disk.old) (D.meaning.written disk.new) }
         ensures terms { KeepsTerms D.meaning disk.old disk.new }
     {
         has_next(self.sequence)?;

@@ -6,7 +6,8 @@ ghost use Rattle.slot_store.specs.ChosenSlot.{chosen_slot};
 ghost use Rattle.slot_store.specs.Frame.{last_number};
 ghost use Rattle.checkpoint_store.specs.Changed.{changed};
 ghost use Rattle.checkpoint_store.specs.Fits.{Fits};
-ghost use Rattle.checkpoint_store.specs.Rules.{IsCheckpoint};
+ghost use Rattle.checkpoint_store.specs.Limits.{newest};
+ghost use Rattle.checkpoint_store.specs.Rules.{IsVersion, IsCheckpoint};
 ghost use Rattle.checkpoint_store.specs.Spelling.{row_spelling, change_spelling, checkpoint_spelling};
 ghost use Rattle.checkpoint_store.specs.declared.Change.{Change};
 ghost use Rattle.checkpoint_store.specs.declared.Checkpoint.{Checkpoint};
@@ -14,14 +15,19 @@ ghost use Rattle.checkpoint_journal.specs.JournalOf.{HasJournal, EndsWith, HasCh
 ghost use Rattle.checkpoint_journal.specs.Written.{Appends, StandsIn, Rewrites};
 ghost use Rattle.checkpoint_journal.specs.declared.journal.Journal.{Journal};
 
-/// An image has one journal at most, with one checkpoint, which keeps the rules.
+/// An image has one journal at most, with one checkpoint. Its base is of a version that is known, and the checkpoint keeps
+/// the rules of that version, so those of the newest, by which it can be rewritten.
 pub fn an_image_has_one_journal()
     ensures journal { (image : Image DiskFile) (journal other : Journal) (checkpoint other_checkpoint : Checkpoint)
         → HasJournal journal checkpoint image → HasJournal other other_checkpoint image → other ≡ journal }
     ensures checkpoint { (image : Image DiskFile) (journal other : Journal) (checkpoint other_checkpoint : Checkpoint)
         → HasJournal journal checkpoint image → HasJournal other other_checkpoint image → other_checkpoint ≡ checkpoint }
+    ensures version { (image : Image DiskFile) (journal : Journal) (checkpoint : Checkpoint)
+        → HasJournal journal checkpoint image → IsVersion journal.version }
     ensures lawful { (image : Image DiskFile) (journal : Journal) (checkpoint : Checkpoint)
-        → HasJournal journal checkpoint image → IsCheckpoint checkpoint }
+        → HasJournal journal checkpoint image → IsCheckpoint journal.version checkpoint }
+    ensures newest { (image : Image DiskFile) (journal : Journal) (checkpoint : Checkpoint)
+        → HasJournal journal checkpoint image → IsCheckpoint newest checkpoint }
 {}
 
 /// An image that has no reading from some byte on has that one place, an open slot, and no journal.
@@ -51,20 +57,20 @@ pub fn what_a_journal_stands_on()
 /// rewrite may leave has the old checkpoint or the new.
 pub fn the_checkpoint_is_old_or_new()
     ensures append { (journal : Journal) (change : Change) (checkpoint : Checkpoint) (old new : Image DiskFile)
-        → Appends journal change old new → HasJournal journal checkpoint old → Fits checkpoint change
+        → Appends journal change old new → HasJournal journal checkpoint old → Fits newest checkpoint change
         → HasCheckpoint (Some checkpoint) new ⊎ HasCheckpoint (Some (changed checkpoint change)) new }
     ensures rewrite { (before : Option Journal) (checkpoint : Checkpoint) (found : Option Checkpoint) (old new : Image DiskFile)
         → Rewrites before checkpoint old new → StandsIn before old → HasCheckpoint found old
         → HasCheckpoint found new ⊎ HasCheckpoint (Some checkpoint) new }
 {}
 
-/// No spelling of a checkpoint, or of a change that fits one, takes more than 2^52 bytes.
+/// No spelling of a checkpoint takes more than 2^52 bytes, and none of a change that fits one more than 2^53.
 pub fn spellings_are_short()
-    ensures checkpoint { (checkpoint : Checkpoint) → IsCheckpoint checkpoint → length (checkpoint_spelling checkpoint) ≤ 2 ^ 52 }
-    ensures change { (before : Checkpoint) (change : Change) → Fits before change → length (change_spelling change) ≤ 2 ^ 52 }
+    ensures checkpoint { (version : ℕ) (checkpoint : Checkpoint) → IsCheckpoint version checkpoint → length (checkpoint_spelling version checkpoint) ≤ 2 ^ 52 }
+    ensures change { (version : ℕ) (before : Checkpoint) (change : Change) → Fits version before change → length (change_spelling version change) ≤ 2 ^ 53 }
 {}
 
 /// What an append gives to writes is little beside the rows that changed.
 pub fn changes_cost_little()
-    ensures { (change : Change) → length (change_spelling change) + 18 ≤ 64 + sum_by (λ row. 16 + length (row_spelling row)) change.rows }
+    ensures { (version : ℕ) (change : Change) → length (change_spelling version change) + 18 ≤ 64 + sum_by (λ row. 16 + length (row_spelling version row)) change.rows }
 {}

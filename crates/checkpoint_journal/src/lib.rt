@@ -3,6 +3,9 @@
 //! A journal is a log whose base is the spelling of a checkpoint, and each of whose records is the spelling of a change
 //! that fits what stands before it. So a poll writes what it changed, and the whole checkpoint only now and then.
 //!
+//! The base may be of any version that can be read, and each change behind it is spelled by that version. Only the newest
+//! version is written: a change is appended under a base of the newest alone, and a journal over an older base is rewritten.
+//!
 //! The contract for the layer above: an image has at most one journal and one checkpoint (`HasJournal`). [`peek`] answers
 //! those of what reads give, or the first byte that has no reading. At each moment of [`Journal::append`] a crash leaves
 //! the checkpoint before the change or the one after it, and at each moment of [`rewrite`] the old checkpoint or the new;
@@ -18,6 +21,6 @@ mod reading;
 mod rewriting;
 
 pub use fault::JournalFault;
-pub use journal::{Journal, NEWEST_VERSION};
+pub use journal::Journal;
 pub use peeking::peek;
 pub use rewriting::rewrite;

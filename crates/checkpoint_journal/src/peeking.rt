@@ -4,7 +4,7 @@ ghost use Rattle.slot_store.specs.ChosenSlot.{IsSlotFile};
 ghost use Rattle.slot_store.specs.Frame.{last_number};
 ghost use Rattle.slot_store.specs.OnlyRead.{OnlyRead};
 ghost use Rattle.record_log.specs.LogOf.{log_size};
-ghost use Rattle.checkpoint_store.specs.Rules.{IsCheckpoint};
+ghost use Rattle.checkpoint_store.specs.Rules.{IsVersion, IsCheckpoint};
 ghost use Rattle.checkpoint_journal.specs.JournalCause.{HasJournalCause};
 ghost use Rattle.checkpoint_journal.specs.JournalOf.{FoundIn, IsBadAt, IsUnderstood};
 ghost use Rattle.checkpoint_journal.specs.Says.{Fails};
@@ -26,7 +26,8 @@ pub fn peek<D: Disk>(
     ensures bad { (at : ℕ) → result ≡ Err (JournalFault.Bad at) → IsTrue (D.meaning.images.tells disk.old)
         → IsBadAt at (D.meaning.images.seen disk.old) }
     ensures file { IfOk result (λ found. IfSome found (λ found. IsSlotFile found.0.slot.file)) }
-    ensures lawful { IfOk result (λ found. IfSome found (λ found. IsCheckpoint found.1)) }
+    ensures version { IfOk result (λ found. IfSome found (λ found. IsVersion found.0.version)) }
+    ensures lawful { IfOk result (λ found. IfSome found (λ found. IsCheckpoint found.0.version found.1)) }
     ensures short { IfOk result (λ found. IfSome found (λ found. found.0.slot.length ≤ 2 ^ 52)) }
     ensures only_read { OnlyRead D.meaning disk.old disk.new }
     ensures cause { HasJournalCause result (D.meaning.faults disk.old) (D.meaning.faults disk.new) }
@@ -40,7 +41,8 @@ pub fn peek<D: Disk>(
 // The journal of these bytes and its checkpoint.
 fn understood(alloc: Global, contents: Contents) -> Result<(Journal, Checkpoint), JournalFault>
     requires { contents.log.slot.length ≡ length contents.base.items }
-    ensures lawful { IfOk result (λ found. IsCheckpoint found.1) }
+    ensures version { IfOk result (λ found. IsVersion found.0.version) }
+    ensures lawful { IfOk result (λ found. IsCheckpoint found.0.version found.1) }
     ensures short { IfOk result (λ found. found.0.slot.length ≤ 2 ^ 52) }
     ensures understood { IfOk result (λ found. IsUnderstood contents found.0 found.1) }
     ensures bad { (at : ℕ) → result ≡ Err (JournalFault.Bad at)

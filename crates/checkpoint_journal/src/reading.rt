@@ -20,7 +20,7 @@ pub fn checkpoint_of(
     base: &[u8],
     records: &[Vec<u8>],
 ) -> Result<Checkpoint, JournalFault>
-    ensures says { IfOk result (λ checkpoint. Says base.now (map (λ payload. payload.items) records.now) checkpoint) }
+    ensures says { IfOk result (λ checkpoint. Says (slice_index base.now 0) base.now (map (λ payload. payload.items) records.now) checkpoint) }
     ensures bad { (at : ℕ) → result ≡ Err (JournalFault.Bad at) → log_size base.now (map (λ payload. payload.items) records.now) ≤ last_number
         → Fails base.now (map (λ payload. payload.items) records.now) at }
     ensures no_disk { result ≢ Err JournalFault.Disk }
@@ -52,7 +52,7 @@ fn first_of(alloc: Global, base: &[u8]) -> Result<Checkpoint, JournalFault>
     }
 }
 
-// What the records make of a checkpoint. The first of them begins at this place.
+// What the records under a base of this version make of a checkpoint. The first of them begins at this place.
 fn with_changes(
     alloc: Global,
     version: u8,
@@ -61,10 +61,10 @@ fn with_changes(
     records: &[Vec<u8>],
 ) -> Result<Checkpoint, JournalFault>
     requires { IsVersion version }
-    ensures changes { IfOk result (λ checkpoint. AreChanges first (map (λ payload. payload.items) records.now) checkpoint) }
+    ensures changes { IfOk result (λ checkpoint. AreChanges version first (map (λ payload. payload.items) records.now) checkpoint) }
     ensures bad { (at : ℕ) → result ≡ Err (JournalFault.Bad at)
         → begin + sum_by (λ payload. length payload + 17) (map (λ payload. payload.items) records.now) ≤ last_number
-        → FailsBehind begin first (map (λ payload. payload.items) records.now) at }
+        → FailsBehind version begin first (map (λ payload. payload.items) records.now) at }
     ensures no_disk { result ≢ Err JournalFault.Disk }
 {
     let mut checkpoint = first;
@@ -77,7 +77,7 @@ fn with_changes(
     Ok(checkpoint)
 }
 
-// What one record makes of a checkpoint. Its payload begins at this place.
+// What one record under a base of this version makes of a checkpoint. Its payload begins at this place.
 fn changed(
     alloc: Global,
     version: u8,
@@ -86,8 +86,8 @@ fn changed(
     payload: &[u8],
 ) -> Result<Checkpoint, JournalFault>
     requires { IsVersion version }
-    ensures changed { IfOk result (λ after. SpellsChange before payload.now after) }
-    ensures bad { (at : ℕ) → result ≡ Err (JournalFault.Bad at) → start + length payload.now ≤ last_number → NoChangeAt start before payload.now at }
+    ensures changed { IfOk result (λ after. SpellsChange version before payload.now after) }
+    ensures bad { (at : ℕ) → result ≡ Err (JournalFault.Bad at) → start + length payload.now ≤ last_number → NoChangeAt version start before payload.now at }
     ensures no_disk { result ≢ Err JournalFault.Disk }
 {
     match apply(alloc, version, before, payload) {

@@ -9,20 +9,21 @@ ghost use Rattle.slot_store.specs.Counted.{HasDone, DoneFewer, HasWritten};
 ghost use Rattle.slot_store.specs.Frame.{last_number};
 ghost use Rattle.slot_store.specs.OnlyRead.{KeepsTerms};
 ghost use Rattle.slot_store.specs.Synced.{EachLeft};
+ghost use Rattle.checkpoint_store.specs.Limits.{newest};
 ghost use Rattle.checkpoint_store.specs.Rules.{IsCheckpoint};
 ghost use Rattle.checkpoint_store.specs.Spelling.{checkpoint_spelling};
 ghost use Rattle.checkpoint_journal.specs.JournalOf.{EndsWith};
 ghost use Rattle.checkpoint_journal.specs.Written.{log_before, written_file, started, StandsIn, KeepsOld, Rewrites, IsWorn};
 
-use crate::journal::{Journal, NEWEST_VERSION, has_next};
-use checkpoint_store::{Checkpoint, encode};
+use crate::journal::{Journal, has_next};
+use checkpoint_store::{Checkpoint, NEWEST_VERSION, encode};
 use outside::Disk;
 use record_log::Log;
 use slot_store::CommitFault;
 use std::alloc::Global;
 
 /// Puts a checkpoint into the slot that doesn't count, as the base of a journal without changes, with the sequence
-/// number after that of `before`, the journal that counts.
+/// number after that of `before`, the journal that counts. The base is of the newest version, whichever that of `before` is.
 ///
 /// At each moment a crash leaves the old checkpoint or the new, and after Ok the new. Where fewer than four calls on the
 /// disk succeeded it leaves the old one. After a fault the disk is to be read again.
@@ -32,7 +33,7 @@ pub fn rewrite<D: Disk>(
     disk: &mut D,
     checkpoint: &Checkpoint,
 ) -> Result<Journal, CommitFault>
-    requires { IsCheckpoint checkpoint.now }
+    requires { IsCheckpoint newest checkpoint.now }
     ensures journal { IfOk result (λ journal. journal ≡ started (option_copied before.entry) checkpoint.now) }
     ensures file { IfOk result (λ journal. IsSlotFile journal.slot.file) }
 
@@ -51,7 +52,7 @@ pub fn rewrite<D: Disk>(
     ensures worn_only { (sequence : ℕ) → result ≡ Err (CommitFault.Worn sequence) → (sequence ≡ last_number) × (disk.new ≡ disk.old) }
     ensures cause { HasCommitCause result (D.meaning.faults disk.old) (D.meaning.faults disk.new) }
     ensures done { HasDone result 8 (D.meaning.done disk.old) (D.meaning.done disk.new) }
-    ensures counted { HasWritten result (written_file (option_copied before.entry)) (length (checkpoint_spelling checkpoint.now) + 18) (D.meaning.written disk.old) (D.meaning.written disk.new) }
+    ensures counted { HasWritten result (written_file (option_copied before.entry)) (length (checkpoint_spelling newest checkpoint.now) + 18) (D.meaning.written disk.old) (D.meaning.written disk.new) }
     ensures terms { KeepsTerms D.meaning disk.old disk.new }
 {
     let before = log_before(before)?;

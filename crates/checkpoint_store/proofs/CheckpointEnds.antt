@@ -1,80 +1,53 @@
--- Bytes that are no checkpoint are blamed where no checkpoint goes on.
-use Rattle.std.proofs.Common.{◌≡◌, ℕ, ◌-◌, ◌<◌, Bool, true, false, cond, ltb, List, [], ◌++◌, length, take, drop, Result, Ok, Err, refl, sym, ap, ◌∙◌, arith, inl, length-append}
-use Rattle.std.proofs.lemmas.List.{append-nil, take-append-drop, length-take}
-use Rattle.state_codec.specs.Reading.{Reading}
-use Rattle.state_codec.proofs.Numbers.{IsBytes, err_or_ok, ok_is}
-use Rattle.state_codec.proofs.Fair.{Local, Blame}
+-- What a whole checkpoint is read of, and where bytes that are none are blamed.
+use Rattle.std.proofs.Common.{ap, ◌≡◌, ℕ, ◌-◌, List, [], length, Ok, Err, refl, sym, subst, ◌∙◌}
+use Rattle.std.specs.Prelude.{slice_index}
+use Rattle.std.proofs.lemmas.List.{append-nil}
+use Rattle.state_codec.proofs.Numbers.{IsBytes, ok_is, err_or_ok}
 use Rattle.checkpoint_store.specs.declared.Checkpoint.{Checkpoint}
-use Rattle.checkpoint_store.specs.Rules.{IsCheckpoint}
+use Rattle.checkpoint_store.specs.Rules.{IsVersion, IsCheckpoint}
 use Rattle.checkpoint_store.specs.Spelling.{checkpoint_spelling}
-use Rattle.checkpoint_store.specs.Reading.{checkpoint_at, whole_checkpoint}
-use Rattle.checkpoint_store.specs.DeadEnds.{IsPart, IsDeadEnd}
-use Rattle.checkpoint_store.specs.Decodes.{SpelledCheckpoint, SpellsNone}
-use Rattle.checkpoint_store.proofs.CheckpointLaws.{checkpoint_again, whole_again}
-use Rattle.checkpoint_store.proofs.FairCheckpoints.{fair_checkpoint}
+use Rattle.checkpoint_store.specs.Reading.{any_checkpoint_at, whole_checkpoint}
+use Rattle.checkpoint_store.specs.Decodes.{Spells, SpelledCheckpoint, SpellsNone}
+use Rattle.checkpoint_store.proofs.Wholes.{whole, SpelledAlone, spelled_again, whole_ok, whole_again, dead_for_fewer, dead_end}
+use Rattle.checkpoint_store.proofs.CheckpointFormats.{Known, any_format}
 
-read_again : (c : Checkpoint) → IsCheckpoint c → checkpoint_at (checkpoint_spelling c) ≡ Ok (c, [])
-read_again c lawful = ap checkpoint_at (sym (append-nil (checkpoint_spelling c))) ∙ checkpoint_again c [] lawful
+abbrev known_spelling : Known → List ℕ
+known_spelling k = checkpoint_spelling k.0 k.1
 
-whole_fails : (bytes : List ℕ) (l : ℕ) → checkpoint_at bytes ≡ Err l → whole_checkpoint bytes ≡ Err l
+abbrev KeepsKnown : Known → Type 0
+KeepsKnown k = IsVersion k.0 × IsCheckpoint k.0 k.1
+
+whole_view : (bytes : List ℕ) → whole_checkpoint bytes ≡ whole (λ (k : Known). k.1) (any_checkpoint_at bytes)
 unfolding whole_checkpoint
-whole_fails bytes l read = rw read refl
+whole_view bytes = refl
 
-whole_is : (bytes : List ℕ) (x : Checkpoint × List ℕ) → checkpoint_at bytes ≡ Ok x → whole_checkpoint bytes ≡ cond (ltb 0 (length x.1)) (Err (length x.1)) (Ok x.0)
-unfolding whole_checkpoint
-whole_is bytes x read = rw read refl
+pub whole_takes : (bytes : List ℕ) (c : Checkpoint) → IsBytes bytes → whole_checkpoint bytes ≡ Ok c → Spells bytes c
+whole_takes bytes c fits e =
+    let read = whole_ok (λ (k : Known). k.1) (any_checkpoint_at bytes) c (sym (whole_view bytes) ∙ e) in
+    let t = any_format.takes bytes (read.0, []) fits read.1.0 in
+    subst (λ (k : Checkpoint). Spells bytes k) read.1.1
+    (record { version = read.0.0; known = t.1.0; lawful = t.1.1; spelled = t.0.parts ∙ append-nil (checkpoint_spelling read.0.0 read.0.1) })
 
-guard_err : {A : Type 0} (b : Bool) (l left : ℕ) (x : A) → cond b (Err l) (Ok x) ≡ Err left → l ≡ left
-guard_err true l left x e = cc
-guard_err false l left x e = absurd cc
+-- what is spelled is read
+pub spelled_read : (bytes : List ℕ) (c : Checkpoint) → Spells bytes c → whole_checkpoint bytes ≡ Ok c
+spelled_read bytes c s =
+    whole_view bytes ∙ whole_again (λ (k : Known). k.1) (any_checkpoint_at bytes) (s.version, c) (spelled_again any_format bytes (s.version, c) (s.known, s.lawful) s.spelled)
 
-abbrev refused : ℕ → Result Checkpoint ℕ
-refused left = Err left
+-- by one version, and of one checkpoint
+pub spelled_once : (bytes : List ℕ) (one other : Checkpoint) → Spells bytes one → Spells bytes other → one ≡ other
+spelled_once bytes one other first second = ok_is one other (sym (spelled_read bytes one first) ∙ spelled_read bytes other second)
 
-fault_is : (a b : ℕ) → refused a ≡ Err b → a ≡ b
-fault_is a b e = cc
+pub version_is_first : (bytes : List ℕ) (c : Checkpoint) (s : Spells bytes c) → slice_index bytes 0 ≡ s.version
+version_is_first bytes c s = ap (λ (l : List ℕ). slice_index l 0) s.spelled
 
-dead_end : (bytes : List ℕ) (left fault : ℕ) → IsBytes bytes → whole_checkpoint bytes ≡ Err left → fault ≡ length bytes - left → fault < length bytes → IsDeadEnd SpelledCheckpoint bytes fault
-dead_end bytes left fault fits fails is inside = by_case (checkpoint_at bytes) refl
-  where
-    left_over : (x : Checkpoint × List ℕ) → left ≡ length x.1 → Local checkpoint_at bytes x → IsDeadEnd SpelledCheckpoint bytes fault
-    left_over x over one =
-        let part : List ℕ = take 1 x.1 in
-        let size : length part ≡ 1 = omega (arith, length-take 1 x.1, over, is, inside) in
-        record {
-          before = one.front;
-          part = part;
-          after = drop 1 x.1;
-          parts = one.parts ∙ ap (λ (l : List ℕ). one.front ++ l) (sym (take-append-drop 1 x.1));
-          place = omega (arith, is, inside, over, ap (λ (l : List ℕ). length l) one.parts, length-append one.front x.1);
-          whole = inl size;
-          none = λ more h.
-              (let both = ok_is (x.0, part ++ more) (h.0, []) (sym (one.again (part ++ more)) ∙ ap checkpoint_at h.1.spelled ∙ read_again h.0 h.1.lawful) in
-              let nothing : length (part ++ more) ≡ 0 = ap (λ (p : Checkpoint × List ℕ). length p.1) both in
-              omega (arith, nothing, length-append part more, size));
-        }
-
-    blamed : Blame IsPart checkpoint_at bytes left → IsDeadEnd SpelledCheckpoint bytes fault
-    blamed b = record {
-      before = b.before;
-      part = b.unit;
-      after = b.after;
-      parts = b.parts;
-      place = omega (arith, is, inside, b.left_is, ap (λ (l : List ℕ). length l) b.parts, length-append b.before (b.unit ++ b.after));
-      whole = b.whole;
-      none = λ more h. b.stops more (h.0, []) (ap checkpoint_at h.1.spelled ∙ read_again h.0 h.1.lawful);
-    }
-
-    by_case : (s : Reading Checkpoint) → checkpoint_at bytes ≡ s → IsDeadEnd SpelledCheckpoint bytes fault
-    by_case (Ok x) read =
-        left_over x (sym (guard_err (ltb 0 (length x.1)) (length x.1) left x.0 (sym (whole_is bytes x read) ∙ fails))) (fair_checkpoint.reads bytes x fits read)
-    by_case (Err l) read =
-        let same : l ≡ left = fault_is l left (sym (whole_fails bytes l read) ∙ fails) in
-        blamed (fair_checkpoint.blames bytes left fits (read ∙ ap (λ (k : ℕ). Err k) same) (omega (arith, is, inside)))
+alone : (bytes : List ℕ) → SpelledCheckpoint bytes → SpelledAlone known_spelling KeepsKnown bytes
+alone bytes s = record { value = (s.1.version, s.0); lawful = (s.1.known, s.1.lawful); spelled = s.1.spelled }
 
 pub spells_none : (bytes : List ℕ) (left fault : ℕ) → IsBytes bytes → whole_checkpoint bytes ≡ Err left → fault ≡ length bytes - left → SpellsNone bytes fault
 spells_none bytes left fault fits fails is = record {
-  none = λ c lawful spelled. err_or_ok (whole_checkpoint bytes) left c fails (ap whole_checkpoint spelled ∙ whole_again c lawful);
+  none = λ c spelled. err_or_ok (whole_checkpoint bytes) left c fails (spelled_read bytes c spelled);
   place = (left, fails, is);
-  stops = λ inside. dead_end bytes left fault fits fails is inside;
+  stops = λ inside.
+      dead_for_fewer (SpelledAlone known_spelling KeepsKnown) SpelledCheckpoint bytes fault alone
+      (dead_end any_format (λ (k : Known). k.1) bytes left fault fits (sym (whole_view bytes) ∙ fails) is inside);
 }

@@ -36,9 +36,9 @@ same_named one other (row ∷ changes) id first second (inl is) =
 same_named one other (row ∷ changes) id first second (inr later) =
     same_named one other changes id (All-tail (Stands one) row changes first) (All-tail (Stands other) row changes second) later
 
-same_place : (before : Checkpoint) (change : Change) (one other : Checkpoint) → IsCheckpoint before → Fits before change → HasChanged before change one → HasChanged before change other
+same_place : (version : ℕ) (before : Checkpoint) (change : Change) (one other : Checkpoint) → IsCheckpoint version before → Fits version before change → HasChanged before change one → HasChanged before change other
     → (place : ℕ) → place < length one.rows → slice_get one.rows place ≡ slice_get other.rows place
-same_place before change one other lawful fits first second place inside = elim (has_or_not change.rows (place + 1)) [
+same_place version before change one other lawful fits first second place inside = elim (has_or_not change.rows (place + 1)) [
   | inl named ↦
       let is : place + 1 - 1 ≡ place = omega arith in
       subst (λ (k : ℕ). slice_get one.rows k ≡ slice_get other.rows k) is (same_named one.rows other.rows change.rows (place + 1) first.named second.named named)
@@ -48,13 +48,13 @@ same_place before change one other lawful fits first second place inside = elim 
   ]
 ]
 
-pub changed_alone : (before : Checkpoint) (change : Change) (after : Checkpoint) → IsCheckpoint before → Fits before change → HasChanged before change after → after ≡ changed before change
-changed_alone before change after lawful fits h =
-    let exact : HasChanged before change (changed before change) = changed_exact before change lawful fits in
+pub changed_alone : (version : ℕ) (before : Checkpoint) (change : Change) (after : Checkpoint) → IsCheckpoint version before → Fits version before change → HasChanged before change after → after ≡ changed before change
+changed_alone version before change after lawful fits h =
+    let exact : HasChanged before change (changed before change) = changed_exact version before change lawful fits in
     let made : List Row = (changed before change).rows in
     let rows : after.rows ≡ made =
     same_lists after.rows made (omega (arith, h.count, exact.count)) (λ place d inside.
     sym (unwrap_or-slice_get after.rows place d)
-    ∙ ap (λ o. unwrap_or o d) (same_place before change after (changed before change) lawful fits h exact place inside)
+    ∙ ap (λ o. unwrap_or o d) (same_place version before change after (changed before change) lawful fits h exact place inside)
     ∙ unwrap_or-slice_get made place d) in
-    λ i. record { settings = h.settings i; output_length = h.output_length i; next_id = h.next_id i; rows = rows i }
+    λ i. record { eras = h.eras i; output_length = h.output_length i; observed = h.observed i; next_id = h.next_id i; rows = rows i }

@@ -17,3 +17,10 @@ one_put {X = X} f xs i x out new start inside is put so_far =
     ∙ ap (λ (y : X). out ++ (f y ++ flat_map f (drop (i + 1) xs))) is
     ∙ ap (λ (l : List X). out ++ flat_map f l) (sym (drop_more xs i x inside))
     ∙ so_far
+
+-- the same where the last call but one put two parts
+pub put_two_before : {E : Type 0} (r : Result (Unit {0}) E) (old mid new first second rest : List ℕ) → mid ≡ old ++ (first ++ second) → OnOk r (new ≡ mid ++ rest)
+    → OnOk r (new ≡ old ++ (first ++ (second ++ rest)))
+put_two_before (Ok _) old mid new first second rest before last =
+    last ∙ ap (λ (l : List ℕ). l ++ rest) before ∙ append_assoc old (first ++ second) rest ∙ ap (λ (l : List ℕ). old ++ l) (append_assoc first second rest)
+put_two_before (Err _) old mid new first second rest before last = tt

@@ -8,41 +8,49 @@ use Rattle.state_codec.specs.Reading.{Reading}
 use Rattle.checkpoint_store.specs.Limits.{output_limit}
 use Rattle.checkpoint_store.specs.declared.Checkpoint.{Checkpoint}
 use Rattle.checkpoint_store.specs.declared.Change.{Change}
-use Rattle.checkpoint_store.specs.Rules.{KeepsRules, IsCheckpoint}
+use Rattle.checkpoint_store.specs.declared.beside.Beside.{Beside}
+use Rattle.checkpoint_store.specs.Rules.{IsVersion, KeepsRules, IsCheckpoint}
 use Rattle.checkpoint_store.specs.Spelling.{row_spelling, checkpoint_spelling, change_spelling}
-use Rattle.checkpoint_store.specs.Reading.{row_at, checkpoint_at, change_at}
 use Rattle.checkpoint_store.specs.Fits.{Fits}
 use Rattle.checkpoint_store.specs.Changed.{changed}
 use Rattle.checkpoint_store.specs.Decodes.{Decodes, Answers}
 use Rattle.checkpoint_store.specs.Applied.{Applies}
-use Rattle.checkpoint_store.proofs.RowLaws.{row_again}
-use Rattle.checkpoint_store.proofs.CheckpointLaws.{checkpoint_again}
-use Rattle.checkpoint_store.proofs.ChangeLaws.{change_again}
+use Rattle.checkpoint_store.proofs.Formats.{IsFormat}
+use Rattle.checkpoint_store.proofs.RowFormats.{row_format}
+use Rattle.checkpoint_store.proofs.CheckpointFormats.{Known, any_format}
+use Rattle.checkpoint_store.proofs.ChangeFormats.{unchecked_format, unchecked_fits}
 
-told : {Y : Type 0} (spelling : Y → List ℕ) (Keeps : Y → Type 0) (reading : List ℕ → Reading Y) → ((value : Y) (rest : List ℕ) → Keeps value → reading (spelling value ++ rest) ≡ Ok (value, rest))
+pub told : {Y : Type 0} {spelling : Y → List ℕ} {Keeps : Y → Type 0} {reading : List ℕ → Reading Y} → IsFormat spelling Keeps reading
     → (one other : Y) (x y : List ℕ) → Keeps one → Keeps other → spelling one ++ x ≡ spelling other ++ y → (one ≡ other) × (x ≡ y)
-told {Y = Y} spelling Keeps reading again one other x y first second e =
-    let same = ok_is (one, x) (other, y) (sym (again one x first) ∙ ap reading e ∙ again other y second) in
+told {Y = Y} {reading = reading} format one other x y first second e =
+    let same = ok_is (one, x) (other, y) (sym (format.again one x first) ∙ ap reading e ∙ format.again other y second) in
     (ap (λ (p : Y × List ℕ). p.0) same, ap (λ (p : Y × List ℕ). p.1) same)
 
-pub rows_told : (output : ℕ) (one other : Row) (x y : List ℕ) → output ≤ output_limit → KeepsRules output one → KeepsRules output other → row_spelling one ++ x ≡ row_spelling other ++ y → (one ≡ other) × (x ≡ y)
-rows_told output one other x y small =
-    told row_spelling (KeepsRules output) (row_at output 0 (2 ^ 32)) (λ row rest keeps. row_again output 0 (2 ^ 32) row rest small keeps (omega arith) (omega (arith, keeps.id))) one other x y
+pub rows_told : (beside : Beside) (one other : Row) (x y : List ℕ) → beside.output_length ≤ output_limit → KeepsRules beside one → KeepsRules beside other
+    → row_spelling beside.version one ++ x ≡ row_spelling beside.version other ++ y → (one ≡ other) × (x ≡ y)
+rows_told beside one other x y small first second =
+    told (row_format beside 0 (2 ^ 32) small) one other x y ((omega arith, omega (arith, first.id)), first) ((omega arith, omega (arith, second.id)), second)
 
-pub checkpoints_told : (one other : Checkpoint) (x y : List ℕ) → IsCheckpoint one → IsCheckpoint other → checkpoint_spelling one ++ x ≡ checkpoint_spelling other ++ y → (one ≡ other) × (x ≡ y)
-checkpoints_told = told checkpoint_spelling IsCheckpoint checkpoint_at checkpoint_again
+pub checkpoints_told : (v w : ℕ) (one other : Checkpoint) (x y : List ℕ) → IsVersion v → IsVersion w → IsCheckpoint v one → IsCheckpoint w other
+    → checkpoint_spelling v one ++ x ≡ checkpoint_spelling w other ++ y → (v ≡ w) × (one ≡ other) × (x ≡ y)
+checkpoints_told v w one other x y known too first second e =
+    let same = told any_format (v, one) (w, other) x y (known, first) (too, second) e in
+    (ap (λ (k : Known). k.0) same.0, ap (λ (k : Known). k.1) same.0, same.1)
 
-pub changes_told : (before : Checkpoint) (one other : Change) (x y : List ℕ) → Fits before one → Fits before other → change_spelling one ++ x ≡ change_spelling other ++ y → (one ≡ other) × (x ≡ y)
-changes_told before = told change_spelling (Fits before) (change_at before.output_length before.next_id) (change_again before)
+pub changes_told : (version : ℕ) (before : Checkpoint) (one other : Change) (x y : List ℕ) → Fits version before one → Fits version before other
+    → change_spelling version one ++ x ≡ change_spelling version other ++ y → (one ≡ other) × (x ≡ y)
+changes_told version before one other x y first second =
+    told (unchecked_format version before) one other x y (unchecked_fits version before one first) (unchecked_fits version before other second)
 
 -- ---- what is encoded is read back
 
-pub decoded_again : (c : Checkpoint) (answer : Result Checkpoint CodecFault) → IsCheckpoint c → Decodes (checkpoint_spelling c) answer → Answers c answer
-decoded_again c (Ok x) lawful d = (checkpoints_told x c [] [] d.lawful lawful (ap (λ (l : List ℕ). l ++ []) (sym d.spelled))).0
-decoded_again c (Err (Malformed fault)) lawful d = d.none c lawful refl
-decoded_again c (Err Memory) lawful d = tt
+pub decoded_again : (version : ℕ) (c : Checkpoint) (answer : Result Checkpoint CodecFault) → IsVersion version → IsCheckpoint version c → Decodes (checkpoint_spelling version c) answer → Answers c answer
+decoded_again version c (Ok x) known lawful d = (checkpoints_told d.version version x c [] [] d.known known d.lawful lawful (ap (λ (l : List ℕ). l ++ []) (sym d.spelled))).1
+decoded_again version c (Err (Malformed fault)) known lawful d = d.none c (record { version = version; known = known; lawful = lawful; spelled = refl })
+decoded_again version c (Err Memory) known lawful d = tt
 
-pub applied_again : (before : Checkpoint) (change : Change) (answer : Result Checkpoint CodecFault) → Fits before change → Applies before (change_spelling change) answer → Answers (changed before change) answer
-applied_again before change (Ok after) fits a = a.after_is ∙ ap (changed before) (changes_told before a.change change [] [] a.fits fits (ap (λ (l : List ℕ). l ++ []) (sym a.spelled))).0
-applied_again before change (Err (Malformed fault)) fits a = a.none change fits refl
-applied_again before change (Err Memory) fits a = tt
+pub applied_again : (version : ℕ) (before : Checkpoint) (change : Change) (answer : Result Checkpoint CodecFault) → Fits version before change
+    → Applies version before (change_spelling version change) answer → Answers (changed before change) answer
+applied_again version before change (Ok after) fits a = a.after_is ∙ ap (changed before) (changes_told version before a.change change [] [] a.fits fits (ap (λ (l : List ℕ). l ++ []) (sym a.spelled))).0
+applied_again version before change (Err (Malformed fault)) fits a = a.none change fits refl
+applied_again version before change (Err Memory) fits a = tt

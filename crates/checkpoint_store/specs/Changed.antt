@@ -12,12 +12,19 @@ with_row rows row = if nat_lt (row.id - 1) (length rows) then slice_set rows (ro
 
 abbrev pub changed : Checkpoint → Change → Checkpoint
 changed before change =
-    record { settings = before.settings; output_length = change.output_length; next_id = change.next_id; rows = fold with_row before.rows change.rows }
+    record {
+      eras = before.eras;
+      output_length = change.output_length;
+      observed = change.observed;
+      next_id = change.next_id;
+      rows = fold with_row before.rows change.rows;
+    }
 
 -- exactly the rows of the change are changed
 pub record HasChanged (before : Checkpoint) (change : Change) (after : Checkpoint) : Type 0 where
-  pub settings : after.settings ≡ before.settings
+  pub eras : after.eras ≡ before.eras
   pub output_length : after.output_length ≡ change.output_length
+  pub observed : after.observed ≡ change.observed
   pub next_id : after.next_id ≡ change.next_id
   pub count : length after.rows + 1 ≡ change.next_id
   pub named : All (λ row. slice_get after.rows (row.id - 1) ≡ Some row) change.rows

@@ -7,3 +7,4 @@ pub mod Decodes
 pub mod Fits
 pub mod Changed
 pub mod Applied
+pub mod Worked

@@ -1,16 +1,51 @@
 // The calls that append a spelling. What they need comes from the allocator of `out`.
-ghost use Rattle.std.specs.Prelude.{◌≡◌, ◌++◌, OnOk};
-ghost use Rattle.checkpoint_store.specs.Rules.{IsCheckpoint};
-ghost use Rattle.checkpoint_store.specs.Spelling.{row_spelling, rows_spelling, checkpoint_spelling, change_spelling};
+ghost use Rattle.std.specs.Prelude.{◌≡◌, ◌++◌, OnOk, length};
+ghost use Rattle.std.specs.Int.{w32, to_be_bytes};
+ghost use Rattle.std.specs.List.{flat_map};
+ghost use Rattle.state_codec.specs.Spelling.{bytes_spelling};
+ghost use Rattle.checkpoint_store.specs.Limits.{newest};
+ghost use Rattle.checkpoint_store.specs.Rules.{past_of, IsCheckpoint};
+ghost use Rattle.checkpoint_store.specs.Spelling.{end_spelling, told_past, row_spelling, rows_spelling, checkpoint_spelling, change_spelling};
 
-use crate::{Change, Checkpoint};
-use file_tracker::Row;
+use crate::{Change, Checkpoint, NEWEST_VERSION};
+use file_tracker::{Bytes, End, Row};
 use state_codec::{put_bytes, put_text, put_u32, put_u64};
 use std::alloc::{AllocError, Global};
 
-/// Appends a row.
+fn put_end(alloc: Global, end: &End, out: &mut Vec<u8>) -> Result<(), AllocError>
+    ensures { OnOk result (out.new.items ≡ out.old.items ++ end_spelling end.now) }
+{
+    put_u64(alloc, end.offset, out)?;
+    put_u64(alloc, end.records, out)?;
+    put_u64(alloc, end.lines, out)
+}
+
+fn put_ends(alloc: Global, ends: &[End], out: &mut Vec<u8>) -> Result<(), AllocError>
+    ensures { OnOk result (out.new.items ≡ out.old.items ++ (to_be_bytes w32 (length ends.now) ++ flat_map end_spelling ends.now)) }
+{
+    if ends.len() > 0xFFFF_FFFF {
+        return Err(AllocError);
+    }
+    put_u32(alloc, ends.len() as u32, out)?;
+    for end in ends {
+        put_end(alloc, end, out)?;
+    }
+    Ok(())
+}
+
+/// What stands behind a row's state.
+fn put_past(alloc: Global, row: &Row, out: &mut Vec<u8>) -> Result<(), AllocError>
+    ensures { OnOk result (out.new.items ≡ out.old.items ++ told_past (past_of row.now)) }
+{
+    put_u32(alloc, row.born, out)?;
+    put_ends(alloc, row.ends.as_slice(), out)?;
+    put_u64(alloc, row.seen, out)?;
+    put_u32(alloc, row.quiet, out)
+}
+
+/// Appends a row by the newest version.
 pub fn put_row(alloc: Global, row: &Row, out: &mut Vec<u8>) -> Result<(), AllocError>
-    ensures { OnOk result (out.new.items ≡ out.old.items ++ row_spelling row.now) }
+    ensures { OnOk result (out.new.items ≡ out.old.items ++ row_spelling newest row.now) }
 {
     put_u32(alloc, row.id, out)?;
     put_text(alloc, &row.path, out)?;
@@ -19,11 +54,12 @@ pub fn put_row(alloc: Global, row: &Row, out: &mut Vec<u8>) -> Result<(), AllocE
     put_u64(alloc, row.offset, out)?;
     put_u64(alloc, row.records, out)?;
     put_u64(alloc, row.lines, out)?;
-    put_bytes(alloc, row.state.as_slice(), out)
+    put_bytes(alloc, row.state.as_slice(), out)?;
+    put_past(alloc, row, out)
 }
 
 fn put_rows(alloc: Global, rows: &[Row], out: &mut Vec<u8>) -> Result<(), AllocError>
-    ensures { OnOk result (out.new.items ≡ out.old.items ++ rows_spelling rows.now) }
+    ensures { OnOk result (out.new.items ≡ out.old.items ++ rows_spelling newest rows.now) }
 {
     if rows.len() > 0xFFFF_FFFF {
         return Err(AllocError);
@@ -35,23 +71,38 @@ fn put_rows(alloc: Global, rows: &[Row], out: &mut Vec<u8>) -> Result<(), AllocE
     Ok(())
 }
 
-/// Appends a checkpoint, which has to keep the rules.
-pub fn encode(alloc: Global, checkpoint: &Checkpoint, out: &mut Vec<u8>) -> Result<(), AllocError>
-    requires { IsCheckpoint checkpoint.now }
-    ensures { OnOk result (out.new.items ≡ out.old.items ++ checkpoint_spelling checkpoint.now) }
+fn put_eras(alloc: Global, eras: &[Bytes], out: &mut Vec<u8>) -> Result<(), AllocError>
+    ensures { OnOk result (out.new.items ≡ out.old.items ++ (to_be_bytes w32 (length eras.now) ++ flat_map bytes_spelling eras.now)) }
 {
-    out.extend_from_slice(&[1])?;
-    put_bytes(alloc, checkpoint.settings.as_slice(), out)?;
+    if eras.len() > 0xFFFF_FFFF {
+        return Err(AllocError);
+    }
+    put_u32(alloc, eras.len() as u32, out)?;
+    for era in eras {
+        put_bytes(alloc, era.as_slice(), out)?;
+    }
+    Ok(())
+}
+
+/// Appends a checkpoint, which has to keep the rules, by the newest version.
+pub fn encode(alloc: Global, checkpoint: &Checkpoint, out: &mut Vec<u8>) -> Result<(), AllocError>
+    requires { IsCheckpoint newest checkpoint.now }
+    ensures { OnOk result (out.new.items ≡ out.old.items ++ checkpoint_spelling newest checkpoint.now) }
+{
+    out.extend_from_slice(&[NEWEST_VERSION])?;
+    put_eras(alloc, checkpoint.eras.as_slice(), out)?;
     put_u64(alloc, checkpoint.output_length, out)?;
+    put_u64(alloc, checkpoint.observed, out)?;
     put_u32(alloc, checkpoint.next_id, out)?;
     put_rows(alloc, checkpoint.rows.as_slice(), out)
 }
 
-/// Appends a change.
+/// Appends a change under a base of the newest version.
 pub fn encode_change(alloc: Global, change: &Change, out: &mut Vec<u8>) -> Result<(), AllocError>
-    ensures { OnOk result (out.new.items ≡ out.old.items ++ change_spelling change.now) }
+    ensures { OnOk result (out.new.items ≡ out.old.items ++ change_spelling newest change.now) }
 {
     put_u64(alloc, change.output_length, out)?;
+    put_u64(alloc, change.observed, out)?;
     put_u32(alloc, change.next_id, out)?;
     put_rows(alloc, change.rows.as_slice(), out)
 }

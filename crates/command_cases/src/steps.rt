@@ -5,7 +5,7 @@ use crate::control::number;
 use crate::world::World;
 use case_files::{shown, unescaped};
 use mem_world::{MemSink, MemSource, StepFault};
-use outside::DiskFile;
+use outside::{DiskFile, MemClock};
 use std::alloc::{AllocError, Global};
 use std::fmt::Write;
 
@@ -56,6 +56,7 @@ fn step(
     match step {
         "control" => world.control = MemSource::new(unescaped(alloc, rest)?, piece),
         "pieces" => world.control = pieced(alloc, rest)?,
+        "clock" => world.clock = clock(alloc, rest)?,
         "run" => tell_run(alloc, told, world, rest)?,
         "output" => tell_output(alloc, told, world)?,
         _ => change(alloc, world, step, rest)?,
@@ -70,11 +71,28 @@ fn pieced(alloc: Global, words: &str) -> Result<MemSource, AllocError> {
     Ok(MemSource::new(bytes, small(piece).max(1) as usize))
 }
 
+// A clock with these readings.
+fn clock(alloc: Global, words: &str) -> Result<MemClock, AllocError> {
+    let mut readings = Vec::new(alloc);
+    for word in words.split(' ') {
+        readings.push(number(Some(word)))?;
+    }
+    Ok(MemClock::new(readings))
+}
+
+// The bytes come behind so many further calls.
+fn append_later(alloc: Global, world: &mut World, words: &str) -> Result<(), AllocError> {
+    let (calls, text) = words.split_once(' ').unwrap_or((words, ""));
+    let bytes = unescaped(alloc, text)?;
+    world.append_later(alloc, small(calls), bytes)
+}
+
 // A step that prints nothing.
 fn change(alloc: Global, world: &mut World, step: &str, rest: &str) -> Result<(), StepFault> {
     match step {
         "create" => world.create(alloc, rest),
         "append" => world.append(alloc, unescaped(alloc, rest)?),
+        "later" => Ok(append_later(alloc, world, rest)?),
         "rename" => world.rename(alloc, rest),
         "remove" => Ok(world.remove(alloc, small(rest))?),
         "spoil" => {

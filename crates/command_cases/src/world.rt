@@ -2,14 +2,14 @@
 use agent_commands::run_agent;
 use entry_model::Text;
 use mem_world::{FileName, MemDisk, MemSink, MemSource, MemTree, StepFault, WorldStep};
-use outside::DiskFile;
+use outside::{DiskFile, MemClock};
 use std::alloc::{AllocError, Global};
 use std::mem;
 
 /// The settings that a world begins with.
 const SETTINGS: &[u8] = b"{\"include\":[\"app.log*\"],\"start_at\":\"beginning\"}";
 
-/// A tree with one file, `app.log`, a disk, a control input and a report. The steps of others are those on the newest file.
+/// A tree with one file, `app.log`, a disk, a control input, a report and a clock. The steps of others are those on the newest file.
 #[derive(Drop)]
 pub struct World {
     pub tree: MemTree,
@@ -17,6 +17,7 @@ pub struct World {
     pub disk: MemDisk,
     pub control: MemSource,
     pub report: MemSink,
+    pub clock: MemClock,
 }
 
 impl World {
@@ -29,6 +30,7 @@ impl World {
             disk,
             control: MemSource::new(Vec::new(alloc), 1),
             report: MemSink::new(alloc)?,
+            clock: MemClock::new(Vec::new(alloc)),
         };
         world.create(alloc, "app.log")?;
         Ok(world)
@@ -45,6 +47,18 @@ impl World {
     pub fn append(&mut self, alloc: Global, bytes: Vec<u8>) -> Result<(), StepFault> {
         let file = FileName(self.newest);
         self.tree.play(alloc, WorldStep::Append { file, bytes })
+    }
+
+    /// The bytes come when so many further calls on the tree have been made.
+    pub fn append_later(
+        &mut self,
+        alloc: Global,
+        calls: u32,
+        bytes: Vec<u8>,
+    ) -> Result<(), AllocError> {
+        let file = FileName(self.newest);
+        self.tree
+            .later(alloc, calls, WorldStep::Append { file, bytes })
     }
 
     pub fn rename(&mut self, alloc: Global, path: &str) -> Result<(), StepFault> {
@@ -95,6 +109,7 @@ impl World {
             &mut self.disk,
             &mut self.control,
             &mut self.report,
+            &mut self.clock,
         ))
     }
 }

@@ -15,6 +15,7 @@ use Rattle.record_log.specs.Appended.{appended, GainsRecord}
 use Rattle.record_log.specs.LogOf as bytes
 use Rattle.record_log.specs.declared.log.Log.{Log}
 use Rattle.checkpoint_store.specs.Fits.{Fits}
+use Rattle.checkpoint_store.specs.Limits.{newest}
 use Rattle.checkpoint_store.specs.declared.Change.{Change}
 use Rattle.checkpoint_store.specs.declared.Checkpoint.{Checkpoint}
 use Rattle.checkpoint_journal.proofs.JournalLaws.{journal_of_slots}
@@ -40,7 +41,7 @@ ends_again log payload stands leaves = record {
       };
 }
 
-pub awaits : (old new : MemDisk) (journal : Journal) (checkpoint : Checkpoint) (change : Change) → history_of new ≡ history_of old → EachLeft disk_images old (EndsWith journal checkpoint) → Fits checkpoint change → EachLeft disk_images new (Awaits journal change)
+pub awaits : (old new : MemDisk) (journal : Journal) (checkpoint : Checkpoint) (change : Change) → history_of new ≡ history_of old → EachLeft disk_images old (EndsWith journal checkpoint) → Fits newest checkpoint change → EachLeft disk_images new (Awaits journal change)
 awaits old new journal checkpoint change same stands fits =
     same_history old new same (record { each = λ image left. record { checkpoint = checkpoint; stands = stands.each image left; fits = fits } })
 

@@ -1,33 +1,47 @@
-ghost use Rattle.std.specs.Prelude.{◌≡◌, ◌≤◌, IfOk};
+ghost use Rattle.std.specs.Prelude.{◌≡◌, ◌≤◌, ℕ, List, length, IsTrue, IfOk};
 ghost use Rattle.mem_world.specs.MemDisk.{disk_images};
 ghost use Rattle.checkpoint_journal.specs.JournalOf.{EndsWith};
 ghost use Rattle.checkpoint_store.specs.Fits.{Fits};
-ghost use Rattle.checkpoint_store.specs.Rules.{KeepsRules};
+ghost use Rattle.checkpoint_store.specs.Limits.{newest};
+ghost use Rattle.checkpoint_store.specs.Rules.{IsCheckpoint, KeepsRules, beside_of};
 ghost use Rattle.checkpoint_store.specs.declared.Checkpoint.{Checkpoint};
 ghost use Rattle.slot_store.specs.ChosenSlot.{IsSlotFile};
 ghost use Rattle.slot_store.specs.Synced.{EachLeft};
 
 use crate::slots::{Fault, Told};
-use checkpoint_journal::{Journal, JournalFault, NEWEST_VERSION, peek, rewrite};
-use checkpoint_store::{Change, Checkpoint, Rows, encode_change};
+use checkpoint_journal::{Journal, JournalFault, peek, rewrite};
+use checkpoint_store::laws::older_checkpoints_are_newest;
+use checkpoint_store::{Change, Checkpoint, NEWEST_VERSION, Rows, encode_change};
 use entry_model::Text;
-use file_tracker::{Bytes, Row};
+use file_tracker::{Bytes, Ends, Row};
 use mem_world::MemDisk;
 use outside::DiskFile;
 use slot_store::CommitFault;
 use state_codec::put_text;
-use std::alloc::Global;
+use std::alloc::{AllocError, Global};
 use std::test::Fail;
 
-// Settings `{}`, an output of no bytes, and no rows.
+// Settings `{}`, an output of no bytes, and no rows, by version 1, 2 and 3.
 const EMPTY: &[u8] = b"\x01\0\0\0\x02{}\0\0\0\0\0\0\0\0\0\0\0\x01\0\0\0\0";
 
-// An output of 4, 9 and 20 bytes, and no rows.
+const EMPTY_2: &[u8] = b"\x02\0\0\0\x02{}\0\0\0\0\0\0\0\0\0\0\0\0\0\0\0\0\0\0\0\x01\0\0\0\0";
+
+const EMPTY_3: &[u8] =
+    b"\x03\0\0\0\x01\0\0\0\x02{}\0\0\0\0\0\0\0\0\0\0\0\0\0\0\0\0\0\0\0\x01\0\0\0\0";
+
+// Under a base of version 1 an output of 4, 9 and 20 bytes, and no rows.
 const FOUR: &[u8] = b"\0\0\0\0\0\0\0\x04\0\0\0\x01\0\0\0\0";
 
 const NINE: &[u8] = b"\0\0\0\0\0\0\0\x09\0\0\0\x01\0\0\0\0";
 
 const TWENTY: &[u8] = b"\0\0\0\0\0\0\0\x14\0\0\0\x01\0\0\0\0";
+
+// Under a base of a later version an output of 4 bytes at time 5, of 9 bytes at times 5 and 4, and no rows.
+const FOUR_AT_5: &[u8] = b"\0\0\0\0\0\0\0\x04\0\0\0\0\0\0\0\x05\0\0\0\x01\0\0\0\0";
+
+const NINE_AT_5: &[u8] = b"\0\0\0\0\0\0\0\x09\0\0\0\0\0\0\0\x05\0\0\0\x01\0\0\0\0";
+
+const NINE_AT_4: &[u8] = b"\0\0\0\0\0\0\0\x09\0\0\0\0\0\0\0\x04\0\0\0\x01\0\0\0\0";
 
 // What is found: nothing, a byte that has no reading, or an output length, a sequence number and a place.
 #[derive(Clone, Copy, Debug, PartialEq)]
@@ -66,7 +80,11 @@ const BASE: Told = Told(0xa5, 7, 23, EMPTY);
 
 const ONE_MORE: Told = Told(0xa5, 8, 16, NINE);
 
-const TABLE: [(&[Told], Found); 21] = [
+const BASE_2: Told = Told(0xa5, 7, 31, EMPTY_2);
+
+const BASE_3: Told = Told(0xa5, 7, 35, EMPTY_3);
+
+const TABLE: [(&[Told], Found); 33] = [
     (&[], Found::Nothing),
     (&[Told(0, 7, 23, EMPTY)], Found::Nothing),
     (&[Told(0xa5, 7, 1 << 62, EMPTY)], Found::Nothing),
@@ -99,8 +117,49 @@ const TABLE: [(&[Told], Found); 21] = [
         &[BASE, Told(0xa5, 8, u64::MAX, NINE)],
         Found::Ends(0, 7, 40),
     ),
-    // A base of another version, one of no bytes, and one with a byte behind it.
-    (&[Told(0xa5, 1, 1, b"\x02")], Found::Bad(0)),
+    // Bases of later versions, and changes under them.
+    (&[BASE_2], Found::Ends(0, 7, 48)),
+    (&[BASE_3], Found::Ends(0, 7, 52)),
+    (
+        &[BASE_2, Told(0xa5, 8, 24, FOUR_AT_5)],
+        Found::Ends(4, 8, 89),
+    ),
+    (
+        &[
+            BASE_3,
+            Told(0xa5, 8, 24, FOUR_AT_5),
+            Told(0xa5, 9, 24, NINE_AT_5),
+        ],
+        Found::Ends(9, 9, 134),
+    ),
+    // A time that falls, and a change of another version than the base's.
+    (
+        &[
+            BASE_2,
+            Told(0xa5, 8, 24, FOUR_AT_5),
+            Told(0xa5, 9, 24, NINE_AT_4),
+        ],
+        Found::Bad(31 + 41 + 17 + 8),
+    ),
+    (
+        &[
+            BASE_3,
+            Told(0xa5, 8, 24, FOUR_AT_5),
+            Told(0xa5, 9, 24, NINE_AT_4),
+        ],
+        Found::Bad(35 + 41 + 17 + 8),
+    ),
+    (&[BASE_3, Told(0xa5, 8, 16, NINE)], Found::Bad(35 + 17 + 16)),
+    (
+        &[BASE, Told(0xa5, 8, 24, NINE_AT_5)],
+        Found::Bad(23 + 17 + 8),
+    ),
+    // A base of no version, and of a version alone, one of no bytes, and one with a byte behind it.
+    (&[Told(0xa5, 1, 1, b"\x00")], Found::Bad(0)),
+    (&[Told(0xa5, 1, 1, b"\x04")], Found::Bad(0)),
+    (&[Told(0xa5, 1, 1, b"\x09")], Found::Bad(0)),
+    (&[Told(0xa5, 1, 1, b"\x02")], Found::Bad(1)),
+    (&[Told(0xa5, 1, 1, b"\x03")], Found::Bad(1)),
     (&[Told(0xa5, 1, 0, b"")], Found::Bad(0)),
     (&[BASE, Told(0xa5, 8, 0, b"")], Found::Bad(40)),
     // A record that takes the output back, one that is short, one with a byte behind it, and one without a new row.
@@ -153,8 +212,14 @@ fn a_peek_finds_the_checkpoint_or_the_first_byte_that_cannot_be(
 }
 
 // Settings of no bytes, an output of 9 bytes, and one row: id 1, path `a`, front `b`, start 1, offset 3, records 2,
-// lines 9, no state.
-const ONE_ROW: &[u8] = b"\x01\0\0\0\0\0\0\0\0\0\0\0\x09\0\0\0\x02\0\0\0\x01\
+// lines 9, no state. It was born under these settings, and has no ends.
+const ONE_ROW: &[u8] =
+    b"\x03\0\0\0\x01\0\0\0\0\0\0\0\0\0\0\0\x09\0\0\0\0\0\0\0\0\0\0\0\x02\0\0\0\x01\
+\0\0\0\x01\0\0\0\x01a\0\0\0\x01b\0\0\0\0\0\0\0\x01\0\0\0\0\0\0\0\x03\0\0\0\0\0\0\0\x02\0\0\0\0\0\0\0\x09\0\0\0\0\
+\0\0\0\x01\0\0\0\0\0\0\0\0\0\0\0\0\0\0\0\0";
+
+// The same by version 1.
+const OLDER: &[u8] = b"\x01\0\0\0\0\0\0\0\0\0\0\0\x09\0\0\0\x02\0\0\0\x01\
 \0\0\0\x01\0\0\0\x01a\0\0\0\x01b\0\0\0\0\0\0\0\x01\0\0\0\0\0\0\0\x03\0\0\0\0\0\0\0\x02\0\0\0\0\0\0\0\x09\0\0\0\0";
 
 // A disk at rest, its journal and its checkpoint.
@@ -186,9 +251,21 @@ fn opened(alloc: Global, disk: MemDisk) -> Result<AtRest, Fail>
     }
 }
 
+// The checkpoint that is found on a disk with this frame.
+fn checkpoint_in(alloc: Global, frame: Told) -> Result<Checkpoint, Fail>
+    ensures { IfOk result (λ checkpoint. IsCheckpoint newest checkpoint) }
+{
+    older_checkpoints_are_newest();
+    match peek(alloc, &mut disk_of(alloc, &[frame])?)? {
+        Some((_, checkpoint)) => Ok(checkpoint),
+        None => Err(Fail::from("no journal")),
+    }
+}
+
 // The row of ONE_ROW, 2 bytes, 1 record and 3 lines further.
 fn row(alloc: Global) -> Result<Row, Fail>
-    ensures { IfOk result (λ row. KeepsRules 12 row × (row.id ≡ 1)) }
+    ensures rules { IfOk result (λ row. (eras : List (List ℕ)) → length eras ≡ 1 → KeepsRules (beside_of newest eras 12) row) }
+    ensures id { IfOk result (λ row. row.id ≡ 1) }
 {
     let path = Text::from_str(alloc, "a")?;
     put_text(alloc, &path, &mut Vec::new(alloc))?;
@@ -201,20 +278,39 @@ fn row(alloc: Global) -> Result<Row, Fail>
         records: 3,
         lines: 12,
         state: Bytes::from_slice(alloc, b"")?,
+        born: 1,
+        ends: Ends::none(alloc),
+        seen: 0,
+        quiet: 0,
     })
 }
 
-// A change of that row, with an output of 12 bytes.
+// A change of that row, with an output of 12 bytes at time 5.
 fn change(alloc: Global) -> Result<Change, Fail>
-    ensures { IfOk result (λ change. (before : Checkpoint) → before.output_length ≤ 12 → before.next_id ≡ 2 → Fits before change) }
+    ensures { IfOk result (λ change. (before : Checkpoint) → length before.eras ≡ 1 → before.output_length ≤ 12
+        → before.observed ≤ 5 → before.next_id ≡ 2 → Fits newest before change) }
 {
     let mut rows = Vec::new(alloc);
     rows.push(row(alloc)?)?;
     Ok(Change {
         output_length: 12,
+        observed: 5,
         next_id: 2,
         rows: Rows::new(rows),
     })
+}
+
+// Whether the change fits behind the checkpoint, and is written by the version of the journal.
+fn is_next(journal: Journal, checkpoint: &Checkpoint) -> bool
+    ensures { IsTrue result → (journal.version ≡ newest) × (journal.end ≤ 1000) × (length checkpoint.now.eras ≡ 1)
+        × (checkpoint.now.output_length ≤ 12) × (checkpoint.now.observed ≤ 5) × (checkpoint.now.next_id ≡ 2) }
+{
+    journal.version == NEWEST_VERSION
+        && journal.end <= 1_000
+        && checkpoint.eras.as_slice().len() == 1
+        && checkpoint.output_length <= 12
+        && checkpoint.observed <= 5
+        && checkpoint.next_id == 2
 }
 
 // The append of the change to what was found, with a fault.
@@ -234,21 +330,26 @@ fn append(
     let change = change(alloc)?;
     let mut spelled = Vec::new(alloc);
     encode_change(alloc, &change, &mut spelled)?;
-    if checkpoint.output_length > 12 || checkpoint.next_id != 2 {
-        return Err(Fail::from("another checkpoint"));
+    if spelled.len() > 1_000 {
+        return Err(Fail::from("too long"));
     }
-    if journal.version != NEWEST_VERSION || journal.end > 1_000 || spelled.len() > 1_000 {
-        return Err(Fail::from("an older version, or too long"));
+    if !is_next(journal, &checkpoint) {
+        return Err(Fail::from("another checkpoint, or an older version"));
     }
     fault.set(alloc, &mut disk)?;
     let result = journal.append(alloc, &mut disk, &change);
     Ok((result, disk))
 }
 
-const ROW: Told = Told(0xa5, 7, 71, ONE_ROW);
+const ROW: Told = Told(0xa5, 7, 103, ONE_ROW);
 
-// An output of 10 bytes, and no row that differs.
-const TEN: Told = Told(0xa5, 8, 16, b"\0\0\0\0\0\0\0\x0a\0\0\0\x02\0\0\0\0");
+// An output of 10 bytes at time 0, and no row that differs.
+const TEN: Told = Told(
+    0xa5,
+    8,
+    24,
+    b"\0\0\0\0\0\0\0\x0a\0\0\0\0\0\0\0\0\0\0\0\x02\0\0\0\0",
+);
 
 // The output length, how far the only row is, and the sequence number.
 fn state_of(alloc: Global, disk: &mut MemDisk) -> Result<(u64, u64, u64), Fail> {
@@ -270,7 +371,7 @@ fn crashed_append(alloc: Global, fault: Fault, outcome: u32) -> Result<(bool, Me
 fn crashed_rewrite(alloc: Global, fault: Fault, outcome: u32) -> Result<(bool, MemDisk), Fail> {
     let mut disk = disk_of(alloc, &[ROW, TEN])?;
     let (journal, _) = peek(alloc, &mut disk)?.ok_or("no journal")?;
-    let (_, checkpoint) = peek(alloc, &mut disk_of(alloc, &[NEXT])?)?.ok_or("no journal")?;
+    let checkpoint = checkpoint_in(alloc, NEXT)?;
     fault.set(alloc, &mut disk)?;
     let result = rewrite(alloc, Some(&journal), &mut disk, &checkpoint);
     Ok((result.is_ok(), disk.crash(alloc, outcome)?))
@@ -280,9 +381,10 @@ fn crashed_rewrite(alloc: Global, fault: Fault, outcome: u32) -> Result<(bool, M
 const NEXT: Told = Told(
     0xa5,
     1,
-    71,
-    b"\x01\0\0\0\0\0\0\0\0\0\0\0\x0c\0\0\0\x02\0\0\0\x01\
-\0\0\0\x01\0\0\0\x01a\0\0\0\x01b\0\0\0\0\0\0\0\x01\0\0\0\0\0\0\0\x05\0\0\0\0\0\0\0\x03\0\0\0\0\0\0\0\x0c\0\0\0\0",
+    103,
+    b"\x03\0\0\0\x01\0\0\0\0\0\0\0\0\0\0\0\x0c\0\0\0\0\0\0\0\x05\0\0\0\x02\0\0\0\x01\
+\0\0\0\x01\0\0\0\x01a\0\0\0\x01b\0\0\0\0\0\0\0\x01\0\0\0\0\0\0\0\x05\0\0\0\0\0\0\0\x03\0\0\0\0\0\0\0\x0c\0\0\0\0\
+\0\0\0\x01\0\0\0\0\0\0\0\0\0\0\0\0\0\0\0\0",
 );
 
 #[test]
@@ -351,12 +453,12 @@ fn a_failing_call_leaves_the_checkpoint_before_or_after(rt: HostRuntime) -> Resu
 #[test]
 fn a_worn_journal_is_left_as_it_is(rt: HostRuntime) -> Result<(), Fail> {
     let alloc = rt.alloc();
-    let worn = Told(0xa5, u64::MAX, 71, ONE_ROW);
+    let worn = Told(0xa5, u64::MAX, 103, ONE_ROW);
     let opened = opened(alloc, disk_of(alloc, &[worn])?)?;
     let journal = opened.journal;
     let (result, mut disk) = append(alloc, opened, Fault::Stop(0))?;
     assert_eq!(rt; result, Err(CommitFault::Worn { sequence: u64::MAX }));
-    let (_, checkpoint) = peek(alloc, &mut disk_of(alloc, &[NEXT])?)?.ok_or("no journal")?;
+    let checkpoint = checkpoint_in(alloc, NEXT)?;
     let result = rewrite(alloc, Some(&journal), &mut disk, &checkpoint);
     assert_eq!(rt; result, Err(CommitFault::Worn { sequence: u64::MAX }));
     assert_eq!(rt; disk.bytes(DiskFile::SlotA), worn.bytes(alloc)?.as_slice());
@@ -367,22 +469,37 @@ fn a_worn_journal_is_left_as_it_is(rt: HostRuntime) -> Result<(), Fail> {
 #[test]
 fn a_first_checkpoint_and_a_change_are_spelled(rt: HostRuntime) -> Result<(), Fail> {
     let alloc = rt.alloc();
-    let (_, checkpoint) = peek(alloc, &mut disk_of(alloc, &[ROW])?)?.ok_or("no journal")?;
-    let mut disk = MemDisk::new(alloc)?;
-    let journal = rewrite(alloc, None, &mut disk, &checkpoint)?;
-    assert_eq!(rt; journal.slot.file, DiskFile::SlotA);
-    assert_eq!(rt; journal.sequence, 1);
-    assert_eq!(rt; journal.end, 88);
-    let (result, disk) = append(alloc, opened(alloc, disk)?, Fault::Fails(9))?;
-    assert_eq!(rt; result?.end, 88 + 17 + 66);
-    let mut spelled = Told(0xa5, 1, 71, ONE_ROW).bytes(alloc)?;
-    spelled.extend_from_slice(&Told(0xa5, 2, 66, b"\0\0\0\0\0\0\0\x0c\0\0\0\x02\0\0\0\x01").bytes(
-        alloc,
-    )?)?;
-    spelled.extend_from_slice(
+    for read in [ROW, Told(0xa5, 7, 71, OLDER)] {
+        let checkpoint = checkpoint_in(alloc, read)?;
+        let mut disk = MemDisk::new(alloc)?;
+        let journal = rewrite(alloc, None, &mut disk, &checkpoint)?;
+        assert_eq!(rt; journal.slot.file, DiskFile::SlotA);
+        assert_eq!(rt; journal.sequence, 1);
+        assert_eq!(rt; journal.end, 120);
+        let (result, disk) = append(alloc, opened(alloc, disk)?, Fault::Fails(9))?;
+        assert_eq!(rt; result?.end, 120 + 17 + 94);
+        assert_eq!(rt;
+            disk.bytes(DiskFile::SlotA),
+            base_and_change(alloc)?.as_slice()
+        );
+        assert!(rt; disk.bytes(DiskFile::SlotB).is_empty());
+    }
+    Ok(())
+}
+
+// ONE_ROW as a base, and the change behind it.
+fn base_and_change(alloc: Global) -> Result<Vec<u8>, AllocError> {
+    let mut bytes = Told(0xa5, 1, 103, ONE_ROW).bytes(alloc)?;
+    let head = Told(
+        0xa5,
+        2,
+        94,
+        b"\0\0\0\0\0\0\0\x0c\0\0\0\0\0\0\0\x05\0\0\0\x02\0\0\0\x01",
+    );
+    bytes.extend_from_slice(&head.bytes(alloc)?)?;
+    bytes.extend_from_slice(
         b"\0\0\0\x01\0\0\0\x01a\0\0\0\x01b\0\0\0\0\0\0\0\x01\0\0\0\0\0\0\0\x05\0\0\0\0\0\0\0\x03\0\0\0\0\0\0\0\x0c\0\0\0\0",
     )?;
-    assert_eq!(rt; disk.bytes(DiskFile::SlotA), spelled.as_slice());
-    assert!(rt; disk.bytes(DiskFile::SlotB).is_empty());
-    Ok(())
+    bytes.extend_from_slice(b"\0\0\0\x01\0\0\0\0\0\0\0\0\0\0\0\0\0\0\0\0")?;
+    Ok(bytes)
 }

@@ -1,10 +1,10 @@
 -- The cases of a round.
-use Rattle.std.proofs.Common.{◌≡◌, ℕ, suc, ◌%◌, ◌==◌, List, [], ◌∷◌, ◌++◌, Bool, true, false, Option, Some, None, refl}
+use Rattle.std.proofs.Common.{◌≡◌, ℕ, suc, ◌%◌, ◌==◌, List, [], ◌∷◌, Bool, true, false, Option, Some, None, refl}
 use Rattle.std.specs.Prelude.{if◌then◌else◌, reverse}
 use Rattle.std.proofs.lemmas.List.{reverse-append}
 use Rattle.demo_run.specs.Moves.{Move, step, poll, stop, reopen}
-use Rattle.demo_run.specs.Script.{Played, played, with_move, with_name, with_new_file, with_file, with_line, with_other_name, with_rotation, with_stop, line_of, log_of, log_name, rotated_name}
-use Rattle.outside.specs.World.{append, create, rename}
+use Rattle.demo_run.specs.Script.{Played, played, with_move, with_name, with_new_file, with_file, with_line, with_other_name, with_rotation, with_stop, line_of, log_of, rotated_name}
+use Rattle.outside.specs.World.{append, rename}
 
 -- ---- the steps of the round behind n rounds
 

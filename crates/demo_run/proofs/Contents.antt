@@ -1,10 +1,10 @@
 -- What the files of a script have at each moment.
-use Rattle.std.proofs.Common.{◌≡◌, ℕ, zero, suc, ◌+◌, ◌<◌, ◌≤◌, ◌%◌, ◌==◌, List, [], ◌∷◌, ◌++◌, length, Bool, true, false, Option, Some, None, refl, sym, ap, subst, ◌∙◌, arith, append_assoc, eq-eqb, length-append}
+use Rattle.std.proofs.Common.{◌≡◌, ℕ, zero, suc, ◌<◌, ◌≤◌, ◌%◌, ◌==◌, List, [], ◌∷◌, ◌++◌, length, Bool, true, false, Option, Some, None, refl, sym, ap, subst, ◌∙◌, arith, append_assoc, eq-eqb, length-append}
 use Rattle.std.specs.Prelude.{if◌then◌else◌}
-use Rattle.std.proofs.lemmas.Bool.{eqb-true, ne_eqb}
+use Rattle.std.proofs.lemmas.Bool.{eqb-true}
 use Rattle.std.proofs.lemmas.List.{append-nil}
 use Rattle.demo_run.specs.Moves.{Move, step, poll, stop, reopen}
-use Rattle.demo_run.specs.Script.{Played, played, with_move, with_name, with_new_file, with_file, with_line, with_rotation, with_round, line_of, log_of, log_name, rotated_name}
+use Rattle.demo_run.specs.Script.{Played, played, with_move, with_new_file, with_rotation, line_of, log_of, log_name, rotated_name}
 use Rattle.demo_run.specs.Steps.{steps_in}
 use Rattle.demo_run.proofs.Cases.{latest, latest_is, by_file, by_line, by_rotation, by_stop, filed, lined, rotated, stopped}
 use Rattle.outside.specs.World.{Event, create, append, rename, History, bytes}

@@ -1,5 +1,5 @@
 -- Lines tell their rounds, so the files of a script can be told apart.
-use Rattle.std.proofs.Common.{◌≡◌, ◌≢◌, ℕ, zero, suc, ◌+◌, ◌<◌, ◌≤◌, ◌==◌, List, [], ◌∷◌, ◌++◌, length, take, drop, refl, sym, ap, subst, ◌∙◌, arith, append_assoc, length-append, length-take}
+use Rattle.std.proofs.Common.{◌≡◌, ◌≢◌, ℕ, zero, suc, ◌<◌, ◌≤◌, ◌==◌, List, [], ◌∷◌, ◌++◌, length, take, drop, refl, sym, ap, subst, ◌∙◌, arith, append_assoc, length-append, length-take}
 use Rattle.std.specs.Prelude.{codes, decimal, if◌then◌else◌}
 use Rattle.std.specs.Char.{digit_value}
 use Rattle.std.specs.Str.Parse.{AllDigits}
@@ -8,10 +8,9 @@ use Rattle.std.proofs.lemmas.List.{take-append-drop}
 use Rattle.demo_run.specs.Script.{line_of, log_of, played}
 use Rattle.demo_run.specs.Steps.{IsOfRounds, steps_in, steps_of}
 use Rattle.demo_run.proofs.Cases.{latest}
-use Rattle.demo_run.proofs.Contents.{Begins, IsWritten, begins, content, file_of_round, written_at}
-use Rattle.outside.specs.World.{Event, create, append, rename, remove, look, miss, unlisted, History, bytes}
+use Rattle.demo_run.proofs.Contents.{IsWritten, begins, content, file_of_round, written_at}
+use Rattle.outside.specs.World.{create, append, rename, remove, look, miss, unlisted, History, bytes}
 use Rattle.standing.specs.Apart.{Apart, AreApart}
-use Rattle.standing.specs.Moments.{LookAt}
 use Rattle.standing.specs.Prefixes.{IsPrefix}
 
 -- ---- lines

@@ -8,7 +8,7 @@ use Rattle.std.proofs.lemmas.Bool.{ne_eqb}
 use Rattle.std.proofs.lemmas.Fmt.{length-decimal-le}
 use Rattle.std.proofs.lemmas.List.{get_or-take, get_or_append_left}
 use Rattle.std.proofs.lemmas.List.Elements.{All-head, All-tail}
-use Rattle.std.proofs.lemmas.List.Sums.{position_or_len_is, sum_by-cons}
+use Rattle.std.proofs.lemmas.List.Sums.{position_or_len_is}
 use Rattle.demo_run.specs.Script.{line_of, log_of}
 use Rattle.demo_run.proofs.Digits.{Avoids, avoids_append, avoids_at, number_avoids}
 use Rattle.demo_run.proofs.Ruled.{AreRounds, lines_of_rounds}

@@ -1,5 +1,5 @@
 -- A script of rounds plans no step.
-use Rattle.std.proofs.Common.{◌≡◌, ℕ, zero, suc, ◌%◌, ◌==◌, List, [], ◌∷◌, true, false, sym, subst}
+use Rattle.std.proofs.Common.{ℕ, zero, suc, ◌%◌, ◌∷◌, sym, subst}
 use Rattle.demo_run.specs.Moves.{Move, step, poll, stop, reopen}
 use Rattle.demo_run.specs.Script.{Played, played, with_move, line_of, log_name, log_of, rotated_name}
 use Rattle.demo_run.proofs.Cases.{latest, latest_is, by_file, by_line, by_rotation, by_stop, filed, lined, rotated, stopped}

@@ -5,7 +5,7 @@ use Rattle.checkpoint_journal.proofs.JournalLaws.{one_said}
 use Rattle.checkpoint_journal.specs.JournalOf.{HasCheckpoint}
 use Rattle.checkpoint_store.specs.declared.Checkpoint.{Checkpoint}
 use Rattle.demo_run.specs.Moves.{move_of}
-use Rattle.demo_run.specs.Script.{script}
+use Rattle.demo_run.specs.Script.{script, settings_text}
 use Rattle.demo_run.specs.Shown.{lines_of, rows_in}
 use Rattle.demo_run.specs.Steps.{IsOfRounds}
 use Rattle.demo_run.proofs.Contents.{file_of_round}
@@ -17,7 +17,9 @@ use Rattle.demo_run.proofs.SmallRounds.{not_large, small}
 use Rattle.demo_run.proofs.Undisturbed.{early, undisturbed}
 use Rattle.demo_run.proofs.WholeRows.{owned, rows_differ, whole_of_round}
 use Rattle.lifetimes.proofs.CreatedLemmas.{Has}
+use Rattle.lifetimes.proofs.EraLemmas.{rules_own, standing_by_one}
 use Rattle.lifetimes.specs.Ended.{IsEndingBy, history_of}
+use Rattle.lifetimes.specs.OneEra.{IsSoundBy, one_era}
 use Rattle.lifetimes.specs.Small.{AreWhole}
 use Rattle.lifetimes.specs.declared.ending.Ending.{Ending}
 use Rattle.lifetimes.specs.declared.event.Event.{Event}
@@ -27,6 +29,8 @@ use Rattle.outside.specs.World.{History}
 use Rattle.outside.specs.declared.disk.DiskFile.{DiskFile}
 use Rattle.outside.specs.declared.disk.DiskFile.TheVariants.{Output}
 use Rattle.poll_core.proofs.ImageLemmas.{no_journal, one_found}
+use Rattle.poll_core.proofs.RuleLemmas.{OneSet}
+use Rattle.poll_core.specs.MadeOf.{HasRules}
 use Rattle.poll_core.specs.Polled.{IsStanding}
 use Rattle.standing.proofs.OwnerLemmas.{one_owner}
 use Rattle.standing.specs.Apart.{Apart}
@@ -41,9 +45,9 @@ use Rattle.standing.specs.Stands.{CheckpointStands, LinesStand}
 
 module _ (n : ℕ) (few : n ≤ 1000) (history : History) (of : IsOfRounds n history) (rules : Rules) (ruled : IsRuled rules) (apart : Apart rules.front_size history) where
   abbrev Owns : Row → ℕ → Type 0
-  Owns row file = IsOwner rules history row file × (row.lines ≡ written n file)
+  Owns row file = IsOwner (one_era rules) history row file × (row.lines ≡ written n file)
 
-  rows_give : (rows : List Row) (next_id : ℕ) (marks : List Mark) → LinesStand rules history rows next_id marks → AreWhole rules history rows → sum_by lines_by rows ≡ n
+  rows_give : (rows : List Row) (next_id : ℕ) (marks : List Mark) → LinesStand (one_era rules) history rows next_id marks → AreWhole (one_era rules) history rows → sum_by lines_by rows ≡ n
   rows_give rows next_id marks stand whole =
       let each = owned n few history of rules ruled rows next_id marks apart stand whole in
       let all = files_of Owns rows each in
@@ -52,17 +56,17 @@ module _ (n : ℕ) (few : n ≤ 1000) (history : History) (of : IsOfRounds n his
       let has : (round : ℕ) → 1 ≤ round → round ≤ n → Has all.files (file_of_round round) = λ round some within.
       let its = whole_of_round n few history of rules ruled rows next_id marks apart stand whole round some within in
       let owner = each its.place its.row its.at in
-      let same : owner.0 ≡ file_of_round round = one_owner rules history its.row owner.0 (file_of_round round) apart owner.1.0 its.owner in
+      let same : owner.0 ≡ file_of_round round = one_owner (one_era rules) history its.row owner.0 (file_of_round round) apart owner.1.0 its.owner in
       subst (Has all.files) same
-      (has_file Owns rows all.files (λ row file other owns owns_too. one_owner rules history row file other apart owns.0 owns_too.0) all.own its.place its.row owner.0 its.at owner.1)
+      (has_file Owns rows all.files (λ row file other owns owns_too. one_owner (one_era rules) history row file other apart owns.0 owns_too.0) all.own its.place its.row owner.0 its.at owner.1)
       in
       same_sum Owns n rows all.files (λ row file owns. owns.1) all.own ∙ all_rounds n all.files alone has
 
   -- what stands in an image that has the checkpoint
-  checkpoint_gives : (image : Image DiskFile) (checkpoint : Checkpoint) → HasCheckpoint (Some checkpoint) image → IsStanding rules history image → AreWhole rules history checkpoint.rows → lines_of checkpoint.rows ≡ n
-  checkpoint_gives image checkpoint has standing whole =
+  checkpoint_gives : OneSet → HasRules rules.settings rules → (image : Image DiskFile) (checkpoint : Checkpoint) → HasCheckpoint (Some checkpoint) image → IsSoundBy rules image → IsStanding history image → AreWhole (one_era rules) history checkpoint.rows → lines_of checkpoint.rows ≡ n
+  checkpoint_gives one_set own image checkpoint has sound standing whole =
       let there : standing.there ≡ found checkpoint = one_found image standing.there (found checkpoint) standing.found has in
-      let stands : CheckpointStands rules history checkpoint (image Output) = subst (λ (f : Found). Standing rules history f (image Output)) there standing.stands in
+      let stands : CheckpointStands (one_era rules) history checkpoint (image Output) = subst (λ (f : Found). Standing (one_era rules) history f (image Output)) there (standing_by_one one_set rules own history image sound standing) in
       rows_give checkpoint.rows checkpoint.next_id stands.stands.marks stands.stands.lines_stand whole
 
 -- ---- the last checkpoint
@@ -75,15 +79,15 @@ no_rows : (image : Image DiskFile) (checkpoint : Option Checkpoint) → HasCheck
 no_rows image None none has = refl
 no_rows image (Some checkpoint) none has = absurd (no_journal image has.0 checkpoint none has.1)
 
-pub lines_are_rounds : (rounds : ℕ) → rounds ≤ 1000 → (rules : Rules) → IsRuled rules → (events : List Event) → map move_of events ≡ script rounds → (ending : Ending) → IsEndingBy rules (reverse events) ending
+pub lines_are_rounds : OneSet → (rounds : ℕ) → rounds ≤ 1000 → (rules : Rules) → HasRules settings_text rules → IsRuled rules → (events : List Event) → map move_of events ≡ script rounds → (ending : Ending) → IsEndingBy rules (reverse events) ending
     → IsOfRounds rounds (history_of ending.tree) → (checkpoint : Option Checkpoint) → HasCheckpoint checkpoint (seen_of ending.disk) → lines_of (rows_in checkpoint) ≡ rounds
-lines_are_rounds zero few rules ruled events played ending ends of checkpoint has =
+lines_are_rounds one_set zero few rules has_rules ruled events played ending ends of checkpoint has =
     no_rows (seen_of ending.disk) checkpoint ((ends.none_open (early events played)).each (seen_of ending.disk) (seen_left ending.disk)) has
-lines_are_rounds (suc n) few rules ruled events played ending ends of checkpoint has =
+lines_are_rounds one_set (suc n) few rules has_rules ruled events played ending ends of checkpoint has =
     let history : History = history_of ending.tree in
     let image : Image DiskFile = seen_of ending.disk in
     let apart : Apart rules.front_size history = apart_by_rounds (suc n) rules.front_size history few ruled.front_size of in
-    let standing : IsStanding rules history image = (ends.standing apart).each image (seen_left ending.disk) in
+    let standing : IsStanding history image = (ends.standing apart).each image (seen_left ending.disk) in
     let reached = (ends.reached apart (undisturbed n events played) (small (suc n) few history of) (not_large (suc n) few history of rules ruled)).each image (seen_left ending.disk) in
     by_checkpoint image (suc n) reached.checkpoint checkpoint reached.has has
-    (checkpoint_gives (suc n) few history of rules ruled apart image reached.checkpoint reached.has standing reached.whole)
+    (checkpoint_gives (suc n) few history of rules ruled apart one_set (rules_own settings_text rules has_rules) image reached.checkpoint reached.has (ends.sound.each image (seen_left ending.disk)) standing reached.whole)

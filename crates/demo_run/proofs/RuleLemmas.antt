@@ -1,12 +1,12 @@
 -- The rules of the settings of a script are what the script counts on.
 use Rattle.std.proofs.Common.{◌≡◌, ℕ, ◌≤◌, List, [], ◌∷◌, length, map, sym, ap, subst, ◌∙◌, arith}
-use Rattle.std.specs.Prelude.{All}
+use Rattle.std.specs.Prelude.{All, None}
 use Rattle.std.proofs.lemmas.List.{length-map}
 use Rattle.demo_run.specs.Script.{log_name, rotated_name, settings_text}
 use Rattle.demo_run.proofs.Given.{entry_of, given_are, network_is}
 use Rattle.demo_run.proofs.IncludeLemmas.{log_included, no_patterns, patterns_are, rotated_included, script_pattern}
 use Rattle.demo_run.proofs.Lines.{cuts_of_rounds, lines_cut, text_of_round, texts_of_lines}
-use Rattle.demo_run.proofs.Ruled.{AreRounds, IsRuled, lines_of_rounds}
+use Rattle.demo_run.proofs.Ruled.{AreRounds, IsRuled, entries_of, lines_of_rounds}
 use Rattle.demo_run.proofs.Said.{script_settings, settings_are}
 use Rattle.demo_run.proofs.Widths.{output_short}
 use Rattle.entry_model.specs.LogRecord.{LogRecord}
@@ -31,7 +31,7 @@ use Rattle.settings_text.specs.declared.settings.Settings.{Settings}
 use Rattle.standing.proofs.ExampleLemmas.{all_used}
 use Rattle.standing.specs.Included.{IsIncluded}
 use Rattle.standing.specs.Marks.{numbered}
-use Rattle.standing.specs.Rules.{Rules, Includes, entries_of, output_text}
+use Rattle.standing.specs.Rules.{Rules, Includes, output_text}
 use Rattle.standing.specs.Tokens.{texts, tokens_of}
 
 module _ (pipeline : Pipeline) (made : IsMadeOf settings_text pipeline) where
@@ -76,13 +76,14 @@ module _ (pipeline : Pipeline) (made : IsMadeOf settings_text pipeline) where
   ruled = record {
     front_size = omega (arith, ap (λ (s : Settings). s.fingerprint_size) are);
     from_beginning = ap (λ (s : Settings). begins_at_end s.start_at) are;
+    no_times = ap (λ (s : Settings). s.include_observed_time) are;
     logs = λ log few. includes (log_name log) (log_included log few);
     rotated = λ round few. includes (rotated_name round) (rotated_included round few);
     some_bytes = λ content. subst (All (λ (c : Cut). 1 ≤ c.used)) (sym (cuts_are content)) (all_used (first_cut 1048576) (first_cut-is_rule 1048576 (omega arith)) content);
     entries = λ rounds few path. ap length (entries_are rounds few path) ∙ length-map rounds (entry_of path);
     output = λ rounds few count path short id few_files.
         let bound = output_short path short id few_files rounds few 1 (omega (arith, count)) in
-        omega (arith, bound, ap (λ (entries : List LogRecord). length (output_text its_rules (numbered id 1 entries))) (entries_are rounds few path));
+        omega (arith, bound, ap (λ (entries : List LogRecord). length (output_text its_rules (numbered id 1 None entries))) (entries_are rounds few path));
   }
 
 pub is_ruled : (rules : Rules) → HasRules settings_text rules → IsRuled rules

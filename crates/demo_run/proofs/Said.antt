@@ -33,6 +33,7 @@ script_settings = record {
   attributes = no_members;
   resource = no_members;
   operators = [];
+  include_observed_time = false;
 }
 
 abbrev script_json : Data

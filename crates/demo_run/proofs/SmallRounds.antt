@@ -1,6 +1,8 @@
 -- The history of a script is small, and its files have few lines.
-use Rattle.std.proofs.Common.{◌≡◌, ℕ, zero, suc, ◌≤◌, List, [], ◌∷◌, ◌++◌, length, drop, Bool, true, false, refl, sym, ap, subst, ◌∙◌, inl, inr, arith, append_assoc}
-use Rattle.std.proofs.lemmas.List.Elements.{All-weaker}
+use Rattle.std.proofs.Common.{◌≡◌, ℕ, zero, suc, ◌≤◌, List, [], ◌∷◌, ◌++◌, length, drop, Option, None, Some, Bool, true, false, refl, sym, ap, subst, ◌∙◌, inl, inr, arith, append_assoc}
+use Rattle.std.specs.List.{All}
+use Rattle.std.specs.Prelude.{is_some}
+use Rattle.std.proofs.lemmas.List.Elements.{All-head, All-tail, All-weaker}
 use Rattle.std.proofs.lemmas.List.Sums.{sum_by-le}
 use Rattle.demo_run.specs.Script.{line_of}
 use Rattle.demo_run.specs.Steps.{IsOfRounds, steps_of}
@@ -10,17 +12,17 @@ use Rattle.demo_run.proofs.Named.{EachGiven, HasName, few_created, names_at, nam
 use Rattle.demo_run.proofs.Names.{of_named}
 use Rattle.demo_run.proofs.NameTexts.{IsGiven, given_reachable, given_short}
 use Rattle.demo_run.proofs.RoundsOf.{are_rounds, content_is, content_short, few_rounds, rounds_of}
-use Rattle.demo_run.proofs.Ruled.{IsRuled, lines_of_rounds}
-use Rattle.lifetimes.specs.Large.{Large, Share, IsShare, text_of}
+use Rattle.demo_run.proofs.Ruled.{IsRuled, entries_of, lines_of_rounds}
+use Rattle.lifetimes.specs.Large.{Large, Share, IsShare, entries_of as all_of, text_of}
 use Rattle.lifetimes.specs.Small.{IsSmall, created}
 use Rattle.outside.specs.World.{create, append, rename, remove, look, miss, unlisted, History, Names, bytes, names, without}
 use Rattle.standing.proofs.PrefixLemmas.{begins-true}
 use Rattle.standing.specs.Limits.{is_compressed}
-use Rattle.standing.specs.Marks.{numbered}
+use Rattle.standing.specs.Marks.{Mark, numbered, untimed}
 use Rattle.standing.specs.Moments.{IsNamed}
 use Rattle.standing.specs.Owner.{MayBegin}
 use Rattle.standing.specs.Prefixes.{IsPrefix, begins as begins_with}
-use Rattle.standing.specs.Rules.{Rules, entries_of, output_text}
+use Rattle.standing.specs.Rules.{Rules, output_text}
 use Rattle.standing.specs.Tokens.{tokens_of}
 
 -- ---- what the steps of others decide
@@ -103,18 +105,32 @@ module _ (n : ℕ) (few : n ≤ 1000) (history : History) (of : IsOfRounds n his
   -- ---- how many lines there are
 
   module _ (rules : Rules) (ruled : IsRuled rules) where
+    no_time : (observed : Option ℕ) → is_some observed ≡ false → observed ≡ None
+    no_time None is = refl
+    no_time (Some time) is = absurd (let never : true ≡ false = is in cc (never))
+
+    -- where no line is to have a time, none has one
+    untimed_so : (stamps : Bool) → stamps ≡ false → (marks : List Mark) → All (λ (mark : Mark). is_some mark.observed ≡ stamps) marks → untimed marks ≡ marks
+    untimed_so stamps off [] all = refl
+    untimed_so stamps off (mark ∷ marks) all =
+        let timed = λ (m : Mark). is_some m.observed ≡ stamps in
+        ap (λ (observed : Option ℕ). record mark { observed = observed } ∷ untimed marks) (sym (no_time mark.observed (All-head timed mark marks all ∙ off)))
+        ∙ ap (λ (ms : List Mark). mark ∷ ms) (untimed_so stamps off marks (All-tail timed mark marks all))
+
     -- files are read from their beginning
     pub no_start : (file start : ℕ) → MayBegin rules history file start → start ≡ 0
     no_start file start (inl none) = none
     no_start file start (inr at_end) = absurd (let never : true ≡ false = sym at_end.from_end ∙ ruled.from_beginning in cc (never))
 
-    share_within : (share : Share) → IsShare rules history share → length (text_of rules history share) ≤ 1000000000
+    share_within : (share : Share) → IsShare rules history share → length (text_of rules share) ≤ 10000000
     share_within share is =
         let begun : drop share.start (bytes history share.file) ≡ lines_of_rounds (rounds_of n share.file) =
         ap (λ (k : ℕ). drop k (bytes history share.file)) (no_start share.file share.start is.begins) ∙ lines_are share.file in
         let given : IsGiven 1000 share.path = given_path (is.looks.later ++ look share.file ∷ []) is.moment share.path share.file (is.looks.split ∙ sym (append_one is.looks.later share.file is.moment)) is.under in
-        let text : length (text_of rules history share) ≡ length (output_text rules (numbered share.id 1 (entries_of rules share.path (tokens_of rules (lines_of_rounds (rounds_of n share.file)))))) =
-        ap (λ (b : List ℕ). length (output_text rules (numbered share.id 1 (entries_of rules share.path (tokens_of rules b))))) begun in
+        let lines : share.lines ≡ numbered share.id 1 None (all_of rules history share) = sym (untimed_so rules.stamps ruled.no_times share.lines is.lines.times) ∙ is.lines.all in
+        let text : length (text_of rules share) ≡ length (output_text rules (numbered share.id 1 None (entries_of rules share.path (tokens_of rules (lines_of_rounds (rounds_of n share.file)))))) =
+        ap (λ (marks : List Mark). length (output_text rules marks)) lines
+        ∙ ap (λ (b : List ℕ). length (output_text rules (numbered share.id 1 None (entries_of rules share.path (tokens_of rules b))))) begun in
         let some : length (rounds_of n share.file) ≤ 1000 = omega (arith, few_rounds n share.file, few) in
         let within = ruled.output (rounds_of n share.file) (are_rounds n share.file few) some share.path (omega (arith, given_short share.path given)) share.id is.few_ids in
         omega (arith, text, within, some)
@@ -125,6 +141,6 @@ module _ (n : ℕ) (few : n ≤ 1000) (history : History) (of : IsOfRounds n his
           arith,
           large.long,
           large.few,
-          sum_by-le (λ (share : Share). length (text_of rules history share)) 1000000000 large.shares
-              (All-weaker (IsShare rules history) (λ (share : Share). length (text_of rules history share) ≤ 1000000000) share_within large.shares large.are),
+          sum_by-le (λ (share : Share). length (text_of rules share)) 10000000 large.shares
+              (All-weaker (IsShare rules history) (λ (share : Share). length (text_of rules share) ≤ 10000000) share_within large.shares large.are),
         )

@@ -1,5 +1,5 @@
 -- Each row has taken its file as a whole, and each round's file has a row.
-use Rattle.std.proofs.Common.{◌≡◌, ℕ, zero, suc, ◌-◌, ◌<◌, ◌≤◌, ◌==◌, List, [], ◌∷◌, ◌++◌, length, take, drop, Bool, true, Some, refl, sym, ap, subst, ◌∙◌, inl, inr, arith, eq-eqb, length-append, length-take}
+use Rattle.std.proofs.Common.{◌≡◌, ℕ, zero, suc, ◌+◌, ◌-◌, ◌<◌, ◌≤◌, ◌==◌, List, [], ◌∷◌, ◌++◌, length, take, drop, Bool, true, Some, refl, sym, ap, subst, ◌∙◌, inl, inr, arith, eq-eqb, length-append, length-take}
 use Rattle.std.specs.Prelude.{if◌then◌else◌, All, slice_get}
 use Rattle.std.proofs.lemmas.Bool.{cases_eq}
 use Rattle.std.proofs.lemmas.List.{append-nil, take_all}
@@ -11,8 +11,10 @@ use Rattle.demo_run.proofs.Contents.{Begins, begins, content, file_of_round}
 use Rattle.demo_run.proofs.FileSums.{Differ, written}
 use Rattle.demo_run.proofs.NameTexts.{IsGiven, given_later, of_log, of_rotation}
 use Rattle.demo_run.proofs.RoundsOf.{are_rounds, rounds_of}
-use Rattle.demo_run.proofs.Ruled.{IsRuled}
+use Rattle.demo_run.proofs.Ruled.{IsRuled, entries_of}
 use Rattle.demo_run.proofs.SmallRounds.{bytes_are, has_name, lines_are, no_start}
+use Rattle.lifetimes.proofs.EraLemmas.{one_offset, one_taken}
+use Rattle.lifetimes.specs.OneEra.{one_era}
 use Rattle.lifetimes.specs.Small.{AreWhole, IsWhole}
 use Rattle.line_splitter.specs.Cuts.{Cut}
 use Rattle.outside.specs.World.{History, bytes}
@@ -25,7 +27,7 @@ use Rattle.standing.specs.Owner.{IsOwner}
 use Rattle.standing.specs.Part.{HasTaken, whole}
 use Rattle.standing.specs.Reached.{Reached}
 use Rattle.standing.specs.Rows.{Row, IsRowAt}
-use Rattle.standing.specs.Rules.{Rules, Includes, entries_of}
+use Rattle.standing.specs.Rules.{Rules, Includes}
 use Rattle.standing.specs.Stands.{LinesStand, RowStands}
 use Rattle.standing.specs.Tokens.{texts, tokens_of, used, used_by}
 
@@ -72,8 +74,8 @@ included rules path ruled (of_rotation round few is) = subst (Includes rules) (s
 
 module _ (n : ℕ) (few : n ≤ 1000) (history : History) (of : IsOfRounds n history) (rules : Rules) (ruled : IsRuled rules) where
   -- a row that begins at the file's beginning and has taken all of it
-  whole_lines : (row : Row) (file : ℕ) (tokens : List (List ℕ)) → row.start ≡ 0 → HasTaken rules (whole rules row.start) (bytes history file) tokens row → Reached rules (bytes history file) row (length (bytes history file))
-      → row.lines ≡ written n file
+  whole_lines : (row : Row) (file : ℕ) (tokens : List (List ℕ)) → row.start ≡ 0 → HasTaken rules (whole rules row.start) (bytes history file) tokens row
+      → row.offset ≡ row.start + used rules (take (length (bytes history file) - row.start) (drop row.start (bytes history file))) → row.lines ≡ written n file
   whole_lines row file tokens start has reached =
       let all : List ℕ = bytes history file in
       let split : rules.cuts all ≡ has.bound.taken ++ has.bound.behind = ap (λ (k : ℕ). rules.cuts (drop k all)) (sym start) ∙ has.bound.split in
@@ -88,15 +90,15 @@ module _ (n : ℕ) (few : n ≤ 1000) (history : History) (of : IsOfRounds n his
       ∙ ruled.entries (rounds_of n file) (are_rounds n file few) row.path in
       omega (arith, has.lines, entries)
 
-  module _ (rows : List Row) (next_id : ℕ) (marks : List Mark) (apart : Apart rules.front_size history) (stand : LinesStand rules history rows next_id marks) (all_whole : AreWhole rules history rows) where
+  module _ (rows : List Row) (next_id : ℕ) (marks : List Mark) (apart : Apart rules.front_size history) (stand : LinesStand (one_era rules) history rows next_id marks) (all_whole : AreWhole (one_era rules) history rows) where
     -- the file of a round is taken
-    pub whole_of_round : (round : ℕ) → 1 ≤ round → round ≤ n → IsWhole rules history rows (file_of_round round)
+    pub whole_of_round : (round : ℕ) → 1 ≤ round → round ≤ n → IsWhole (one_era rules) history rows (file_of_round round)
     whole_of_round round some within =
         let name = has_name n few history of round some within in
         all_whole name.path (file_of_round round) (included rules name.path ruled (given_later n 1000 name.path few name.given)) name.leads
         (omega (arith, filled n round some within, ap length (bytes_are n few history of (file_of_round round))))
 
-    owner_filled : (row : Row) (file : ℕ) → IsOwner rules history row file → 0 < length (content n file)
+    owner_filled : (row : Row) (file : ℕ) → IsOwner (one_era rules) history row file → 0 < length (content n file)
     owner_filled row file owner =
         let grown = bytes_grow owner.seen_at history file (look_later history file owner.seen_at owner.seen) in
         omega (
@@ -109,10 +111,10 @@ module _ (n : ℕ) (few : n ≤ 1000) (history : History) (of : IsOfRounds n his
           ap length (bytes_are n few history of file),
         )
 
-    owner_whole : (row : Row) (file : ℕ) → IsOwner rules history row file → IsWhole rules history rows file
+    owner_whole : (row : Row) (file : ℕ) → IsOwner (one_era rules) history row file → IsWhole (one_era rules) history rows file
     owner_whole row file owner =
         let first : Begins n file = begins n file (owner_filled row file owner) in
-        subst (IsWhole rules history rows) first.file_is (whole_of_round first.round first.some first.few)
+        subst (IsWhole (one_era rules) history rows) first.file_is (whole_of_round first.round first.some first.few)
 
     one_row : (place other : ℕ) (row other_row : Row) → IsRowAt rows place row → IsRowAt rows other other_row → place ≡ other → other_row ≡ row
     one_row place other row other_row at other_at same =
@@ -120,11 +122,11 @@ module _ (n : ℕ) (few : n ≤ 1000) (history : History) (of : IsOfRounds n his
         cc (both)
 
     -- no two rows have one file
-    pub rows_differ : Differ (IsOwner rules history) rows
+    pub rows_differ : Differ (IsOwner (one_era rules) history) rows
     rows_differ place other row other_row file at other_at differ owner owner_too =
-        owners_differ rules history rows next_id marks place other row other_row file file stand at other_at differ owner owner_too refl
+        owners_differ (one_era rules) history rows next_id marks place other row other_row file file stand at other_at differ owner owner_too refl
 
-    whole_here : (place : ℕ) (row : Row) (file : ℕ) → IsRowAt rows place row → IsOwner rules history row file → Reached rules (bytes history file) row (length (bytes history file))
+    whole_here : (place : ℕ) (row : Row) (file : ℕ) → IsRowAt rows place row → IsOwner (one_era rules) history row file → Reached rules (bytes history file) row (length (bytes history file))
     whole_here place row file at owner =
         let its = owner_whole row file owner in
         elim (cases_eq place its.place) [
@@ -133,7 +135,10 @@ module _ (n : ℕ) (few : n ≤ 1000) (history : History) (of : IsOfRounds n his
         ]
 
     -- each row has an owner, and as many lines as rounds wrote to it
-    pub owned : (place : ℕ) (row : Row) → IsRowAt rows place row → (file : ℕ) × (IsOwner rules history row file × (row.lines ≡ written n file))
+    pub owned : (place : ℕ) (row : Row) → IsRowAt rows place row → (file : ℕ) × (IsOwner (one_era rules) history row file × (row.lines ≡ written n file))
     owned place row at =
-        let stands : RowStands rules history row (of_id row.id marks) = stand.each_row place row at in
-        (stands.file, (stands.owner, whole_lines row stands.file stands.tokens (no_start n few history of rules ruled stands.file row.start stands.begins) stands.taken (whole_here place row stands.file at stands.owner)))
+        let stands : RowStands (one_era rules) history row (of_id row.id marks) = stand.each_row place row at in
+        let all : List ℕ = bytes history stands.file in
+        let reached : row.offset ≡ row.start + used rules (take (length all - row.start) (drop row.start all)) =
+        subst (λ (from : ℕ). row.offset ≡ from + used rules (take (length all - from) (drop from all))) (one_offset rules history row (of_id row.id marks) stands) (whole_here place row stands.file at stands.owner) in
+        (stands.file, (stands.owner, whole_lines row stands.file stands.tokens (no_start n few history of rules ruled stands.file row.start stands.begins) (one_taken rules history row (of_id row.id marks) stands) reached))

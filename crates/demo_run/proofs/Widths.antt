@@ -91,7 +91,7 @@ module _ (path : List ℕ) (short : length path ≤ 16) where
       let named : List ℕ = file ++ codes "\"}},{\"key\":\"agent.line\",\"value\":{\"intValue\":\"" in
       omega (
         arith,
-        length-decimal-le 4 id (omega arith) (omega (arith, few)) (omega (arith, few)),
+        length-decimal-le 5 id (omega arith) (omega (arith, few)) (omega (arith, few)),
         length-decimal-le 4 number (omega arith) (omega (arith, few_lines)) (omega (arith, few_lines)),
         length-append file (codes "\"}},{\"key\":\"agent.line\",\"value\":{\"intValue\":\""),
         length-append named (decimal number),
@@ -104,12 +104,12 @@ module _ (path : List ℕ) (short : length path ≤ 16) where
       omega (arith, front_short round few, tail_short id number few_files few_lines, length-append (line_front None (entry_of path round)) (line_tail id number))
 
   abbrev line_of_mark : Mark → List ℕ
-  line_of_mark mark = output_line mark.id mark.number None mark.entry
+  line_of_mark mark = output_line mark.id mark.number mark.observed mark.entry
 
   pub output_short : (id : ℕ) → id ≤ row_limit → (rounds : List ℕ) → AreRounds rounds → (number : ℕ) → number + length rounds ≤ 2000
-      → length (flat_map line_of_mark (numbered id number (map (entry_of path) rounds))) ≤ length rounds * widest
+      → length (flat_map line_of_mark (numbered id number None (map (entry_of path) rounds))) ≤ length rounds * widest
   output_short id few [] are number few_lines = omega arith
   output_short id few (round ∷ rounds) are number few_lines =
       let later = output_short id few rounds (All-tail (λ (n : ℕ). n ≤ 1000) round rounds are) (number + 1) (omega (arith, few_lines)) in
       let first = line_short id number round few (omega (arith, few_lines)) (All-head (λ (n : ℕ). n ≤ 1000) round rounds are) in
-      omega (arith, first, later, length-append (output_line id number None (entry_of path round)) (flat_map line_of_mark (numbered id (number + 1) (map (entry_of path) rounds))))
+      omega (arith, first, later, length-append (output_line id number None (entry_of path round)) (flat_map line_of_mark (numbered id (number + 1) None (map (entry_of path) rounds))))

@@ -2,7 +2,7 @@
 use Rattle.std.specs.Prelude.{◌≡◌, ℕ, List, [], ◌∷◌, reverse}
 use Rattle.demo_run.specs.Moves.{Move, step, step_within, poll, stop, disk_fails, tree_fails, reopen}
 use Rattle.demo_run.specs.Script.{script}
-use Rattle.outside.specs.World.{Event, create, append, rename, remove, look, miss, unlisted, History}
+use Rattle.outside.specs.World.{create, append, rename, remove, look, miss, unlisted, History}
 
 -- those of a history
 abbrev pub steps_of : History → History

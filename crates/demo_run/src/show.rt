@@ -5,6 +5,7 @@ ghost use Rattle.demo_run.specs.Shown.{IsDemo};
 use crate::ending::kept_on;
 use crate::playing::script_of;
 use lifetimes::run_script;
+use poll_core::laws::settings_give_one_set_of_rules;
 use std::alloc::{AllocError, Global};
 
 const SETTINGS: &[u8] = b"{\"include\":[\"d*.log*\"],\"start_at\":\"beginning\"}";
@@ -29,6 +30,7 @@ pub fn play_rounds(alloc: Global, rounds: u16) -> Result<Demo, AllocError>
     requires { rounds ≤ 1000 }
     ensures { IfOk result (IsDemo rounds) }
 {
+    settings_give_one_set_of_rules();
     let script = script_of(alloc, rounds)?;
     let mut ending = match run_script(alloc, SETTINGS, &script) {
         Ok(ending) => ending,

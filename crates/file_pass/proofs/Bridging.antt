@@ -9,13 +9,14 @@ use Rattle.outside.proofs.Moving.{moves_none}
 use Rattle.outside.specs.Moment.{Moves}
 use Rattle.outside.specs.World.{World, History, bytes}
 use Rattle.standing.proofs.MomentLemmas.{bytes_grow}
+use Rattle.standing.specs.Poll.{Poll}
 use Rattle.standing.specs.Limits.{most_taken, is_compressed}
 use Rattle.standing.specs.Look.{Look, Outcome, finds_new, finds_row, content, front, size, piece, new_row, offset_found, outcome, fed, lines_of}
 use Rattle.standing.specs.Marks.{Mark}
 use Rattle.standing.specs.Rows.{Row}
 use Rattle.standing.specs.Rules.{Rules}
 use Rattle.standing.specs.Sums.{is_passed_as_compressed, is_left_out}
-use Rattle.file_pass.specs.Fed.{rules_in}
+use Rattle.file_pass.specs.Fed.{poll_of, rules_in}
 use Rattle.file_pass.specs.Cost.{cost_on}
 use Rattle.file_pass.specs.Gain.{Gain, gain_of, one_if, with_taken}
 use Rattle.file_pass.specs.LookTaken.{IsGainOf, TakesLook, IsOpenAt, SeenTaken, look_at}
@@ -57,10 +58,10 @@ pub piece_is : (here : Look) (offset : ℕ) (given : List ℕ) → given ≡ tak
 piece_is here offset given stood many = stood ∙ ap (λ n. take n (drop offset (content here))) (sym many)
 
 -- what a file that was read on adds to the counts
-module _ (rules : Rules) (first : Bool) (here : Look) (found : Outcome) (offset : ℕ) (at : offset_found rules first here found ≡ Some offset)
+module _ (poll : Poll) (here : Look) (found : Outcome) (offset : ℕ) (at : offset_found poll here found ≡ Some offset)
     (no_gzip : is_passed_as_compressed here found ≡ false) (has_room : is_left_out here found ≡ false)
     (read : here.skipped ≡ false) (some : 0 < size here) (begins : offset ≤ size here) (added : List Mark) (more : Bool) where
-  gain_whole : here.end ≡ size here → more ≡ nat_lt (offset + most_taken) (size here) → IsGainOf rules first here found added (gain_of (Read Whole more (length added)))
+  gain_whole : here.end ≡ size here → more ≡ nat_lt (offset + most_taken) (size here) → IsGainOf poll here found added (gain_of (Read Whole more (length added)))
   gain_whole end is = record {
     files = sym (ap one_if (filled_some here some));
     lines = refl;
@@ -72,7 +73,7 @@ module _ (rules : Rules) (first : Bool) (here : Look) (found : Outcome) (offset 
     full = sym (ap one_if has_room);
   }
 
-  gain_failed : here.end < size here → more ≡ false → IsGainOf rules first here found added (gain_of (Read Failed more (length added)))
+  gain_failed : here.end < size here → more ≡ false → IsGainOf poll here found added (gain_of (Read Failed more (length added)))
   gain_failed early is = record {
     files = sym (ap one_if (filled_some here some));
     lines = refl;
@@ -84,27 +85,27 @@ module _ (rules : Rules) (first : Bool) (here : Look) (found : Outcome) (offset 
     full = sym (ap one_if has_room);
   }
 
-pub look_same : (rules : Rules) (first : Bool) (here : Look) (before : List Row) {after other : List Row} {added other_added : List Mark} {gain other_gain : Gain}
-    → after ≡ other → added ≡ other_added → gain ≡ other_gain → TakesLook rules first here before other other_added other_gain → TakesLook rules first here before after added gain
-look_same rules first here before rows lines counts taken = rw (rows, lines, counts) taken
+pub look_same : (poll : Poll) (here : Look) (before : List Row) {after other : List Row} {added other_added : List Mark} {gain other_gain : Gain}
+    → after ≡ other → added ≡ other_added → gain ≡ other_gain → TakesLook poll here before other other_added other_gain → TakesLook poll here before after added gain
+look_same poll here before rows lines counts taken = rw (rows, lines, counts) taken
 
 pub start_within : (at_end : Bool) (all : ℕ) → cond at_end all 0 ≤ all
 start_within true all = omega arith
 start_within false all = omega arith
 
 -- how far the bytes go that were read on
-record Reaches (rules : Rules) (first : Bool) (here : Look) (offset : ℕ) (given : List ℕ) (gain : Gain) (added : List Mark) : Type 0 where
+record Reaches (poll : Poll) (here : Look) (offset : ℕ) (given : List ℕ) (gain : Gain) (added : List Mark) : Type 0 where
   within : here.end ≤ size here
   reaches : offset ≤ here.end
   are : given ≡ piece here offset
-  sums : (found : Outcome) → offset_found rules first here found ≡ Some offset → is_passed_as_compressed here found ≡ false → is_left_out here found ≡ false → IsGainOf rules first here found added gain
+  sums : (found : Outcome) → offset_found poll here found ≡ Some offset → is_passed_as_compressed here found ≡ false → is_left_out here found ≡ false → IsGainOf poll here found added gain
 
-module _ (rules : Rules) (first : Bool) (path : List ℕ) (file : OpenFile) (place : ℕ) (row : Row) (mid after : List Row) (added : List Mark) (found : Found) (old new : World)
-    (on : IsReadOn rules file place row mid after added found old new) (seen : ℕ) (moment : History) (at : IsOpenAt file seen moment old) (some : 0 < file.size) where
+module _ (poll : Poll) (path : List ℕ) (file : OpenFile) (place : ℕ) (row : Row) (mid after : List Row) (added : List Mark) (found : Found) (old new : World)
+    (on : IsReadOn poll file place row mid after added found old new) (seen : ℕ) (moment : History) (at : IsOpenAt file seen moment old) (some : 0 < file.size) where
   abbrev the_look : Look
   the_look = look_at path seen moment (end_for on.ending file.size (row.offset + length on.given)) false
 
-  reaches_for : (ending : Ending) → on.ending ≡ ending → Reaches rules first the_look row.offset on.given (gain_of found) added
+  reaches_for : (ending : Ending) → on.ending ≡ ending → Reaches poll the_look row.offset on.given (gain_of found) added
   reaches_for Whole is =
       let end : the_look.end ≡ file.size = ap (λ e. end_for e file.size (row.offset + length on.given)) is in
       record {
@@ -112,8 +113,8 @@ module _ (rules : Rules) (first : Bool) (path : List ℕ) (file : OpenFile) (pla
         reaches = omega (arith, end, on.begins);
         are = piece_is the_look row.offset on.given (stood_then file seen moment old new row.offset on.given on.ending at (omega (arith, on.within)) on.reads) (omega (arith, end, on.whole is));
         sums = λ o offset no_gzip has_room.
-            subst (λ (g : Gain). IsGainOf rules first the_look o added g) (sym (ap gain_of on.is ∙ ap (λ (e : Ending). gain_of (Read e on.more (length added))) is))
-            (gain_whole rules first the_look o row.offset offset no_gzip has_room refl (omega (arith, some, at.size_then)) (omega (arith, on.begins, at.size_then)) added on.more (end ∙ at.size_then) (on.left is ∙ ap (nat_lt (row.offset + most_taken)) at.size_then));
+            subst (λ (g : Gain). IsGainOf poll the_look o added g) (sym (ap gain_of on.is ∙ ap (λ (e : Ending). gain_of (Read e on.more (length added))) is))
+            (gain_whole poll the_look o row.offset offset no_gzip has_room refl (omega (arith, some, at.size_then)) (omega (arith, on.begins, at.size_then)) added on.more (end ∙ at.size_then) (on.left is ∙ ap (nat_lt (row.offset + most_taken)) at.size_then));
       }
   reaches_for Failed is =
       let end : the_look.end ≡ row.offset + length on.given = ap (λ e. end_for e file.size (row.offset + length on.given)) is in
@@ -124,29 +125,29 @@ module _ (rules : Rules) (first : Bool) (path : List ℕ) (file : OpenFile) (pla
         reaches = omega (arith, end);
         are = piece_is the_look row.offset on.given (stood_then file seen moment old new row.offset on.given on.ending at (omega (arith, on.within)) on.reads) (omega (arith, end, part));
         sums = λ o offset no_gzip has_room.
-            subst (λ (g : Gain). IsGainOf rules first the_look o added g) (sym (ap gain_of on.is ∙ ap (λ (e : Ending). gain_of (Read e on.more (length added))) is))
-            (gain_failed rules first the_look o row.offset offset no_gzip has_room refl (omega (arith, some, at.size_then)) (omega (arith, on.begins, at.size_then)) added on.more (omega (arith, end, part, at.size_then)) (on.not_left not_whole));
+            subst (λ (g : Gain). IsGainOf poll the_look o added g) (sym (ap gain_of on.is ∙ ap (λ (e : Ending). gain_of (Read e on.more (length added))) is))
+            (gain_failed poll the_look o row.offset offset no_gzip has_room refl (omega (arith, some, at.size_then)) (omega (arith, on.begins, at.size_then)) added on.more (omega (arith, end, part, at.size_then)) (on.not_left not_whole));
       }
   reaches_for Shrunk is = absurd (on.reads.grows seen (still_open file seen moment old at) is)
 
 -- what was read of a file whose row is known, or is made
-module _ (rules : Rules) (here : Look) (before : List Row) (read : here.skipped ≡ false) (some : 0 < size here) (plain : is_compressed (front rules here) ≡ false) (count : ℕ) where
-  cost_known : (place : ℕ) (row : Row) → slice_get before place ≡ Some row → place_of (front rules here) before ≡ Some place → count ≤ min most_taken (size here - row.offset) → count ≤ cost_on here (outcome rules before here)
-  cost_known place row at known few = subst (λ (o : Outcome). count ≤ cost_on here o) (sym (is_known rules true here before read some plain place row at known)) few
+module _ (poll : Poll) (here : Look) (before : List Row) (read : here.skipped ≡ false) (some : 0 < size here) (plain : is_compressed (front poll.rules here) ≡ false) (count : ℕ) where
+  cost_known : (place : ℕ) (row : Row) → slice_get before place ≡ Some row → place_of (front poll.rules here) before ≡ Some place → count ≤ min most_taken (size here - row.offset) → count ≤ cost_on here (outcome poll.rules before here)
+  cost_known place row at known few = subst (λ (o : Outcome). count ≤ cost_on here o) (sym (is_known poll here before read some plain place row at known)) few
 
-  cost_new : place_of (front rules here) before ≡ None → length before < row_limit → (offset : ℕ) → count ≤ min most_taken (size here - offset) → count ≤ cost_on here (outcome rules before here)
-  cost_new none room offset few = subst (λ (o : Outcome). count ≤ cost_on here o) (sym (is_fresh rules true here before read some plain none room)) (omega (arith, few))
+  cost_new : place_of (front poll.rules here) before ≡ None → length before < row_limit → (offset : ℕ) → count ≤ min most_taken (size here - offset) → count ≤ cost_on here (outcome poll.rules before here)
+  cost_new none room offset few = subst (λ (o : Outcome). count ≤ cost_on here o) (sym (is_fresh poll here before read some plain none room)) (omega (arith, few))
 
 -- a row that is made
 pub new_is : (setup : Setup) (path seen_front : List ℕ) (all id : ℕ) (here : Look) → here.path ≡ path → all ≡ size here → seen_front ≡ front (rules_in setup) here
-    → admitted setup all path seen_front id ≡ new_row (rules_in setup) setup.first here id
+    → admitted setup all path seen_front id ≡ new_row (poll_of setup) here id
 new_is setup path seen_front all id here same_path full is_front = rw (sym same_path, is_front, full) refl
 
 -- a row that is found, or made, and then read on
 module _ (setup : Setup) (path : List ℕ) (file : OpenFile) (seen_front : List ℕ) (plain : is_compressed seen_front ≡ false) (some : 0 < file.size)
     (before mid after : List Row) (place : ℕ) (added : List Mark) (found : Found) (count : ℕ) (old new : World) where
   known_short : (row : Row) → slice_get mid place ≡ Some row → IsShorter file row mid after added found old new → count ≤ min most_taken (file.size - row.offset) → IsKnown seen_front before place mid
-      → SeenTaken (rules_in setup) setup.first path file seen_front before after (with_taken count (gain_of found)) added old new
+      → SeenTaken (poll_of setup) path file seen_front before after (with_taken count (gain_of found)) added old new
   known_short row at shorter few known =
       let same_row : row ≡ with_front seen_front known.row =
       same_Some row (with_front seen_front known.row) (sym at ∙ ap (λ (l : List Row). slice_get l place) known.grown ∙ get_set before place known.row (with_front seen_front known.row) known.at) in
@@ -159,20 +160,20 @@ module _ (setup : Setup) (path : List ℕ) (file : OpenFile) (seen_front : List 
             let here = look_at path seen moment file.size false in
             let is_front : seen_front ≡ front (rules_in setup) here = seen_at.front_is in
             let full : file.size ≡ size here = seen_at.open_at.size_then in
-            let taken = takes_short (rules_in setup) setup.first here before refl (omega (arith, some, full)) (subst (λ (f : List ℕ). is_compressed f ≡ false) is_front plain) place known.row known.at
+            let taken = takes_short (poll_of setup) here before refl (omega (arith, some, full)) (subst (λ (f : List ℕ). is_compressed f ≡ false) is_front plain) place known.row known.at
             (subst (λ (f : List ℕ). place_of f before ≡ Some place) is_front known.first_one) (omega (arith, short, full)) full in
-            look_with (rules_in setup) setup.first here before after added (gain_of found) count
-            (look_same (rules_in setup) setup.first here before (shorter.same ∙ known.grown ∙ ap (λ (f : List ℕ). slice_set before place (with_front f known.row)) is_front) shorter.none (ap gain_of shorter.is) taken);
+            look_with (poll_of setup) here before after added (gain_of found) count
+            (look_same (poll_of setup) here before (shorter.same ∙ known.grown ∙ ap (λ (f : List ℕ). slice_set before place (with_front f known.row)) is_front) shorter.none (ap gain_of shorter.is) taken);
         cost = λ seen moment seen_at.
             let here = look_at path seen moment file.size false in
             let is_front : seen_front ≡ front (rules_in setup) here = seen_at.front_is in
             let full : file.size ≡ size here = seen_at.open_at.size_then in
-            cost_known (rules_in setup) here before refl (omega (arith, some, full)) (subst (λ (f : List ℕ). is_compressed f ≡ false) is_front plain) count place known.row known.at
+            cost_known (poll_of setup) here before refl (omega (arith, some, full)) (subst (λ (f : List ℕ). is_compressed f ≡ false) is_front plain) count place known.row known.at
             (subst (λ (f : List ℕ). place_of f before ≡ Some place) is_front known.first_one) (omega (arith, few, full, ap (λ (r : Row). r.offset) same_row));
       }
 
-  known_on : (row : Row) → slice_get mid place ≡ Some row → IsReadOn (rules_in setup) file place row mid after added found old new → count ≤ min most_taken (file.size - row.offset) → IsKnown seen_front before place mid
-      → SeenTaken (rules_in setup) setup.first path file seen_front before after (with_taken count (gain_of found)) added old new
+  known_on : (row : Row) → slice_get mid place ≡ Some row → IsReadOn (poll_of setup) file place row mid after added found old new → count ≤ min most_taken (file.size - row.offset) → IsKnown seen_front before place mid
+      → SeenTaken (poll_of setup) path file seen_front before after (with_taken count (gain_of found)) added old new
   known_on row at on few known = record {
     handles = on.reads.handles;
     moves = on.reads.moves;
@@ -185,13 +186,13 @@ module _ (setup : Setup) (path : List ℕ) (file : OpenFile) (seen_front : List 
         let same_row : row ≡ with_front (front (rules_in setup) here) seen_known.row =
         same_Some row (with_front (front (rules_in setup) here) seen_known.row) (sym at ∙ ap (λ (l : List Row). slice_get l place) seen_known.grown ∙ get_set before place seen_known.row (with_front (front (rules_in setup) here) seen_known.row) seen_known.at) in
         let same_offset : row.offset ≡ seen_known.row.offset = ap (λ (r : Row). r.offset) same_row in
-        let far = reaches_for (rules_in setup) setup.first path file place row mid after added found old new on seen moment seen_at.open_at some on.ending refl in
-        look_with (rules_in setup) setup.first here before after added (gain_of found) count
-        (takes_on (rules_in setup) setup.first here before refl (omega (arith, some, full)) (subst (λ (f : List ℕ). is_compressed f ≡ false) is_front plain) place seen_known.row seen_known.at seen_known.first_one
+        let far = reaches_for (poll_of setup) path file place row mid after added found old new on seen moment seen_at.open_at some on.ending refl in
+        look_with (poll_of setup) here before after added (gain_of found) count
+        (takes_on (poll_of setup) here before refl (omega (arith, some, full)) (subst (λ (f : List ℕ). is_compressed f ≡ false) is_front plain) place seen_known.row seen_known.at seen_known.first_one refl
         on.given after added (gain_of found) (omega (arith, same_offset, on.begins, full)) far.within (omega (arith, same_offset, far.reaches)) (far.are ∙ ap (piece here) same_offset)
         (on.fed_row ∙ ap (λ (l : List Row). slice_set l place (fed (rules_in setup) on.given row)) seen_known.grown
         ∙ ap (λ (r : Row). slice_set (slice_set before place (with_front (front (rules_in setup) here) seen_known.row)) place (fed (rules_in setup) on.given r)) same_row)
-        (on.lines ∙ ap (λ (r : Row). lines_of (rules_in setup) on.given r) same_row)
+        (on.lines ∙ ap (λ (r : Row). lines_of (poll_of setup) on.given r) same_row)
         (far.sums (finds_row place seen_known.row) (ap Some (sym same_offset)) refl refl));
     cost = λ seen moment seen_at.
         let here = look_at path seen moment (end_for on.ending file.size (row.offset + length on.given)) false in
@@ -199,7 +200,7 @@ module _ (setup : Setup) (path : List ℕ) (file : OpenFile) (seen_front : List 
         let full : file.size ≡ size here = seen_at.open_at.size_then in
         let same_row : row ≡ with_front seen_front known.row =
         same_Some row (with_front seen_front known.row) (sym at ∙ ap (λ (l : List Row). slice_get l place) known.grown ∙ get_set before place known.row (with_front seen_front known.row) known.at) in
-        cost_known (rules_in setup) here before refl (omega (arith, some, full)) (subst (λ (f : List ℕ). is_compressed f ≡ false) is_front plain) count place known.row known.at
+        cost_known (poll_of setup) here before refl (omega (arith, some, full)) (subst (λ (f : List ℕ). is_compressed f ≡ false) is_front plain) count place known.row known.at
         (subst (λ (f : List ℕ). place_of f before ≡ Some place) is_front known.first_one) (omega (arith, few, full, ap (λ (r : Row). r.offset) same_row));
   }
 
@@ -209,8 +210,8 @@ module _ (setup : Setup) (path : List ℕ) (file : OpenFile) (seen_front : List 
       let same_row : row ≡ added_row = same_Some row added_row (sym at ∙ ap (λ (l : List Row). slice_get l place) fresh.added ∙ ap (slice_get (before ++ added_row ∷ [])) fresh.last ∙ push_there before added_row) in
       omega (arith, shorter.short, ap (λ (r : Row). r.offset) same_row, start_within (setup.first && (rules_in setup).from_end) file.size)
 
-  new_on : (row : Row) → slice_get mid place ≡ Some row → IsReadOn (rules_in setup) file place row mid after added found old new → count ≤ min most_taken (file.size - row.offset) → IsAdmitted setup file.size path seen_front before place mid
-      → SeenTaken (rules_in setup) setup.first path file seen_front before after (with_taken count (gain_of found)) added old new
+  new_on : (row : Row) → slice_get mid place ≡ Some row → IsReadOn (poll_of setup) file place row mid after added found old new → count ≤ min most_taken (file.size - row.offset) → IsAdmitted setup file.size path seen_front before place mid
+      → SeenTaken (poll_of setup) path file seen_front before after (with_taken count (gain_of found)) added old new
   new_on row at on few fresh = record {
     handles = on.reads.handles;
     moves = on.reads.moves;
@@ -221,11 +222,11 @@ module _ (setup : Setup) (path : List ℕ) (file : OpenFile) (seen_front : List 
         let full : file.size ≡ size here = seen_at.open_at.size_then in
         let added_row : Row = admitted setup file.size path seen_front (length before + 1) in
         let same_row : row ≡ added_row = same_Some row added_row (sym at ∙ ap (λ (l : List Row). slice_get l place) fresh.added ∙ ap (slice_get (before ++ added_row ∷ [])) fresh.last ∙ push_there before added_row) in
-        let far = reaches_for (rules_in setup) setup.first path file place row mid after added found old new on seen moment seen_at.open_at some on.ending refl in
-        let is : row ≡ new_row (rules_in setup) setup.first here (length before + 1) = same_row ∙ new_is setup path seen_front file.size (length before + 1) here refl full is_front in
-        look_with (rules_in setup) setup.first here before after added (gain_of found) count
-        (takes_new (rules_in setup) setup.first here before refl (omega (arith, some, full)) (subst (λ (f : List ℕ). is_compressed f ≡ false) is_front plain)
-        row on.given after added (gain_of found) is (subst (λ (f : List ℕ). place_of f before ≡ None) is_front fresh.none) fresh.room (omega (arith, on.begins, full)) far.within far.reaches far.are
+        let far = reaches_for (poll_of setup) path file place row mid after added found old new on seen moment seen_at.open_at some on.ending refl in
+        let is : row ≡ new_row (poll_of setup) here (length before + 1) = same_row ∙ new_is setup path seen_front file.size (length before + 1) here refl full is_front in
+        look_with (poll_of setup) here before after added (gain_of found) count
+        (takes_new (poll_of setup) here before refl (omega (arith, some, full)) (subst (λ (f : List ℕ). is_compressed f ≡ false) is_front plain)
+        refl row on.given after added (gain_of found) is (subst (λ (f : List ℕ). place_of f before ≡ None) is_front fresh.none) fresh.room (omega (arith, on.begins, full)) far.within far.reaches far.are
         (on.fed_row ∙ ap (λ n. slice_set mid n (fed (rules_in setup) on.given row)) fresh.last
         ∙ ap (λ (l : List Row). slice_set l (length before) (fed (rules_in setup) on.given row)) (fresh.added ∙ ap (λ (r : Row). before ++ r ∷ []) (sym same_row)))
         on.lines
@@ -234,12 +235,12 @@ module _ (setup : Setup) (path : List ℕ) (file : OpenFile) (seen_front : List 
         let here = look_at path seen moment (end_for on.ending file.size (row.offset + length on.given)) false in
         let is_front : seen_front ≡ front (rules_in setup) here = seen_at.front_is in
         let full : file.size ≡ size here = seen_at.open_at.size_then in
-        cost_new (rules_in setup) here before refl (omega (arith, some, full)) (subst (λ (f : List ℕ). is_compressed f ≡ false) is_front plain) count
+        cost_new (poll_of setup) here before refl (omega (arith, some, full)) (subst (λ (f : List ℕ). is_compressed f ≡ false) is_front plain) count
         (subst (λ (f : List ℕ). place_of f before ≡ None) is_front fresh.none) fresh.room row.offset (omega (arith, few, full));
   }
 
-  pub seen_taken : Settles setup file.size path seen_front before (Some place) mid → RowTaken (rules_in setup) file place mid after found (with_taken count (gain_of found)) added old new
-      → SeenTaken (rules_in setup) setup.first path file seen_front before after (with_taken count (gain_of found)) added old new
+  pub seen_taken : Settles setup file.size path seen_front before (Some place) mid → RowTaken (poll_of setup) file place mid after found (with_taken count (gain_of found)) added old new
+      → SeenTaken (poll_of setup) path file seen_front before after (with_taken count (gain_of found)) added old new
   seen_taken settles taken = elim taken.how [
     | inl shorter ↦ elim settles [
       | inl known ↦ known_short taken.row taken.at shorter taken.cost known

@@ -6,13 +6,14 @@ use Rattle.std.proofs.lemmas.List.{take-append-drop, take-take}
 use Rattle.std.specs.Prelude.{None, Some, slice_get, IsTrue}
 use Rattle.file_tracker.specs.Places.{place_of, with_front}
 use Rattle.outside.specs.World.{World}
+use Rattle.standing.specs.Poll.{Poll}
 use Rattle.standing.specs.AreRules.{AreRules}
 use Rattle.standing.specs.Limits.{most_taken, is_compressed}
 use Rattle.standing.specs.Look.{Look, content, front, size, piece, after_look, lines_of}
 use Rattle.standing.specs.Marks.{Mark}
 use Rattle.standing.specs.Rows.{Row}
 use Rattle.standing.specs.Rules.{Rules}
-use Rattle.file_pass.specs.Fed.{rules_in, last_of}
+use Rattle.file_pass.specs.Fed.{poll_of, rules_in, last_of}
 use Rattle.file_pass.specs.Full.{Crosses, line_of, lines_text}
 use Rattle.file_pass.specs.LookTaken.{look_at}
 use Rattle.file_pass.specs.Overflow.{RowFills, SeenFills}
@@ -60,18 +61,18 @@ piece_begins here offset given end stood within =
     sym (take-append-drop (length given) (piece here offset))
     ∙ ap (λ (l : List ℕ). l ++ drop (length given) (piece here offset)) (take-take (length given) (min here.end (offset + most_taken) - offset) (drop offset (content here)) few ∙ sym stood)
 
-row_fills : (rules : Rules) (laws : AreRules rules) (here : Look) (row : Row) (given : List ℕ) (limit end full : ℕ) → IsTrue (rules.is_state row.state) → here.end ≡ size here
-    → given ≡ take (length given) (drop row.offset (content here)) → row.offset + length given ≤ last_of (size here) row.offset → Crosses limit end (lines_of rules given row) full
-    → Crosses limit end (lines_of rules (piece here row.offset) row) full
-row_fills rules laws here row given limit end full good all stood within crosses =
+row_fills : (poll : Poll) (laws : AreRules poll.rules) (here : Look) (row : Row) (given : List ℕ) (limit end full : ℕ) → IsTrue (poll.rules.is_state row.state) → here.end ≡ size here
+    → given ≡ take (length given) (drop row.offset (content here)) → row.offset + length given ≤ last_of (size here) row.offset → Crosses limit end (lines_of poll given row) full
+    → Crosses limit end (lines_of poll (piece here row.offset) row) full
+row_fills poll laws here row given limit end full good all stood within crosses =
     let rest : List ℕ = drop (length given) (piece here row.offset) in
-    let begins = ap (λ (p : List ℕ). lines_of rules p row) (piece_begins here row.offset given all stood within) in
-    subst (λ (l : List Mark). Crosses limit end l full) (sym (begins ∙ lines_on rules laws given rest row good)) (crosses_more limit end (lines_of rules given row) _ full crosses)
+    let begins = ap (λ (p : List ℕ). lines_of poll p row) (piece_begins here row.offset given all stood within) in
+    subst (λ (l : List Mark). Crosses limit end l full) (sym (begins ∙ lines_on poll laws given rest row good)) (crosses_more limit end (lines_of poll given row) _ full crosses)
 
 module _ (setup : Setup) (laws : AreRules (rules_in setup)) (path : List ℕ) (file : OpenFile) (seen_front : List ℕ) (plain : is_compressed seen_front ≡ false) (some : 0 < file.size)
     (before mid : List Row) (place end full : ℕ) (old new : World) (good : (row : Row) → slice_get mid place ≡ Some row → IsTrue ((rules_in setup).is_state row.state)) where
-  pub seen_fills : Settles setup file.size path seen_front before (Some place) mid → RowFills (rules_in setup) setup.limit file place mid end full old new
-      → SeenFills (rules_in setup) setup.first setup.limit path file seen_front before end full old new
+  pub seen_fills : Settles setup file.size path seen_front before (Some place) mid → RowFills (poll_of setup) setup.limit file place mid end full old new
+      → SeenFills (poll_of setup) setup.limit path file seen_front before end full old new
   seen_fills settles fills = record {
     handles = fills.reads.handles;
     moves = fills.reads.moves;
@@ -81,20 +82,20 @@ module _ (setup : Setup) (laws : AreRules (rules_in setup)) (path : List ℕ) (f
         let all : file.size ≡ size here = seen_at.open_at.size_then in
         let stood = stood_then file seen moment old new fills.row.offset fills.given Whole seen_at.open_at (omega (arith, fills.within)) fills.reads in
         let here_plain : is_compressed (front (rules_in setup) here) ≡ false = subst (λ (f : List ℕ). is_compressed f ≡ false) is_front plain in
-        let crosses : Crosses setup.limit end (lines_of (rules_in setup) (piece here fills.row.offset) fills.row) full =
-        row_fills (rules_in setup) laws here fills.row fills.given setup.limit end full (good fills.row fills.at) all stood (omega (arith, all, fills.within)) fills.crosses in
-        let same : (after_look (rules_in setup) setup.first here (progress_of before [])).added ≡ lines_of (rules_in setup) (piece here fills.row.offset) fills.row =
+        let crosses : Crosses setup.limit end (lines_of (poll_of setup) (piece here fills.row.offset) fills.row) full =
+        row_fills (poll_of setup) laws here fills.row fills.given setup.limit end full (good fills.row fills.at) all stood (omega (arith, all, fills.within)) fills.crosses in
+        let same : (after_look (poll_of setup) here (progress_of before [])).added ≡ lines_of (poll_of setup) (piece here fills.row.offset) fills.row =
         elim settles [
           | inl known_there ↦
               (let known : IsKnown (front (rules_in setup) here) before place mid = subst (λ (f : List ℕ). IsKnown f before place mid) is_front known_there in
               let same_row : fills.row ≡ with_front (front (rules_in setup) here) known.row =
               same_Some fills.row (with_front (front (rules_in setup) here) known.row) (sym fills.at ∙ ap (λ (l : List Row). slice_get l place) known.grown ∙ get_set before place known.row (with_front (front (rules_in setup) here) known.row) known.at) in
-              added_known (rules_in setup) setup.first here before refl (omega (arith, some, all)) here_plain place known.row known.at known.first_one (omega (arith, fills.begins, all, ap (λ (r : Row). r.offset) same_row))
-              ∙ ap (λ (r : Row). lines_of (rules_in setup) (piece here r.offset) r) (sym same_row))
+              added_known (poll_of setup) here before refl (omega (arith, some, all)) here_plain place known.row known.at known.first_one refl (omega (arith, fills.begins, all, ap (λ (r : Row). r.offset) same_row))
+              ∙ ap (λ (r : Row). lines_of (poll_of setup) (piece here r.offset) r) (sym same_row))
           | inr fresh ↦
               (let added_row : Row = admitted setup file.size path seen_front (length before + 1) in
               let same_row : fills.row ≡ added_row = same_Some fills.row added_row (sym fills.at ∙ ap (λ (l : List Row). slice_get l place) fresh.added ∙ ap (slice_get (before ++ added_row ∷ [])) fresh.last ∙ push_there before added_row) in
-              added_new (rules_in setup) setup.first here before refl (omega (arith, some, all)) here_plain fills.row (same_row ∙ new_is setup path seen_front file.size (length before + 1) here refl all is_front)
+              added_new (poll_of setup) here before refl (omega (arith, some, all)) here_plain refl fills.row (same_row ∙ new_is setup path seen_front file.size (length before + 1) here refl all is_front)
               (subst (λ (f : List ℕ). place_of f before ≡ None) is_front fresh.none) fresh.room (omega (arith, fills.begins, all)))
         ] in
         subst (λ (l : List Mark). Crosses setup.limit end l full) (sym same) crosses;

@@ -6,13 +6,14 @@ use Rattle.outside.specs.DiskMeaning.{DiskMeaning}
 use Rattle.outside.specs.TreeMeaning.{TreeMeaning}
 use Rattle.outside.specs.World.{Told}
 use Rattle.outside.proofs.Telling.{told_same, told_then}
+use Rattle.standing.specs.Poll.{Poll}
 use Rattle.standing.specs.AreRules.{AreRules}
 use Rattle.standing.specs.Look.{fed, lines_of}
 use Rattle.standing.specs.Marks.{Mark}
 use Rattle.standing.specs.Rules.{Rules}
 use Rattle.standing.specs.Tokens.{used}
 use Rattle.file_pass.specs.DiskTerms.{Appends}
-use Rattle.file_pass.specs.Fed.{IsReading, ReadsOn, FillsUp, feeding_row, rules_in, last_of}
+use Rattle.file_pass.specs.Fed.{poll_of, IsReading, ReadsOn, FillsUp, feeding_row, rules_in, last_of}
 use Rattle.file_pass.specs.Full.{Crosses, line_of, lines_text}
 use Rattle.file_pass.specs.Reads.{Reads}
 use Rattle.file_pass.specs.TreeTerms.{HasEnding}
@@ -29,11 +30,11 @@ pub text_append : (marks more : List Mark) → lines_text (marks ++ more) ≡ li
 text_append marks more = flat_map-append line_of marks more
 
 -- the bytes that no token used, after one more piece
-rest_on : (rules : Rules) → AreRules rules → (read more : List ℕ) → drop (used rules (unused rules read more)) (unused rules read more) ≡ drop (used rules (read ++ more)) (read ++ more)
-rest_on rules laws read more =
-    ap (drop (used rules (unused rules read more))) (sym (drop-append-le (used rules read) read more (laws.tokens.within read)))
-    ∙ drop-drop (used rules (unused rules read more)) (used rules read) (read ++ more)
-    ∙ ap (λ n. drop n (read ++ more)) (sym (used_on rules laws read more))
+rest_on : (poll : Poll) → AreRules poll.rules → (read more : List ℕ) → drop (used poll.rules (unused poll read more)) (unused poll read more) ≡ drop (used poll.rules (read ++ more)) (read ++ more)
+rest_on poll laws read more =
+    ap (drop (used poll.rules (unused poll read more))) (sym (drop-append-le (used poll.rules read) read more (laws.tokens.within read)))
+    ∙ drop-drop (used poll.rules (unused poll read more)) (used poll.rules read) (read ++ more)
+    ∙ ap (λ n. drop n (read ++ more)) (sym (used_on poll laws read more))
 
 no_rest : (n : ℕ) → ◌≡◌ {A = List ℕ} (drop n []) []
 no_rest zero = refl
@@ -58,9 +59,9 @@ module _ {T D : Type 0} (trees : TreeMeaning T) (disks : DiskMeaning D) (setup :
     given = [];
     from_is = omega arith;
     within = le;
-    row = sym (fed_none (rules_in setup) laws (feeding_row feeding) good);
+    row = sym (fed_none (poll_of setup) laws (feeding_row feeding) good);
     rest = sym (no_rest (used (rules_in setup) []));
-    appends = appends_same disks [] (lines_text (lines_of (rules_in setup) [] (feeding_row feeding))) end end disk disk (sym (ap lines_text (lines_none (rules_in setup) laws (feeding_row feeding) good))) (appends_none disks end disk);
+    appends = appends_same disks [] (lines_text (lines_of (poll_of setup) [] (feeding_row feeding))) end end disk disk (sym (ap lines_text (lines_none (poll_of setup) laws (feeding_row feeding) good))) (appends_none disks end disk);
     world = told_same (Reads file.handle.0 feeding.offset file.size [] Whole) (trees.world tree) (λ world. reads_idle file.handle.0 feeding.offset file.size world);
     cause = refl;
   }
@@ -68,7 +69,7 @@ module _ {T D : Type 0} (trees : TreeMeaning T) (disks : DiskMeaning D) (setup :
   module _ (before mid now : Feeding) (end end_mid end_now from last : ℕ) (carried piece carried_now : List ℕ) (tree tree_mid tree_now : T) (disk disk_mid disk_now : D)
       (tells : disks.images.tells disk_mid ≡ disks.images.tells disk) (good : IsTrue ((rules_in setup).is_state (feeding_row before).state)) (so_far : IsReading trees disks setup file before mid end end_mid from carried tree tree_mid disk disk_mid) where
     -- what is fed now
-    pub fed_now : carried ++ piece ≡ unused (rules_in setup) so_far.given piece
+    pub fed_now : carried ++ piece ≡ unused (poll_of setup) so_far.given piece
     fed_now = ap (λ l. l ++ piece) so_far.rest
 
     pub world_on : (ending : Ending) → from + length piece ≤ last → last ≤ file.size → Told (Reads file.handle.0 from last piece ending) (trees.world tree_mid) (trees.world tree_now) → Told (Reads file.handle.0 before.offset file.size (so_far.given ++ piece) ending) (trees.world tree) (trees.world tree_now)
@@ -82,27 +83,27 @@ module _ {T D : Type 0} (trees : TreeMeaning T) (disks : DiskMeaning D) (setup :
     pub row_on : feeding_row now ≡ fed (rules_in setup) (carried ++ piece) (feeding_row mid) → feeding_row now ≡ fed (rules_in setup) (so_far.given ++ piece) (feeding_row before)
     row_on row =
         row ∙ ap (λ l. fed (rules_in setup) l (feeding_row mid)) fed_now
-        ∙ ap (λ r. fed (rules_in setup) (unused (rules_in setup) so_far.given piece) r) so_far.row
-        ∙ sym (fed_on (rules_in setup) laws so_far.given piece (feeding_row before) good)
+        ∙ ap (λ r. fed (rules_in setup) (unused (poll_of setup) so_far.given piece) r) so_far.row
+        ∙ sym (fed_on (poll_of setup) laws so_far.given piece (feeding_row before) good)
 
-    pub lines_now : lines_of (rules_in setup) so_far.given (feeding_row before) ++ lines_of (rules_in setup) (carried ++ piece) (feeding_row mid) ≡ lines_of (rules_in setup) (so_far.given ++ piece) (feeding_row before)
+    pub lines_now : lines_of (poll_of setup) so_far.given (feeding_row before) ++ lines_of (poll_of setup) (carried ++ piece) (feeding_row mid) ≡ lines_of (poll_of setup) (so_far.given ++ piece) (feeding_row before)
     lines_now =
-        ap (λ l. lines_of (rules_in setup) so_far.given (feeding_row before) ++ lines_of (rules_in setup) l (feeding_row mid)) fed_now
-        ∙ ap (λ r. lines_of (rules_in setup) so_far.given (feeding_row before) ++ lines_of (rules_in setup) (unused (rules_in setup) so_far.given piece) r) so_far.row
-        ∙ sym (lines_on (rules_in setup) laws so_far.given piece (feeding_row before) good)
+        ap (λ l. lines_of (poll_of setup) so_far.given (feeding_row before) ++ lines_of (poll_of setup) l (feeding_row mid)) fed_now
+        ∙ ap (λ r. lines_of (poll_of setup) so_far.given (feeding_row before) ++ lines_of (poll_of setup) (unused (poll_of setup) so_far.given piece) r) so_far.row
+        ∙ sym (lines_on (poll_of setup) laws so_far.given piece (feeding_row before) good)
 
     pub reading_on : from + length piece ≤ last → last ≡ last_of file.size before.offset → Told (Reads file.handle.0 from last piece Whole) (trees.world tree_mid) (trees.world tree_now) → trees.faults tree_now ≡ trees.faults tree_mid
         → feeding_row now ≡ fed (rules_in setup) (carried ++ piece) (feeding_row mid) → carried_now ≡ drop (used (rules_in setup) (carried ++ piece)) (carried ++ piece)
-        → Appends disks (lines_text (lines_of (rules_in setup) (carried ++ piece) (feeding_row mid))) end_mid end_now disk_mid disk_now
+        → Appends disks (lines_text (lines_of (poll_of setup) (carried ++ piece) (feeding_row mid))) end_mid end_now disk_mid disk_now
         → IsReading trees disks setup file before now end end_now (from + length piece) carried_now tree tree_now disk disk_now
     reading_on within last_is read stood row rest appends = record {
       given = so_far.given ++ piece;
       from_is = omega (arith, so_far.from_is, length-append so_far.given piece);
       within = omega (arith, within, last_is);
       row = row_on row;
-      rest = rest ∙ ap (λ l. drop (used (rules_in setup) l) l) fed_now ∙ rest_on (rules_in setup) laws so_far.given piece;
-      appends = appends_same disks (lines_text (lines_of (rules_in setup) so_far.given (feeding_row before)) ++ lines_text (lines_of (rules_in setup) (carried ++ piece) (feeding_row mid))) (lines_text (lines_of (rules_in setup) (so_far.given ++ piece) (feeding_row before))) end end_now disk disk_now
-          (sym (text_append (lines_of (rules_in setup) so_far.given (feeding_row before)) (lines_of (rules_in setup) (carried ++ piece) (feeding_row mid))) ∙ ap lines_text lines_now)
+      rest = rest ∙ ap (λ l. drop (used (rules_in setup) l) l) fed_now ∙ rest_on (poll_of setup) laws so_far.given piece;
+      appends = appends_same disks (lines_text (lines_of (poll_of setup) so_far.given (feeding_row before)) ++ lines_text (lines_of (poll_of setup) (carried ++ piece) (feeding_row mid))) (lines_text (lines_of (poll_of setup) (so_far.given ++ piece) (feeding_row before))) end end_now disk disk_now
+          (sym (text_append (lines_of (poll_of setup) so_far.given (feeding_row before)) (lines_of (poll_of setup) (carried ++ piece) (feeding_row mid))) ∙ ap lines_text lines_now)
           (appends_then disks _ _ end end_mid end_now disk disk_mid disk_now tells so_far.appends appends);
       world = world_on Whole within (omega (arith, last_is)) read;
       cause = stood ∙ so_far.cause;
@@ -110,11 +111,11 @@ module _ {T D : Type 0} (trees : TreeMeaning T) (disks : DiskMeaning D) (setup :
 
     -- the line with which the output is too long
     pub fills_up : (size : ℕ) → from + length piece ≤ last → last ≡ last_of file.size before.offset → Told (Reads file.handle.0 from last piece Whole) (trees.world tree_mid) (trees.world tree_now) → trees.faults tree_now ≡ trees.faults tree_mid
-        → Crosses setup.limit end_mid (lines_of (rules_in setup) (carried ++ piece) (feeding_row mid)) size → FillsUp trees setup file before end size tree tree_now
+        → Crosses setup.limit end_mid (lines_of (poll_of setup) (carried ++ piece) (feeding_row mid)) size → FillsUp trees setup file before end size tree tree_now
     fills_up size within last_is read stood crosses = record {
       given = so_far.given ++ piece;
       within = omega (arith, so_far.from_is, length-append so_far.given piece, within, last_is);
-      crosses = subst (λ l. Crosses setup.limit end l size) lines_now (crosses_later setup.limit end end_mid (lines_of (rules_in setup) so_far.given (feeding_row before)) (lines_of (rules_in setup) (carried ++ piece) (feeding_row mid)) size so_far.appends.end_is crosses);
+      crosses = subst (λ l. Crosses setup.limit end l size) lines_now (crosses_later setup.limit end end_mid (lines_of (poll_of setup) so_far.given (feeding_row before)) (lines_of (poll_of setup) (carried ++ piece) (feeding_row mid)) size so_far.appends.end_is crosses);
       world = world_on Whole within (omega (arith, last_is)) read;
       stood = stood ∙ so_far.cause;
     }

@@ -23,11 +23,12 @@ use Rattle.outside.specs.declared.tree.Kind.TheVariants.{File as PlainFile}
 use Rattle.outside.specs.declared.tree.Opened.{Opened}
 use Rattle.outside.specs.declared.tree.Opened.TheVariants.{File, Gone, NotAFile}
 use Rattle.standing.proofs.MomentLemmas.{later_then}
+use Rattle.standing.specs.Poll.{Poll}
 use Rattle.standing.specs.Marks.{Mark}
 use Rattle.standing.specs.Moments.{IsLater}
 use Rattle.standing.specs.Rules.{Rules, Includes}
 use Rattle.file_pass.specs.AllTaken.{TakesAll, TakesOne}
-use Rattle.file_pass.specs.Fed.{rules_in}
+use Rattle.file_pass.specs.Fed.{poll_of, rules_in}
 use Rattle.file_pass.specs.Full.{line_of, lines_text}
 use Rattle.file_pass.specs.Gain.{Gain, Counted, no_gain, both, gain_of, with_taken}
 use Rattle.file_pass.specs.LookTaken.{OpenTaken, SeenTaken}
@@ -267,7 +268,7 @@ module _ {T D : Type 0} (trees : TreeMeaning T) (disks : DiskMeaning D) where
   takes_all_none setup taking tree disk counted = record {
     gain = no_gain;
     counted = counted;
-    takes = takes_idle _ no_gain taking.end tree disk refl refl (λ world. all_none (rules_in setup) setup.first taking.tracker world);
+    takes = takes_idle _ no_gain taking.end tree disk refl refl (λ world. all_none (poll_of setup) taking.tracker world);
   }
 
   pub takes_all_more : (setup : Setup) (paths : List (List ℕ)) (path : List ℕ) (before mid after : Taking) (old between new : T) (disk disk_between disk_after : D) → disks.images.tells disk_between ≡ disks.images.tells disk
@@ -284,37 +285,37 @@ module _ {T D : Type 0} (trees : TreeMeaning T) (disks : DiskMeaning D) where
       rose = omega (arith, a.takes.rose, b.takes.rose);
       read = omega (arith, a.takes.read, b.takes.read);
       world = told_then _ _ _ (trees.world old) (trees.world between) (trees.world new)
-          (λ x y z first second. all_more (rules_in setup) setup.first paths path before.tracker mid.tracker after.tracker a.gain b.gain a.takes.added b.takes.added x y z first second) a.takes.world b.takes.world;
+          (λ x y z first second. all_more (poll_of setup) paths path before.tracker mid.tracker after.tracker a.gain b.gain a.takes.added b.takes.added x y z first second) a.takes.world b.takes.world;
     };
   }
 
 -- the front of an open file was read, or not
-module _ {T D : Type 0} (trees : TreeMeaning T) (disks : DiskMeaning D) (rules : Rules) (first : Bool) (path : List ℕ) (file : OpenFile) (some : 0 < file.size) (before : List Row) where
-  takes_unread : (ending : Ending) (last : ℕ) (given : List ℕ) (count : ℕ) (end : ℕ) (old new : T) (disk : D) → (ending ≡ Whole → ⊥) → last ≤ file.size → count ≤ rules.front_size → Told (Reads file.handle.0 0 last given ending) (trees.world old) (trees.world new)
+module _ {T D : Type 0} (trees : TreeMeaning T) (disks : DiskMeaning D) (poll : Poll) (path : List ℕ) (file : OpenFile) (some : 0 < file.size) (before : List Row) where
+  takes_unread : (ending : Ending) (last : ℕ) (given : List ℕ) (count : ℕ) (end : ℕ) (old new : T) (disk : D) → (ending ≡ Whole → ⊥) → last ≤ file.size → count ≤ poll.rules.front_size → Told (Reads file.handle.0 0 last given ending) (trees.world old) (trees.world new)
       → HasEnding ending (trees.faults old) (trees.faults new) → trees.taken new ≤ trees.taken old + count
-      → Takes trees disks (OpenTaken rules first path file before before (with_taken count (gain_of (Unread ending)))) (with_taken count (gain_of (Unread ending))) end end old new disk disk
+      → Takes trees disks (OpenTaken poll path file before before (with_taken count (gain_of (Unread ending)))) (with_taken count (gain_of (Unread ending))) end end old new disk disk
   takes_unread Whole last given count end old new disk differs le few told cause read = absurd (differs refl)
   takes_unread ReadFailed last given count end old new disk differs le few told cause read =
-      takes_call trees disks _ _ end old new disk refl cause.1 read (told_weaker _ _ (trees.world old) (trees.world new) (λ x y reads. open_unread rules first path file before x y last given count few le some reads) told)
+      takes_call trees disks _ _ end old new disk refl cause.1 read (told_weaker _ _ (trees.world old) (trees.world new) (λ x y reads. open_unread poll path file before x y last given count few le some reads) told)
   takes_unread Shrunk last given count end old new disk differs le few told cause read =
-      takes_call trees disks _ _ end old new disk refl (omega (arith, cause)) read (told_weaker _ _ (trees.world old) (trees.world new) (λ x y reads. open_shrunk rules first path file before x y last given count few le reads) told)
+      takes_call trees disks _ _ end old new disk refl (omega (arith, cause)) read (told_weaker _ _ (trees.world old) (trees.world new) (λ x y reads. open_shrunk poll path file before x y last given count few le reads) told)
 
-  module _ (old mid new : T) (seen_front : List ℕ) (last : ℕ) (is : last ≡ min rules.front_size file.size) (many : length seen_front ≡ last) (told : Told (Reads file.handle.0 0 last seen_front Whole) (trees.world old) (trees.world mid)) (same : trees.faults mid ≡ trees.faults old) where
-    takes_open : (after : List Row) (gain : Gain) (count end end_after : ℕ) (disk disk_after : D) → count ≤ rules.front_size → trees.taken mid ≤ trees.taken old + count
-        → Takes trees disks (SeenTaken rules first path file seen_front before after gain) gain end end_after mid new disk disk_after
-        → Takes trees disks (OpenTaken rules first path file before after (with_taken (count + gain.taken) gain)) (with_taken (count + gain.taken) gain) end end_after old new disk disk_after
+  module _ (old mid new : T) (seen_front : List ℕ) (last : ℕ) (is : last ≡ min poll.rules.front_size file.size) (many : length seen_front ≡ last) (told : Told (Reads file.handle.0 0 last seen_front Whole) (trees.world old) (trees.world mid)) (same : trees.faults mid ≡ trees.faults old) where
+    takes_open : (after : List Row) (gain : Gain) (count end end_after : ℕ) (disk disk_after : D) → count ≤ poll.rules.front_size → trees.taken mid ≤ trees.taken old + count
+        → Takes trees disks (SeenTaken poll path file seen_front before after gain) gain end end_after mid new disk disk_after
+        → Takes trees disks (OpenTaken poll path file before after (with_taken (count + gain.taken) gain)) (with_taken (count + gain.taken) gain) end end_after old new disk disk_after
     takes_open after gain count end end_after disk disk_after few read takes =
-        takes_after trees disks (Reads file.handle.0 0 last seen_front Whole) (SeenTaken rules first path file seen_front before after gain) (OpenTaken rules first path file before after (with_taken (count + gain.taken) gain)) gain (count + gain.taken) end end_after old mid new disk disk_after
-        (λ added x y z reads taken. open_seen rules first path file before x y z seen_front last is many reads after gain added count few taken) same (omega (arith, read)) told takes
+        takes_after trees disks (Reads file.handle.0 0 last seen_front Whole) (SeenTaken poll path file seen_front before after gain) (OpenTaken poll path file before after (with_taken (count + gain.taken) gain)) gain (count + gain.taken) end end_after old mid new disk disk_after
+        (λ added x y z reads taken. open_seen poll path file before x y z seen_front last is many reads after gain added count few taken) same (omega (arith, read)) told takes
 
-    pub fills_open : (limit end full : ℕ) → Told (SeenFills rules first limit path file seen_front before end full) (trees.world mid) (trees.world new) → Told (OpenFills rules first limit path file before end full) (trees.world old) (trees.world new)
+    pub fills_open : (limit end full : ℕ) → Told (SeenFills poll limit path file seen_front before end full) (trees.world mid) (trees.world new) → Told (OpenFills poll limit path file before end full) (trees.world old) (trees.world new)
     fills_open limit end full fills =
-        told_then _ _ _ (trees.world old) (trees.world mid) (trees.world new) (λ x y z reads seen. open_fills rules first path file before x y z seen_front last is many reads limit end full seen) told fills
+        told_then _ _ _ (trees.world old) (trees.world mid) (trees.world new) (λ x y z reads seen. open_fills poll path file before x y z seen_front last is many reads limit end full seen) told fills
 
   -- by what was read into a buffer
   module _ (front old_front : List ℕ) (count : ℕ) (ending : Ending) (old mid : T) (reads : ReadsOnly trees (Reads file.handle.0 0 (length old_front) (take count front) ending) ending count (length old_front) old mid)
-      (long : length front ≡ length old_front) (many : length front ≡ min rules.front_size file.size) where
-    pub front_unread : (end : ℕ) (disk : D) → (ending ≡ Whole → ⊥) → count ≤ rules.front_size → Finds trees disks (OpenTaken rules first path file before before) (Unread ending) end end old mid disk disk
+      (long : length front ≡ length old_front) (many : length front ≡ min poll.rules.front_size file.size) where
+    pub front_unread : (end : ℕ) (disk : D) → (ending ≡ Whole → ⊥) → count ≤ poll.rules.front_size → Finds trees disks (OpenTaken poll path file before before) (Unread ending) end end old mid disk disk
     front_unread end disk differs few = record {
       bytes = count;
       takes = takes_unread ending (length old_front) (take count front) count end old mid disk differs (omega (arith, long, many)) few reads.world reads.cause reads.keeps.taken_then;
@@ -330,57 +331,57 @@ module _ {T D : Type 0} (trees : TreeMeaning T) (disks : DiskMeaning D) (rules :
     stood : ending ≡ Whole → trees.faults mid ≡ trees.faults old
     stood is = subst (λ (e : Ending). HasEnding e (trees.faults old) (trees.faults mid)) is reads.cause
 
-    pub front_takes : ending ≡ Whole → count ≡ length front → (new : T) (after : List Row) (found : Found) (end end_after : ℕ) (disk disk_after : D) → Finds trees disks (SeenTaken rules first path file front before after) found end end_after mid new disk disk_after
-        → Finds trees disks (OpenTaken rules first path file before after) found end end_after old new disk disk_after
+    pub front_takes : ending ≡ Whole → count ≡ length front → (new : T) (after : List Row) (found : Found) (end end_after : ℕ) (disk disk_after : D) → Finds trees disks (SeenTaken poll path file front before after) found end end_after mid new disk disk_after
+        → Finds trees disks (OpenTaken poll path file before after) found end end_after old new disk disk_after
     front_takes is all new after found end end_after disk disk_after finds = record {
       bytes = count + finds.bytes;
       takes = takes_open old mid new front (length front) many refl (all_read is all) (stood is) after (with_taken finds.bytes (gain_of found)) count end end_after disk disk_after (omega (arith, all, many)) reads.keeps.taken_then finds.takes;
     }
 
-    pub front_fills : ending ≡ Whole → count ≡ length front → (new : T) (limit end full : ℕ) → Told (SeenFills rules first limit path file front before end full) (trees.world mid) (trees.world new) → Told (OpenFills rules first limit path file before end full) (trees.world old) (trees.world new)
+    pub front_fills : ending ≡ Whole → count ≡ length front → (new : T) (limit end full : ℕ) → Told (SeenFills poll limit path file front before end full) (trees.world mid) (trees.world new) → Told (OpenFills poll limit path file before end full) (trees.world old) (trees.world new)
     front_fills is all new limit end full fills = fills_open old mid new front (length front) many refl (all_read is all) (stood is) limit end full fills
 
     pub front_tree : (most : ℕ) → length old_front ≤ most → KeepsTreeAt trees most old mid
     front_tree most le = tree_wider trees (length old_front) most count old mid le reads.keeps
 
 -- a file was opened, taken and closed
-module _ {T D : Type 0} (trees : TreeMeaning T) (disks : DiskMeaning D) (rules : Rules) (first : Bool) (path : List ℕ) (included : Includes rules path) (file : OpenFile) (before : List Row) (old opened taken closed : T)
+module _ {T D : Type 0} (trees : TreeMeaning T) (disks : DiskMeaning D) (poll : Poll) (path : List ℕ) (included : Includes poll.rules path) (file : OpenFile) (before : List Row) (old opened taken closed : T)
     (opens : Told (OpensFile path file.handle.0 file.size) (trees.world old) (trees.world opened)) (closes : Told (Closes file.handle.0) (trees.world taken) (trees.world closed))
     (still : trees.faults opened ≡ trees.faults old) (stays : trees.faults closed ≡ trees.faults taken) where
   pub takes_file : (after : List Row) (found : Found) (end end_after : ℕ) (disk disk_after : D) → trees.taken opened ≡ trees.taken old → trees.taken closed ≡ trees.taken taken
-      → Finds trees disks (OpenTaken rules first path file before after) found end end_after opened taken disk disk_after → Finds trees disks (PathTaken rules first path before after) found end end_after old closed disk disk_after
+      → Finds trees disks (OpenTaken poll path file before after) found end end_after opened taken disk disk_after → Finds trees disks (PathTaken poll path before after) found end end_after old closed disk disk_after
   takes_file after found end end_after disk disk_after opening_reads closing_reads finds =
       let gain : Gain = with_taken finds.bytes (gain_of found) in
-      let change = λ (added : List Mark). WithFile (OpenTaken rules first path file before after gain added) path file in
+      let change = λ (added : List Mark). WithFile (OpenTaken poll path file before after gain added) path file in
       record {
         bytes = finds.bytes;
         takes =
-            takes_before trees disks change (λ _. Closes file.handle.0) (PathTaken rules first path before after gain) gain end end_after old taken closed disk disk_after
-            (λ added x y z with_file closing. path_looked rules first path included file before x with_file.opened y z with_file.opens closing after gain added with_file.changes) stays closing_reads (λ _. closes)
-            (takes_after trees disks (OpensFile path file.handle.0 file.size) (OpenTaken rules first path file before after gain) change gain finds.bytes end end_after old opened taken disk disk_after
+            takes_before trees disks change (λ _. Closes file.handle.0) (PathTaken poll path before after gain) gain end end_after old taken closed disk disk_after
+            (λ added x y z with_file closing. path_looked poll path included file before x with_file.opened y z with_file.opens closing after gain added with_file.changes) stays closing_reads (λ _. closes)
+            (takes_after trees disks (OpensFile path file.handle.0 file.size) (OpenTaken poll path file before after gain) change gain finds.bytes end end_after old opened taken disk disk_after
             (λ added x y z opening changes. record { opened = y; opens = opening; changes = changes }) still (omega (arith, opening_reads)) opens finds.takes);
       }
 
-  pub fills_file : (limit end full : ℕ) → Told (OpenFills rules first limit path file before end full) (trees.world opened) (trees.world taken) → Told (PathFills rules first limit path before end full) (trees.world old) (trees.world closed)
+  pub fills_file : (limit end full : ℕ) → Told (OpenFills poll limit path file before end full) (trees.world opened) (trees.world taken) → Told (PathFills poll limit path before end full) (trees.world old) (trees.world closed)
   fills_file limit end full fills =
       told_then _ _ _ (trees.world old) (trees.world taken) (trees.world closed)
-      (λ x y z with_file closing. path_fills rules first path included file before x with_file.opened y z with_file.opens closing limit end full with_file.changes)
-      (told_then _ _ (WithFile (OpenFills rules first limit path file before end full) path file) (trees.world old) (trees.world opened) (trees.world taken) (λ x y z opening changes. record { opened = y; opens = opening; changes = changes }) opens fills) closes
+      (λ x y z with_file closing. path_fills poll path included file before x with_file.opened y z with_file.opens closing limit end full with_file.changes)
+      (told_then _ _ (WithFile (OpenFills poll limit path file before end full) path file) (trees.world old) (trees.world opened) (trees.world taken) (λ x y z opening changes. record { opened = y; opens = opening; changes = changes }) opens fills) closes
 
 -- a path that could not be opened, or was no file's
-module _ {T D : Type 0} (trees : TreeMeaning T) (disks : DiskMeaning D) (rules : Rules) (first : Bool) (path : List ℕ) (before : List Row) (end : ℕ) (old new : T) (disk : D) where
+module _ {T D : Type 0} (trees : TreeMeaning T) (disks : DiskMeaning D) (poll : Poll) (path : List ℕ) (before : List Row) (end : ℕ) (old new : T) (disk : D) where
   pub takes_missed : Told (OpensNothing (miss path ∷ []) (λ _. Unit {0})) (trees.world old) (trees.world new) → Rose (trees.faults old) (trees.faults new) → trees.taken new ≡ trees.taken old
-      → Finds trees disks (PathTaken rules first path before before) Missed end end old new disk disk
+      → Finds trees disks (PathTaken poll path before before) Missed end end old new disk disk
   takes_missed told rose none = record {
     bytes = 0;
-    takes = takes_call trees disks _ _ end old new disk refl rose.1 (omega (arith, none)) (told_weaker _ _ (trees.world old) (trees.world new) (λ x y opens. path_missed rules first path before x y opens) told);
+    takes = takes_call trees disks _ _ end old new disk refl rose.1 (omega (arith, none)) (told_weaker _ _ (trees.world old) (trees.world new) (λ x y opens. path_missed poll path before x y opens) told);
   }
 
   pub takes_lost : (fact : History → Type 0) → ((history : History) → fact history → kind_at (names history) path ≡ Some PlainFile → ⊥) → Told (OpensNothing [] fact) (trees.world old) (trees.world new) → trees.faults new ≡ trees.faults old
-      → trees.taken new ≡ trees.taken old → Finds trees disks (PathTaken rules first path before before) NoFile end end old new disk disk
+      → trees.taken new ≡ trees.taken old → Finds trees disks (PathTaken poll path before before) NoFile end end old new disk disk
   takes_lost fact other told same none = record {
     bytes = 0;
-    takes = takes_call trees disks _ _ end old new disk refl (omega (arith, same)) (omega (arith, none)) (told_weaker _ _ (trees.world old) (trees.world new) (λ x y opens. path_lost rules first path before x y fact opens other) told);
+    takes = takes_call trees disks _ _ end old new disk refl (omega (arith, same)) (omega (arith, none)) (told_weaker _ _ (trees.world old) (trees.world new) (λ x y opens. path_lost poll path before x y fact opens other) told);
   }
 
 -- what was found at a path is counted
@@ -394,8 +395,9 @@ module _ {T D : Type 0} (trees : TreeMeaning T) (disks : DiskMeaning D) (setup :
 
   pub sane_counted : (after : Taking) → after.tracker ≡ taken.tracker → after.changed.items ≡ taken.changed.items → after.end ≡ taken.end → Counted taken.counts gain after.counts → IsSaneTaking setup after
   sane_counted after tracker changed end counted = record {
-    rows = subst (λ (rows : List Row). AreSaneRows (rules_in setup) after.end rows) (sym tracker) (subst (λ e. AreSaneRows (rules_in setup) e taken.tracker) (sym end) sane_taken.rows);
+    rows = subst (λ (rows : List Row). AreSaneRows (poll_of setup) after.end rows) (sym tracker) (subst (λ e. AreSaneRows (poll_of setup) e taken.tracker) (sym end) sane_taken.rows);
     few = omega (arith, sane_taken.few, ap (λ (rows : List Row). length rows) tracker);
+    era = sane_taken.era;
     flags = omega (arith, ap (λ (flags : List Bool). length flags) changed, sane_taken.flags, ap (λ (rows : List Row). length rows) tracker);
     end_within = omega (arith, end, sane_taken.end_within);
     lines = omega (arith, end, lines_fit, counted.lines, ap (λ (c : Counts). c.lines) counts_same);
@@ -404,11 +406,11 @@ module _ {T D : Type 0} (trees : TreeMeaning T) (disks : DiskMeaning D) (setup :
 -- a line of the newest look would be too much
 module _ {T D : Type 0} (trees : TreeMeaning T) (disks : DiskMeaning D) where
   pub takes_all_fill : (setup : Setup) (paths : List (List ℕ)) (path : List ℕ) (all : List (List ℕ)) (before mid : Taking) (old between new : T) (disk disk_between : D) (full : ℕ) → TakesAll trees disks setup paths before mid old between disk disk_between
-      → take (length paths + 1) all ≡ paths ++ path ∷ [] → Told (PathFills (rules_in setup) setup.first setup.limit path mid.tracker mid.end full) (trees.world between) (trees.world new)
-      → Told (AllFill (rules_in setup) setup.first setup.limit all before.tracker before.end full) (trees.world old) (trees.world new)
+      → take (length paths + 1) all ≡ paths ++ path ∷ [] → Told (PathFills (poll_of setup) setup.limit path mid.tracker mid.end full) (trees.world between) (trees.world new)
+      → Told (AllFill (poll_of setup) setup.limit all before.tracker before.end full) (trees.world old) (trees.world new)
   takes_all_fill setup paths path all before mid old between new disk disk_between full a firsts b =
       told_then _ _ _ (trees.world old) (trees.world between) (trees.world new)
-      (λ x y z taken fills. all_fill (rules_in setup) setup.first paths path before.tracker mid.tracker mid.tracker a.gain no_gain a.takes.added [] x y z taken setup.limit before.end mid.end full all a.takes.appends.end_is firsts fills)
+      (λ x y z taken fills. all_fill (poll_of setup) paths path before.tracker mid.tracker mid.tracker a.gain no_gain a.takes.added [] x y z taken setup.limit before.end mid.end full all a.takes.appends.end_is firsts fills)
       a.takes.world b
 
 -- one path more of a list

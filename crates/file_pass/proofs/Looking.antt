@@ -8,8 +8,9 @@ use Rattle.file_tracker.specs.Places.{place_of, with_front}
 use Rattle.file_tracker.specs.Limits.{row_limit}
 use Rattle.standing.proofs.FindLemmas.{is_skipped, is_nothing, is_compressed_file, is_row, is_new, is_no_room}
 use Rattle.standing.proofs.ReadLemmas.{row_after-read, lines_added-read}
+use Rattle.standing.specs.Poll.{Poll}
 use Rattle.standing.specs.Limits.{most_taken, is_compressed}
-use Rattle.standing.specs.Look.{Look, Outcome, Progress, skips, finds_nothing, finds_compressed, finds_no_room, finds_new, finds_row, front, size, piece, fed, lines_of, new_row, row_after, lines_added, outcome, after_look, progress_after, ReadsOn}
+use Rattle.standing.specs.Look.{all_taken, Look, Outcome, Progress, skips, finds_nothing, finds_compressed, finds_no_room, finds_new, finds_row, front, size, piece, fed, lines_of, new_row, row_after, lines_added, outcome, after_look, progress_after, ReadsOn}
 use Rattle.standing.specs.Marks.{Mark}
 use Rattle.standing.specs.Pass.{is_short}
 use Rattle.standing.specs.Rows.{Row}
@@ -49,13 +50,13 @@ same_progress : {rows other_rows : List Row} {id other_id : ℕ} {added other_ad
     → ◌≡◌ {A = Progress} (record { rows = rows; next_id = id; added = added }) (record { rows = other_rows; next_id = other_id; added = other_added })
 same_progress a b c = cc
 
-row_after-short : (rules : Rules) (here : Look) (row : Row) → size here < row.offset → row_after rules here row ≡ record row { front = front rules here }
+row_after-short : (poll : Poll) (here : Look) (row : Row) → size here < row.offset → row_after poll here row ≡ record row { front = front poll.rules here }
 unfolding row_after
-row_after-short rules here row short = cond-true (nat_lt (size here) row.offset) (record row { front = front rules here }) (fed rules (piece here row.offset) (record row { front = front rules here })) (lt-ltb (size here) row.offset short)
+row_after-short poll here row short = cond-true (nat_lt (size here) row.offset) (record row { front = front poll.rules here }) (all_taken poll here (record row { front = front poll.rules here })).row (lt-ltb (size here) row.offset short)
 
-lines_added-short : (rules : Rules) (here : Look) (row : Row) → size here < row.offset → lines_added rules here row ≡ []
+lines_added-short : (poll : Poll) (here : Look) (row : Row) → size here < row.offset → lines_added poll here row ≡ []
 unfolding lines_added
-lines_added-short rules here row short = cond-true (nat_lt (size here) row.offset) [] (lines_of rules (piece here row.offset) row) (lt-ltb (size here) row.offset short)
+lines_added-short poll here row short = cond-true (nat_lt (size here) row.offset) [] (all_taken poll here row).lines (lt-ltb (size here) row.offset short)
 
 -- what more there is past an offset
 and_false_right : (a b : Bool) → b ≡ false → (a && b) ≡ false
@@ -69,8 +70,8 @@ more_not : (here : Look) (offset : ℕ) → size here ≤ offset + most_taken �
 more_not here offset within = and_false_right (here.end == size here) (nat_lt (offset + most_taken) (size here)) (le-ltb (offset + most_taken) (size here) within)
 
 -- whatever was read
-pub look_with : (rules : Rules) (first : Bool) (here : Look) (before after : List Row) (added : List Mark) (gain : Gain) (count : ℕ) → TakesLook rules first here before after added gain → TakesLook rules first here before after added (with_taken count gain)
-look_with rules first here before after added gain count taken = record {
+pub look_with : (poll : Poll) (here : Look) (before after : List Row) (added : List Mark) (gain : Gain) (count : ℕ) → TakesLook poll here before after added gain → TakesLook poll here before after added (with_taken count gain)
+look_with poll here before after added gain count taken = record {
   end_within = taken.end_within;
   reads_on = taken.reads_on;
   leads_to = taken.leads_to;
@@ -86,20 +87,20 @@ look_with rules first here before after added gain count taken = record {
   };
 }
 
-module _ (rules : Rules) (first : Bool) (here : Look) (before : List Row) where
+module _ (poll : Poll) (here : Look) (before : List Row) where
   -- an outcome that leaves the rows
-  leaves : (found : Outcome) (gain : Gain) → outcome rules before here ≡ found → here.end ≤ size here → ReadsOn rules first here found
-      → progress_after rules first here (progress_of before []) found ≡ progress_of before [] → IsGainOf rules first here found [] gain → TakesLook rules first here before before [] gain
+  leaves : (found : Outcome) (gain : Gain) → outcome poll.rules before here ≡ found → here.end ≤ size here → ReadsOn poll here found
+      → progress_after poll here (progress_of before []) found ≡ progress_of before [] → IsGainOf poll here found [] gain → TakesLook poll here before before [] gain
   leaves found gain is within reads same sums = record {
     end_within = within;
-    reads_on = subst (λ (o : Outcome). ReadsOn rules first here o) (sym is) reads;
-    leads_to = ap (λ (o : Outcome). progress_after rules first here (progress_of before []) o) is ∙ same;
-    sums = subst (λ (o : Outcome). IsGainOf rules first here o [] gain) (sym is) sums;
+    reads_on = subst (λ (o : Outcome). ReadsOn poll here o) (sym is) reads;
+    leads_to = ap (λ (o : Outcome). progress_after poll here (progress_of before []) o) is ∙ same;
+    sums = subst (λ (o : Outcome). IsGainOf poll here o [] gain) (sym is) sums;
   }
 
-  pub takes_nothing : here.skipped ≡ false → size here ≡ 0 → here.end ≡ 0 → TakesLook rules first here before before [] no_gain
+  pub takes_nothing : here.skipped ≡ false → size here ≡ 0 → here.end ≡ 0 → TakesLook poll here before before [] no_gain
   takes_nothing read none end =
-      leaves finds_nothing no_gain (is_nothing rules before here read none) (omega (arith, end)) tt refl
+      leaves finds_nothing no_gain (is_nothing poll.rules before here read none) (omega (arith, end)) tt refl
       (record {
         files = sym (ap one_if (filled_none here none));
         lines = refl;
@@ -111,9 +112,9 @@ module _ (rules : Rules) (first : Bool) (here : Look) (before : List Row) where
         full = refl;
       })
 
-  pub takes_unread : here.skipped ≡ true → 0 < size here → here.end ≤ size here → TakesLook rules first here before before [] (record one_file { failed = 1 })
+  pub takes_unread : here.skipped ≡ true → 0 < size here → here.end ≤ size here → TakesLook poll here before before [] (record one_file { failed = 1 })
   takes_unread unread some within =
-      leaves skips (record one_file { failed = 1 }) (is_skipped rules before here unread) within tt refl
+      leaves skips (record one_file { failed = 1 }) (is_skipped poll.rules before here unread) within tt refl
       (record {
         files = sym (ap one_if (filled_some here some));
         lines = refl;
@@ -126,9 +127,9 @@ module _ (rules : Rules) (first : Bool) (here : Look) (before : List Row) where
       })
 
   module _ (read : here.skipped ≡ false) (some : 0 < size here) where
-    pub takes_compressed : is_compressed (front rules here) ≡ true → here.end ≡ size here → TakesLook rules first here before before [] (record one_file { compressed = 1 })
+    pub takes_compressed : is_compressed (front poll.rules here) ≡ true → here.end ≡ size here → TakesLook poll here before before [] (record one_file { compressed = 1 })
     takes_compressed is end =
-        leaves finds_compressed (record one_file { compressed = 1 }) (is_compressed_file rules before here read some is) (omega (arith, end)) tt refl
+        leaves finds_compressed (record one_file { compressed = 1 }) (is_compressed_file poll.rules before here read some is) (omega (arith, end)) tt refl
         (record {
           files = sym (ap one_if (filled_some here some));
           lines = refl;
@@ -140,11 +141,11 @@ module _ (rules : Rules) (first : Bool) (here : Look) (before : List Row) where
           full = refl;
         })
 
-    module _ (plain : is_compressed (front rules here) ≡ false) where
-      pub takes_full : place_of (front rules here) before ≡ None → row_limit ≤ length before → here.end ≡ size here → TakesLook rules first here before before [] (record one_file { full = 1 })
+    module _ (plain : is_compressed (front poll.rules here) ≡ false) where
+      pub takes_full : place_of (front poll.rules here) before ≡ None → row_limit ≤ length before → here.end ≡ size here → TakesLook poll here before before [] (record one_file { full = 1 })
       takes_full none all end =
           leaves finds_no_room (record one_file { full = 1 })
-          (is_no_room rules before here read some plain none all) (omega (arith, end)) tt refl
+          (is_no_room poll.rules before here read some plain none all) (omega (arith, end)) tt refl
           (record {
             files = sym (ap one_if (filled_some here some));
             lines = refl;
@@ -157,25 +158,25 @@ module _ (rules : Rules) (first : Bool) (here : Look) (before : List Row) where
           })
 
       -- the file of a row that stands there is read on, or is too short
-      module _ (place : ℕ) (row : Row) (at : slice_get before place ≡ Some row) (known : place_of (front rules here) before ≡ Some place) where
-        pub is_known : outcome rules before here ≡ finds_row place row
-        is_known = is_row rules before here place row read some plain known at
+      module _ (place : ℕ) (row : Row) (at : slice_get before place ≡ Some row) (known : place_of (front poll.rules here) before ≡ Some place) where
+        pub is_known : outcome poll.rules before here ≡ finds_row place row
+        is_known = is_row poll.rules before here place row read some plain known at
 
-        pub added_known : row.offset ≤ size here → (after_look rules first here (progress_of before [])).added ≡ lines_of rules (piece here row.offset) row
-        added_known from = ap (λ (o : Outcome). (progress_after rules first here (progress_of before []) o).added) is_known ∙ lines_added-read rules here row from
+        pub added_known : poll.rules.flush_after ≡ 0 → row.offset ≤ size here → (after_look poll here (progress_of before [])).added ≡ lines_of poll (piece here row.offset) row
+        added_known no_flush from = ap (λ (o : Outcome). (progress_after poll here (progress_of before []) o).added) is_known ∙ lines_added-read poll here row no_flush from
 
         pub takes_short : size here < row.offset → here.end ≡ size here
-            → TakesLook rules first here before (slice_set before place (with_front (front rules here) row)) [] (record one_file { shrunk = 1 })
+            → TakesLook poll here before (slice_set before place (with_front (front poll.rules here) row)) [] (record one_file { shrunk = 1 })
         takes_short short end = record {
           end_within = omega (arith, end);
-          reads_on = subst (λ (o : Outcome). ReadsOn rules first here o) (sym is_known) (λ le. absurd (omega (arith, le, short)));
+          reads_on = subst (λ (o : Outcome). ReadsOn poll here o) (sym is_known) (λ le. absurd (omega (arith, le, short)));
           leads_to =
-              ap (λ (o : Outcome). progress_after rules first here (progress_of before []) o) is_known
+              ap (λ (o : Outcome). progress_after poll here (progress_of before []) o) is_known
               ∙ same_progress
-              (ap (slice_set before place) (row_after-short rules here row short))
-              (ap (λ n. n + 1) (sym (length-set before place (with_front (front rules here) row))))
-              (lines_added-short rules here row short);
-          sums = subst (λ (o : Outcome). IsGainOf rules first here o [] (record one_file { shrunk = 1 })) (sym is_known)
+              (ap (slice_set before place) (row_after-short poll here row short))
+              (ap (λ n. n + 1) (sym (length-set before place (with_front (front poll.rules here) row))))
+              (lines_added-short poll here row short);
+          sums = subst (λ (o : Outcome). IsGainOf poll here o [] (record one_file { shrunk = 1 })) (sym is_known)
               (record {
                 files = sym (ap one_if (filled_some here some));
                 lines = refl;
@@ -188,56 +189,56 @@ module _ (rules : Rules) (first : Bool) (here : Look) (before : List Row) where
               });
         }
 
-        pub takes_on : (given : List ℕ) (after : List Row) (added : List Mark) (gain : Gain) → row.offset ≤ size here → here.end ≤ size here → row.offset ≤ here.end → given ≡ piece here row.offset
-            → after ≡ slice_set (slice_set before place (with_front (front rules here) row)) place (fed rules given (with_front (front rules here) row))
-            → added ≡ lines_of rules given row → IsGainOf rules first here (finds_row place row) added gain → TakesLook rules first here before after added gain
-        takes_on given after added gain from within reaches are rows lines sums = record {
+        pub takes_on : poll.rules.flush_after ≡ 0 → (given : List ℕ) (after : List Row) (added : List Mark) (gain : Gain) → row.offset ≤ size here → here.end ≤ size here → row.offset ≤ here.end → given ≡ piece here row.offset
+            → after ≡ slice_set (slice_set before place (with_front (front poll.rules here) row)) place (fed poll.rules given (with_front (front poll.rules here) row))
+            → added ≡ lines_of poll given row → IsGainOf poll here (finds_row place row) added gain → TakesLook poll here before after added gain
+        takes_on no_flush given after added gain from within reaches are rows lines sums = record {
           end_within = within;
-          reads_on = subst (λ (o : Outcome). ReadsOn rules first here o) (sym is_known) (λ _. reaches);
+          reads_on = subst (λ (o : Outcome). ReadsOn poll here o) (sym is_known) (λ _. reaches);
           leads_to =
-              ap (λ (o : Outcome). progress_after rules first here (progress_of before []) o) is_known
+              ap (λ (o : Outcome). progress_after poll here (progress_of before []) o) is_known
               ∙ same_progress
-              (ap (slice_set before place) (row_after-read rules here row from ∙ ap (λ (g : List ℕ). fed rules g (with_front (front rules here) row)) (sym are))
-              ∙ sym (set_twice before place (with_front (front rules here) row) (fed rules given (with_front (front rules here) row)))
+              (ap (slice_set before place) (row_after-read poll here row no_flush from ∙ ap (λ (g : List ℕ). fed poll.rules g (with_front (front poll.rules here) row)) (sym are))
+              ∙ sym (set_twice before place (with_front (front poll.rules here) row) (fed poll.rules given (with_front (front poll.rules here) row)))
               ∙ sym rows)
-              (omega (arith, ap length rows, length-set (slice_set before place (with_front (front rules here) row)) place (fed rules given (with_front (front rules here) row)), length-set before place (with_front (front rules here) row)))
-              (lines_added-read rules here row from ∙ ap (λ (g : List ℕ). lines_of rules g row) (sym are) ∙ sym lines);
-          sums = subst (λ (o : Outcome). IsGainOf rules first here o added gain) (sym is_known) sums;
+              (omega (arith, ap length rows, length-set (slice_set before place (with_front (front poll.rules here) row)) place (fed poll.rules given (with_front (front poll.rules here) row)), length-set before place (with_front (front poll.rules here) row)))
+              (lines_added-read poll here row no_flush from ∙ ap (λ (g : List ℕ). lines_of poll g row) (sym are) ∙ sym lines);
+          sums = subst (λ (o : Outcome). IsGainOf poll here o added gain) (sym is_known) sums;
         }
 
-      pub is_fresh : place_of (front rules here) before ≡ None → length before < row_limit → outcome rules before here ≡ finds_new
-      is_fresh none room = is_new rules before here read some plain none room
+      pub is_fresh : place_of (front poll.rules here) before ≡ None → length before < row_limit → outcome poll.rules before here ≡ finds_new
+      is_fresh none room = is_new poll.rules before here read some plain none room
 
-      pub added_new : (row : Row) → row ≡ new_row rules first here (length before + 1) → place_of (front rules here) before ≡ None → length before < row_limit → row.offset ≤ size here
-          → (after_look rules first here (progress_of before [])).added ≡ lines_of rules (piece here row.offset) row
-      added_new row is none room from =
-          let new_is : outcome rules before here ≡ finds_new = is_fresh none room in
-          ap (λ (o : Outcome). (progress_after rules first here (progress_of before []) o).added) new_is
-          ∙ lines_added-read rules here (new_row rules first here (length before + 1)) (omega (arith, from, ap (λ (r : Row). r.offset) is))
-          ∙ ap (λ (r : Row). lines_of rules (piece here r.offset) r) (sym is)
+      pub added_new : poll.rules.flush_after ≡ 0 → (row : Row) → row ≡ new_row poll here (length before + 1) → place_of (front poll.rules here) before ≡ None → length before < row_limit → row.offset ≤ size here
+          → (after_look poll here (progress_of before [])).added ≡ lines_of poll (piece here row.offset) row
+      added_new no_flush row is none room from =
+          let new_is : outcome poll.rules before here ≡ finds_new = is_fresh none room in
+          ap (λ (o : Outcome). (progress_after poll here (progress_of before []) o).added) new_is
+          ∙ lines_added-read poll here (new_row poll here (length before + 1)) no_flush (omega (arith, from, ap (λ (r : Row). r.offset) is))
+          ∙ ap (λ (r : Row). lines_of poll (piece here r.offset) r) (sym is)
 
       -- a new row is read on
-      pub takes_new : (row : Row) (given : List ℕ) (after : List Row) (added : List Mark) (gain : Gain) → row ≡ new_row rules first here (length before + 1)
-          → place_of (front rules here) before ≡ None → length before < row_limit → row.offset ≤ size here → here.end ≤ size here → row.offset ≤ here.end → given ≡ piece here row.offset
-          → after ≡ slice_set (before ++ row ∷ []) (length before) (fed rules given row)
-          → added ≡ lines_of rules given row → IsGainOf rules first here finds_new added gain → TakesLook rules first here before after added gain
-      takes_new row given after added gain is none room from within reaches are rows lines sums =
-          let fresh : Row = new_row rules first here (length before + 1) in
+      pub takes_new : poll.rules.flush_after ≡ 0 → (row : Row) (given : List ℕ) (after : List Row) (added : List Mark) (gain : Gain) → row ≡ new_row poll here (length before + 1)
+          → place_of (front poll.rules here) before ≡ None → length before < row_limit → row.offset ≤ size here → here.end ≤ size here → row.offset ≤ here.end → given ≡ piece here row.offset
+          → after ≡ slice_set (before ++ row ∷ []) (length before) (fed poll.rules given row)
+          → added ≡ lines_of poll given row → IsGainOf poll here finds_new added gain → TakesLook poll here before after added gain
+      takes_new no_flush row given after added gain is none room from within reaches are rows lines sums =
+          let fresh : Row = new_row poll here (length before + 1) in
           let at : row.offset ≡ fresh.offset = ap (λ (r : Row). r.offset) is in
-          let new_is : outcome rules before here ≡ finds_new = is_fresh none room in
+          let new_is : outcome poll.rules before here ≡ finds_new = is_fresh none room in
           let fresh_begins : fresh.offset ≤ size here = omega (arith, at, from) in
-          let read_then : row_after rules here fresh ≡ fed rules given row =
-          row_after-read rules here fresh fresh_begins ∙ ap (λ (g : List ℕ). fed rules g fresh) (sym (are ∙ ap (piece here) at)) ∙ ap (fed rules given) (sym is) in
+          let read_then : row_after poll here fresh ≡ fed poll.rules given row =
+          row_after-read poll here fresh no_flush fresh_begins ∙ ap (λ (g : List ℕ). fed poll.rules g fresh) (sym (are ∙ ap (piece here) at)) ∙ ap (fed poll.rules given) (sym is) in
           record {
             end_within = within;
-            reads_on = subst (λ (o : Outcome). ReadsOn rules first here o) (sym new_is) (λ _. omega (arith, at, reaches));
+            reads_on = subst (λ (o : Outcome). ReadsOn poll here o) (sym new_is) (λ _. omega (arith, at, reaches));
             leads_to =
-                ap (λ (o : Outcome). progress_after rules first here (progress_of before []) o) new_is
+                ap (λ (o : Outcome). progress_after poll here (progress_of before []) o) new_is
                 ∙ same_progress
                 (ap (λ (r : Row). before ++ r ∷ []) read_then
-                ∙ sym (set-append_seam before row [] (fed rules given row))
+                ∙ sym (set-append_seam before row [] (fed poll.rules given row))
                 ∙ sym rows)
-                (omega (arith, ap length rows, length-set (before ++ row ∷ []) (length before) (fed rules given row), length_push before row))
-                (lines_added-read rules here fresh fresh_begins ∙ ap (λ (g : List ℕ). lines_of rules g fresh) (sym (are ∙ ap (piece here) at)) ∙ ap (lines_of rules given) (sym is) ∙ sym lines);
-            sums = subst (λ (o : Outcome). IsGainOf rules first here o added gain) (sym new_is) sums;
+                (omega (arith, ap length rows, length-set (before ++ row ∷ []) (length before) (fed poll.rules given row), length_push before row))
+                (lines_added-read poll here fresh no_flush fresh_begins ∙ ap (λ (g : List ℕ). lines_of poll g fresh) (sym (are ∙ ap (piece here) at)) ∙ ap (lines_of poll given) (sym is) ∙ sym lines);
+            sums = subst (λ (o : Outcome). IsGainOf poll here o added gain) (sym new_is) sums;
           }

@@ -16,6 +16,7 @@ use Rattle.outside.specs.Seen.{looked, missed, left_unlisted}
 use Rattle.outside.specs.World.{World, History, bytes, look, miss, names, file_at}
 use Rattle.outside.specs.declared.tree.Kind.TheVariants.{File}
 use Rattle.standing.proofs.MomentLemmas.{bytes_grow, later_then, at_look}
+use Rattle.standing.specs.Poll.{Poll}
 use Rattle.standing.specs.Limits.{is_compressed}
 use Rattle.standing.specs.Look.{ComesAt}
 use Rattle.standing.specs.Marks.{Mark}
@@ -37,33 +38,33 @@ use Rattle.file_pass.proofs.ReadingLemmas.{same_piece}
 pub later_moves : {old new : History} → Moves old new → IsLater old new
 later_moves moves = record { events = moves.steps; goes_on = moves.goes_on }
 
-module _ (rules : Rules) (first : Bool) (path : List ℕ) (file : OpenFile) (before : List Row) where
+module _ (poll : Poll) (path : List ℕ) (file : OpenFile) (before : List Row) where
   -- nothing was done with an empty file
-  pub open_nothing : (world : World) → file.size ≡ 0 → OpenTaken rules first path file before before no_gain [] world world
+  pub open_nothing : (world : World) → file.size ≡ 0 → OpenTaken poll path file before before no_gain [] world world
   open_nothing world none = record {
     handles = refl;
     moves = moves_none world.history;
     end = 0;
     skipped = false;
-    looks = λ seen moment at. takes_nothing rules first (look_at path seen moment 0 false) before refl (sym at.size_then ∙ none) refl;
+    looks = λ seen moment at. takes_nothing poll (look_at path seen moment 0 false) before refl (sym at.size_then ∙ none) refl;
     cost = λ seen moment at. omega arith;
   }
 
   -- its front could not be read, or not to its end
-  pub open_unread : (old new : World) (last : ℕ) (given : List ℕ) (count : ℕ) → count ≤ rules.front_size → last ≤ file.size → 0 < file.size → Reads file.handle.0 0 last given Failed old new
-      → OpenTaken rules first path file before before (record one_file { failed = 1; taken = count }) [] old new
+  pub open_unread : (old new : World) (last : ℕ) (given : List ℕ) (count : ℕ) → count ≤ poll.rules.front_size → last ≤ file.size → 0 < file.size → Reads file.handle.0 0 last given Failed old new
+      → OpenTaken poll path file before before (record one_file { failed = 1; taken = count }) [] old new
   open_unread old new last given count few le some reads = record {
     handles = reads.handles;
     moves = reads.moves;
     end = 0;
     skipped = true;
-    looks = λ seen moment at. look_with rules first (look_at path seen moment 0 true) before before [] (record one_file { failed = 1 }) count (takes_unread rules first (look_at path seen moment 0 true) before refl (omega (arith, some, at.size_then)) (omega arith));
+    looks = λ seen moment at. look_with poll (look_at path seen moment 0 true) before before [] (record one_file { failed = 1 }) count (takes_unread poll (look_at path seen moment 0 true) before refl (omega (arith, some, at.size_then)) (omega arith));
     cost = λ seen moment at. omega (arith, few);
   }
 
   -- no file is found to be shorter than it was
-  pub open_shrunk : (old new : World) (last : ℕ) (given : List ℕ) (count : ℕ) → count ≤ rules.front_size → last ≤ file.size → Reads file.handle.0 0 last given Shrunk old new
-      → OpenTaken rules first path file before before (record one_file { shrunk = 1; taken = count }) [] old new
+  pub open_shrunk : (old new : World) (last : ℕ) (given : List ℕ) (count : ℕ) → count ≤ poll.rules.front_size → last ≤ file.size → Reads file.handle.0 0 last given Shrunk old new
+      → OpenTaken poll path file before before (record one_file { shrunk = 1; taken = count }) [] old new
   open_shrunk old new last given count few le reads = record {
     handles = reads.handles;
     moves = reads.moves;
@@ -76,8 +77,8 @@ module _ (rules : Rules) (first : Bool) (path : List ℕ) (file : OpenFile) (bef
   }
 
   -- the front that was read is what a look sees
-  seen_then : (old mid : World) (seen_front : List ℕ) (last : ℕ) → last ≡ min rules.front_size file.size → length seen_front ≡ last → Reads file.handle.0 0 last seen_front Whole old mid
-      → (seen : ℕ) (moment : History) → IsOpenAt file seen moment old → IsSeenAt rules file seen_front seen moment mid
+  seen_then : (old mid : World) (seen_front : List ℕ) (last : ℕ) → last ≡ min poll.rules.front_size file.size → length seen_front ≡ last → Reads file.handle.0 0 last seen_front Whole old mid
+      → (seen : ℕ) (moment : History) → IsOpenAt file seen moment old → IsSeenAt poll file seen_front seen moment mid
   seen_then old mid seen_front last is many reads seen moment at =
       let has = still_open file seen moment old at in
       let grown = bytes_grow moment old.history seen at.later in
@@ -94,25 +95,25 @@ module _ (rules : Rules) (first : Bool) (path : List ℕ) (file : OpenFile) (bef
             ∙ front_size_of (bytes moment seen) (omega (arith, is, many, at.size_then));
       }
     where
-      front_size_of : (content : List ℕ) → length seen_front ≡ min rules.front_size (length content) → take (length seen_front) content ≡ take rules.front_size content
-      front_size_of content few = elim (cases_lt rules.front_size (length content)) [
+      front_size_of : (content : List ℕ) → length seen_front ≡ min poll.rules.front_size (length content) → take (length seen_front) content ≡ take poll.rules.front_size content
+      front_size_of content few = elim (cases_lt poll.rules.front_size (length content)) [
         | inl long ↦ ap (λ n. take n content) (omega (arith, few, long))
-        | inr short ↦ (take_all (length seen_front) content (omega (arith, few, short)) ∙ sym (take_all rules.front_size content short))
+        | inr short ↦ (take_all (length seen_front) content (omega (arith, few, short)) ∙ sym (take_all poll.rules.front_size content short))
       ]
 
-  module _ (old mid new : World) (seen_front : List ℕ) (last : ℕ) (is : last ≡ min rules.front_size file.size) (many : length seen_front ≡ last) (reads : Reads file.handle.0 0 last seen_front Whole old mid) where
-    pub open_seen : (after : List Row) (gain : Gain) (added : List Mark) (count : ℕ) → count ≤ rules.front_size → SeenTaken rules first path file seen_front before after gain added mid new
-        → OpenTaken rules first path file before after (with_taken (count + gain.taken) gain) added old new
+  module _ (old mid new : World) (seen_front : List ℕ) (last : ℕ) (is : last ≡ min poll.rules.front_size file.size) (many : length seen_front ≡ last) (reads : Reads file.handle.0 0 last seen_front Whole old mid) where
+    pub open_seen : (after : List Row) (gain : Gain) (added : List Mark) (count : ℕ) → count ≤ poll.rules.front_size → SeenTaken poll path file seen_front before after gain added mid new
+        → OpenTaken poll path file before after (with_taken (count + gain.taken) gain) added old new
     open_seen after gain added count few taken = record {
       handles = taken.handles ∙ reads.handles;
       moves = moves_then reads.moves taken.moves;
       end = taken.end;
       skipped = false;
-      looks = λ seen moment at. look_with rules first (look_at path seen moment taken.end false) before after added gain (count + gain.taken) (taken.looks seen moment (seen_then old mid seen_front last is many reads seen moment at));
+      looks = λ seen moment at. look_with poll (look_at path seen moment taken.end false) before after added gain (count + gain.taken) (taken.looks seen moment (seen_then old mid seen_front last is many reads seen moment at));
       cost = λ seen moment at. omega (arith, few, taken.cost seen moment (seen_then old mid seen_front last is many reads seen moment at));
     }
 
-    pub open_fills : (limit end full : ℕ) → SeenFills rules first limit path file seen_front before end full mid new → OpenFills rules first limit path file before end full old new
+    pub open_fills : (limit end full : ℕ) → SeenFills poll limit path file seen_front before end full mid new → OpenFills poll limit path file before end full old new
     open_fills limit end full fills = record {
       handles = fills.handles ∙ reads.handles;
       moves = moves_then reads.moves fills.moves;
@@ -120,32 +121,32 @@ module _ (rules : Rules) (first : Bool) (path : List ℕ) (file : OpenFile) (bef
     }
 
   -- what is seen of a file that is passed over
-  pub seen_compressed : (world : World) (seen_front : List ℕ) → is_compressed seen_front ≡ true → 0 < file.size → SeenTaken rules first path file seen_front before before (record one_file { compressed = 1 }) [] world world
+  pub seen_compressed : (world : World) (seen_front : List ℕ) → is_compressed seen_front ≡ true → 0 < file.size → SeenTaken poll path file seen_front before before (record one_file { compressed = 1 }) [] world world
   seen_compressed world seen_front is some = record {
     handles = refl;
     moves = moves_none world.history;
     end = file.size;
     looks = λ seen moment at.
-        takes_compressed rules first (look_at path seen moment file.size false) before refl (omega (arith, some, at.open_at.size_then)) (ap is_compressed (sym at.front_is) ∙ is) at.open_at.size_then;
+        takes_compressed poll (look_at path seen moment file.size false) before refl (omega (arith, some, at.open_at.size_then)) (ap is_compressed (sym at.front_is) ∙ is) at.open_at.size_then;
     cost = λ seen moment at. omega arith;
   }
 
   pub seen_full : (world : World) (seen_front : List ℕ) (after : List Row) → is_compressed seen_front ≡ false → 0 < file.size → IsLeftOut seen_front before after
-      → SeenTaken rules first path file seen_front before after (record one_file { full = 1 }) [] world world
+      → SeenTaken poll path file seen_front before after (record one_file { full = 1 }) [] world world
   seen_full world seen_front after plain some left_out = record {
     handles = refl;
     moves = moves_none world.history;
     end = file.size;
     looks = λ seen moment at.
         let here = look_at path seen moment file.size false in
-        look_same rules first here before left_out.same refl refl
-        (takes_full rules first here before refl (omega (arith, some, at.open_at.size_then)) (ap is_compressed (sym at.front_is) ∙ plain)
+        look_same poll here before left_out.same refl refl
+        (takes_full poll here before refl (omega (arith, some, at.open_at.size_then)) (ap is_compressed (sym at.front_is) ∙ plain)
         (subst (λ (f : List ℕ). place_of f before ≡ None) at.front_is left_out.none) (omega (arith, left_out.all)) at.open_at.size_then);
     cost = λ seen moment at. omega arith;
   }
 
 -- a path that was opened, whose file was taken and closed
-module _ (rules : Rules) (first : Bool) (path : List ℕ) (included : Includes rules path) (file : OpenFile) (before : List Row) (old opened taken closed : World)
+module _ (poll : Poll) (path : List ℕ) (included : Includes poll.rules path) (file : OpenFile) (before : List Row) (old opened taken closed : World)
     (opens : OpensFile path file.handle.0 file.size old opened) (closes : Closes file.handle.0 taken closed) where
   open_at : IsOpenAt file opens.file opens.history.moment opened
   open_at = record {
@@ -157,7 +158,7 @@ module _ (rules : Rules) (first : Bool) (path : List ℕ) (included : Includes r
       found : (world : World) → world.handles ≡ (file.handle.0, opens.file) ∷ old.handles → file_of world.handles file.handle.0 ≡ Some opens.file
       found world is = let same : (file.handle.0 == file.handle.0) ≡ true = eq-eqb file.handle.0 file.handle.0 refl in rw (is, same) refl
 
-  comes : (end : ℕ) (skipped : Bool) → Moves opened.history taken.history → end ≤ length (bytes opens.history.moment opens.file) → ComesAt rules (look_at path opens.file opens.history.moment end skipped) closed.history
+  comes : (end : ℕ) (skipped : Bool) → Moves opened.history taken.history → end ≤ length (bytes opens.history.moment opens.file) → ComesAt poll.rules (look_at path opens.file opens.history.moment end skipped) closed.history
   comes end skipped moves within =
       let after = later_then (look opens.file ∷ opens.history.moment) taken.history closed.history (later_then (look opens.file ∷ opens.history.moment) opened.history taken.history (later_moves opens.history.after) (later_moves moves)) (later_moves closes.history) in
       record {
@@ -183,7 +184,7 @@ module _ (rules : Rules) (first : Bool) (path : List ℕ) (included : Includes r
   seen_unlisted moves =
       unlisted_stay taken.history closed.history closes.history ∙ unlisted_stay opened.history taken.history moves ∙ unlisted_stay (look opens.file ∷ opens.history.moment) opened.history opens.history.after ∙ unlisted_stay old.history opens.history.moment opens.history.before
 
-  pub path_looked : (after : List Row) (gain : Gain) (added : List Mark) → OpenTaken rules first path file before after gain added opened taken → PathTaken rules first path before after gain added old closed
+  pub path_looked : (after : List Row) (gain : Gain) (added : List Mark) → OpenTaken poll path file before after gain added opened taken → PathTaken poll path before after gain added old closed
   path_looked after gain added open_taken =
       let took = open_taken.looks opens.file opens.history.moment open_at in
       record {
@@ -201,7 +202,7 @@ module _ (rules : Rules) (first : Bool) (path : List ℕ) (included : Includes r
         no_unlisted = seen_unlisted open_taken.moves;
       }
 
-  pub path_fills : (limit end full : ℕ) → OpenFills rules first limit path file before end full opened taken → PathFills rules first limit path before end full old closed
+  pub path_fills : (limit end full : ℕ) → OpenFills poll limit path file before end full opened taken → PathFills poll limit path before end full old closed
   path_fills limit end full fills = record {
     here = look_at path opens.file opens.history.moment file.size false;
     path_is = refl;
@@ -222,8 +223,8 @@ pub record WithFile (change : World → World → Type 0) (path : List ℕ) (fil
   pub changes : change opened taken
 
 -- a path that could not be opened, or was no file's
-module _ (rules : Rules) (first : Bool) (path : List ℕ) (before : List Row) (old new : World) where
-  pub path_missed : OpensNothing (miss path ∷ []) (λ _. Unit {0}) old new → PathTaken rules first path before before (record no_gain { failed = 1 }) [] old new
+module _ (poll : Poll) (path : List ℕ) (before : List Row) (old new : World) where
+  pub path_missed : OpensNothing (miss path ∷ []) (λ _. Unit {0}) old new → PathTaken poll path before before (record no_gain { failed = 1 }) [] old new
   path_missed opens = record {
     turn = misses_path path;
     path_is = refl;
@@ -250,7 +251,7 @@ module _ (rules : Rules) (first : Bool) (path : List ℕ) (before : List Row) (o
       by None e = e
       by (Some seen) e = absurd (other_kind (named seen e))
 
-  pub path_lost : (fact : History → Type 0) → OpensNothing [] fact old new → ((history : History) → fact history → kind_at (names history) path ≡ Some File → ⊥) → PathTaken rules first path before before (record no_gain { gone = 1 }) [] old new
+  pub path_lost : (fact : History → Type 0) → OpensNothing [] fact old new → ((history : History) → fact history → kind_at (names history) path ≡ Some File → ⊥) → PathTaken poll path before before (record no_gain { gone = 1 }) [] old new
   path_lost fact opens other_kind =
       let moves = moves_by_moment opens.history in
       record {

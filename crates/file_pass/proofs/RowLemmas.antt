@@ -18,7 +18,7 @@ use Rattle.standing.specs.Look.{fed, lines_of}
 use Rattle.standing.specs.Marks.{Mark}
 use Rattle.standing.specs.Rows.{Row}
 use Rattle.standing.specs.Tokens.{tokens_of, used}
-use Rattle.file_pass.specs.Fed.{IsSane, ReadsOn, FillsUp, feeding_row, last_of, rules_in}
+use Rattle.file_pass.specs.Fed.{poll_of, IsSane, ReadsOn, FillsUp, feeding_row, last_of, rules_in}
 use Rattle.file_pass.specs.Full.{Crosses, lines_text}
 use Rattle.file_pass.specs.Gain.{failures}
 use Rattle.file_pass.specs.Overflow.{RowFills}
@@ -40,7 +40,7 @@ use Rattle.file_pass.proofs.SaneLemmas.{few_tokens, length-numbered, sane_progre
 
 -- where the row's file is read on from
 abbrev pub begins_of : Row → Row
-begins_of row = record row { front = []; start = 0 }
+begins_of row = record row { front = []; start = 0; born = 0; ends = []; seen = 0; quiet = 0 }
 
 raised_by : (ending : Ending) (before after : ℕ) → HasEnding ending before after → raised before (failures ending) ≤ after
 raised_by Whole before after same = omega (arith, same)
@@ -80,14 +80,14 @@ module _ (setup : Setup) (laws : AreRules (rules_in setup)) (row : Row) (before 
   good_then = subst (λ (state : List ℕ). IsTrue ((rules_in setup).is_state state)) (sym state_then) (laws.operators.state_goes_on row.path row.records row.state (tokens_of (rules_in setup) given) good)
 
   -- the row that is noted
-  abbrev noted : Row
-  noted = with_progress after.offset after.state.records after.state.lines kept_then row
+  abbrev row_noted : Row
+  row_noted = with_progress after.offset after.state.records after.state.lines kept_then row
 
   same_row : {offset other_offset records other_records lines other_lines : ℕ} {state other_state : List ℕ} → offset ≡ other_offset → records ≡ other_records → lines ≡ other_lines → state ≡ other_state
       → ◌≡◌ {A = Row} (record row { offset = offset; records = records; lines = lines; state = state }) (record row { offset = other_offset; records = other_records; lines = other_lines; state = other_state })
   same_row a b c d = cc
 
-  pub noted_is : noted ≡ fed (rules_in setup) given row
+  pub noted_is : row_noted ≡ fed (rules_in setup) given row
   noted_is = same_row offset_then records_then lines_then state_then
 
   pub rises : HasGone row after.offset after.state.records after.state.lines
@@ -101,18 +101,18 @@ module _ (setup : Setup) (laws : AreRules (rules_in setup)) (row : Row) (before 
   same_numbers offset records lines state a b c d = rw (a, b, c, d) refl
 
   -- where it came no further nothing is noted
-  pub stays : after.offset ≤ row.offset → noted ≡ row
+  pub stays : after.offset ≤ row.offset → row_noted ≡ row
   stays no_further =
-      let none : tokens_of (rules_in setup) given ≡ [] = no_tokens (tokens_of (rules_in setup) given) (omega (arith, offset_then, no_further, few_tokens (rules_in setup) laws given)) in
+      let none : tokens_of (rules_in setup) given ≡ [] = no_tokens (tokens_of (rules_in setup) given) (omega (arith, offset_then, no_further, few_tokens (poll_of setup) laws given)) in
       let none_made : made_then ≡ [] = ap ((rules_in setup).made row.path row.records row.state) none ∙ laws.operators.none_made row.path row.records row.state good in
       let same_state : kept_then ≡ row.state = state_then ∙ ap ((rules_in setup).state_after row.path row.records row.state) none ∙ laws.operators.state_stays row.path row.records row.state good in
       same_numbers after.offset after.state.records after.state.lines kept_then (omega (arith, offset_then, no_further)) (omega (arith, records_then, ap length none)) (omega (arith, lines_then, ap length none_made)) same_state
 
-  pub lines_are : lines_of (rules_in setup) given (feeding_row before) ≡ lines_of (rules_in setup) given row
-  lines_are = ap (lines_of (rules_in setup) given) begins
+  pub lines_are : lines_of (poll_of setup) given (feeding_row before) ≡ lines_of (poll_of setup) given row
+  lines_are = ap (lines_of (poll_of setup) given) begins
 
-  pub lines_more : after.state.lines ≡ row.lines + length (lines_of (rules_in setup) given row)
-  lines_more = omega (arith, lines_then, length-numbered row.id (row.lines + 1) made_then)
+  pub lines_more : after.state.lines ≡ row.lines + length (lines_of (poll_of setup) given row)
+  lines_more = omega (arith, lines_then, length-numbered row.id (row.lines + 1) setup.observed made_then)
 
   pub lines_later : row.lines + (after.state.lines - row.lines) ≡ after.state.lines
   lines_later = omega (arith, lines_then)
@@ -122,11 +122,11 @@ module _ (setup : Setup) (laws : AreRules (rules_in setup)) (row : Row) (before 
   far_within file small within = omega (arith, offset_then, laws.tokens.within given, small, within)
 
   pub few_records : row.start + row.records ≤ row.offset → row.start + after.state.records ≤ after.offset
-  few_records few = omega (arith, offset_then, records_then, few, few_tokens (rules_in setup) laws given)
+  few_records few = omega (arith, offset_then, records_then, few, few_tokens (poll_of setup) laws given)
 
 module _ {T D : Type 0} (trees : TreeMeaning T) (disks : DiskMeaning D) (setup : Setup) (file : OpenFile) (place : ℕ) (row : Row) (rows : List Row) (at : slice_get rows place ≡ Some row) where
   -- the file is shorter than the row's offset
-  pub takes_shorter : (end : ℕ) (tree : T) (disk : D) → file.size < row.offset → Finds trees disks (RowTaken (rules_in setup) file place rows rows Shorter) Shorter end end tree tree disk disk
+  pub takes_shorter : (end : ℕ) (tree : T) (disk : D) → file.size < row.offset → Finds trees disks (RowTaken (poll_of setup) file place rows rows Shorter) Shorter end end tree tree disk disk
   takes_shorter end tree disk short = record {
     bytes = 0;
     takes = record {
@@ -144,7 +144,7 @@ module _ {T D : Type 0} (trees : TreeMeaning T) (disks : DiskMeaning D) (setup :
     same_begin = ap (λ (r : Row). r.offset) begins
 
     -- with a line of it the output would be too long
-    pub row_full : (full : ℕ) → FillsUp trees setup file before end full tree tree_after → Told (RowFills (rules_in setup) setup.limit file place rows end full) (trees.world tree) (trees.world tree_after)
+    pub row_full : (full : ℕ) → FillsUp trees setup file before end full tree tree_after → Told (RowFills (poll_of setup) setup.limit file place rows end full) (trees.world tree) (trees.world tree_after)
     row_full full fills =
         told_weaker _ _ (trees.world tree) (trees.world tree_after) (λ x y reads. record {
           row = row;
@@ -152,7 +152,7 @@ module _ {T D : Type 0} (trees : TreeMeaning T) (disks : DiskMeaning D) (setup :
           begins = inside;
           given = fills.given;
           within = omega (arith, fills.within, same_begin);
-          crosses = subst (λ (r : Row). Crosses setup.limit end (lines_of (rules_in setup) fills.given r) full) begins fills.crosses;
+          crosses = subst (λ (r : Row). Crosses setup.limit end (lines_of (poll_of setup) fills.given r) full) begins fills.crosses;
           reads = subst (λ from. Reads file.handle.0 from file.size fills.given Whole x y) same_begin reads;
         }) fills.world
 
@@ -161,16 +161,16 @@ module _ {T D : Type 0} (trees : TreeMeaning T) (disks : DiskMeaning D) (setup :
         → (ending ≡ Whole → more ≡ nat_lt most_taken (file.size - row.offset)) → ((ending ≡ Whole → ⊥) → more ≡ false) → row.lines + lines ≡ after.state.lines
         → rows_after ≡ slice_set rows place (with_progress after.offset after.state.records after.state.lines (state_text after.state.states.items) row)
         → trees.taken tree_after ≤ trees.taken tree + (last_of file.size before.offset - before.offset)
-        → Finds trees disks (RowTaken (rules_in setup) file place rows rows_after (Read ending more lines)) (Read ending more lines) end end_after tree tree_after disk disk_after
+        → Finds trees disks (RowTaken (poll_of setup) file place rows rows_after (Read ending more lines)) (Read ending more lines) end end_after tree tree_after disk disk_after
     takes_on_row after end_after ending more lines rows_after disk disk_after on left not_left many noted read =
-        let added : List Mark = lines_of (rules_in setup) on.given row in
+        let added : List Mark = lines_of (poll_of setup) on.given row in
         let count : lines ≡ length added = omega (arith, many, lines_more setup laws row before after on.given good begins on.row) in
         record {
           bytes = min most_taken (file.size - row.offset);
           takes = record {
             added = added;
             lines = count;
-            appends = appends_same disks (lines_text (lines_of (rules_in setup) on.given (feeding_row before))) (lines_text added) end end_after disk disk_after (ap lines_text (lines_are setup laws row before after on.given good begins on.row)) on.appends;
+            appends = appends_same disks (lines_text (lines_of (poll_of setup) on.given (feeding_row before))) (lines_text added) end end_after disk disk_after (ap lines_text (lines_are setup laws row before after on.given good begins on.row)) on.appends;
             rose = raised_by ending (trees.faults tree) (trees.faults tree_after) on.cause;
             read = omega (arith, read, same_begin, inside);
             world = told_weaker _ _ (trees.world tree) (trees.world tree_after) (λ x y reads. record {
@@ -220,11 +220,13 @@ module _ {T D : Type 0} (trees : TreeMeaning T) (disks : DiskMeaning D) (setup :
       let started : before.offset ≡ row.offset = ap (λ (r : Row). r.offset) begins in
       let far : row.offset ≤ after.offset = (rises setup laws row before after on.given good begins on.row).offset_rises in
       record {
-        rows = sane_progress (rules_in setup) taking.end next.end taking.tracker next.tracker place row after.offset after.state.records after.state.lines (state_text after.state.states.items) sane.rows later at noted far
+        rows = sane_progress (poll_of setup) taking.end next.end taking.tracker next.tracker place row after.offset after.state.records after.state.lines (state_text after.state.states.items) sane.rows later at noted far
             (far_within setup laws row before after on.given good begins on.row file small (omega (arith, on.within, started)))
             (few_records setup laws row before after on.given good begins on.row was.records)
+            (rises setup laws row before after on.given good begins on.row).records_rise (rises setup laws row before after on.given good begins on.row).lines_rise
             (omega (arith, fed_sane.lines, end)) (good_then setup laws row before after on.given good begins on.row) (short was.short);
         few = omega (arith, sane.few, ap (λ (rows : List Row). length rows) noted, length-set taking.tracker place (with_progress after.offset after.state.records after.state.lines (state_text after.state.states.items) row));
+        era = sane.era;
         flags = flags ∙ sane.flags ∙ sym (ap (λ (rows : List Row). length rows) noted ∙ length-set taking.tracker place (with_progress after.offset after.state.records after.state.lines (state_text after.state.states.items) row));
         end_within = omega (arith, fed_sane.end_within, end);
         lines = omega (arith, sane.lines, later, ap (λ (c : Counts). c.lines) counts);

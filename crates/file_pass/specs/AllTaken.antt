@@ -5,6 +5,7 @@ use Rattle.outside.specs.DiskMeaning.{DiskMeaning}
 use Rattle.outside.specs.Seen.{looked, missed, left_unlisted}
 use Rattle.outside.specs.TreeMeaning.{TreeMeaning}
 use Rattle.outside.specs.World.{World, History}
+use Rattle.standing.specs.Poll.{Poll}
 use Rattle.standing.specs.Look.{Look, Progress}
 use Rattle.standing.specs.Looks.{Come, ReadOn, progress_by, count_of}
 use Rattle.standing.specs.Marks.{Mark}
@@ -13,7 +14,7 @@ use Rattle.standing.specs.Pass.{is_short}
 use Rattle.standing.specs.Rules.{Rules}
 use Rattle.standing.specs.Sums.{is_filled, is_passed_as_compressed, is_left_out, has_more, is_shrunk}
 use Rattle.file_pass.specs.Cost.{cost_of}
-use Rattle.file_pass.specs.Fed.{rules_in}
+use Rattle.file_pass.specs.Fed.{poll_of, rules_in}
 use Rattle.file_pass.specs.Gain.{Gain, Counted}
 use Rattle.file_pass.specs.PathTaken.{PathTaken}
 use Rattle.file_pass.specs.Seen.{progress_of}
@@ -23,8 +24,8 @@ use Rattle.file_pass.specs.declared.setup.Setup.{Setup}
 use Rattle.file_pass.specs.declared.taking.Taking.{Taking}
 
 -- the agent's own events are those of these turns
-pub record OwnTurns (rules : Rules) (turns : List Turn) (old new : History) : Type 0 where
-  pub come : Come rules (looks_of turns) old new
+pub record OwnTurns (poll : Poll) (turns : List Turn) (old new : History) : Type 0 where
+  pub come : Come poll.rules (looks_of turns) old new
   pub later : IsLater old new
   pub all_looks : looked new ≡ map (λ (here : Look). here.file) (looks_of turns) ++ looked old
   pub all_misses : missed new ≡ misses_of turns ++ missed old
@@ -32,35 +33,35 @@ pub record OwnTurns (rules : Rules) (turns : List Turn) (old new : History) : Ty
   pub had_none : (path : List ℕ) → Contains (gone_of turns) path → HadNone old new path
 
 -- what these turns add to the counts, and how many bytes were read for them at most
-pub record AreGains (rules : Rules) (first : Bool) (turns : List Turn) (start : Progress) (added : List Mark) (gain : Gain) : Type 0 where
+pub record AreGains (poll : Poll) (turns : List Turn) (start : Progress) (added : List Mark) (gain : Gain) : Type 0 where
   pub files : gain.files ≡ count_by is_filled (looks_of turns)
   pub lines : gain.lines ≡ length added
-  pub left : gain.left ≡ count_of rules first (has_more rules first) (looks_of turns) start
+  pub left : gain.left ≡ count_of poll (has_more poll) (looks_of turns) start
   pub gone : gain.gone ≡ length (gone_of turns)
   pub failed : gain.failed ≡ count_by is_short (looks_of turns) + length (misses_of turns)
-  pub compressed : gain.compressed ≡ count_of rules first is_passed_as_compressed (looks_of turns) start
-  pub shrunk : gain.shrunk ≡ count_of rules first (is_shrunk rules first) (looks_of turns) start
-  pub full : gain.full ≡ count_of rules first is_left_out (looks_of turns) start
-  pub taken : gain.taken ≤ cost_of rules first (looks_of turns) start
+  pub compressed : gain.compressed ≡ count_of poll is_passed_as_compressed (looks_of turns) start
+  pub shrunk : gain.shrunk ≡ count_of poll (is_shrunk poll) (looks_of turns) start
+  pub full : gain.full ≡ count_of poll is_left_out (looks_of turns) start
+  pub taken : gain.taken ≤ cost_of poll (looks_of turns) start
 
 -- Each path has its turn, and the looks lead from the rows before to those after, with these lines.
-pub record AllTaken (rules : Rules) (first : Bool) (paths : List (List ℕ)) (before after : List Row) (gain : Gain) (added : List Mark) (old new : World) : Type 0 where
+pub record AllTaken (poll : Poll) (paths : List (List ℕ)) (before after : List Row) (gain : Gain) (added : List Mark) (old new : World) : Type 0 where
   pub turns : List Turn
   pub each : map path_of turns ≡ reverse paths
   pub handles : new.handles ≡ old.handles
-  pub own : OwnTurns rules turns old.history new.history
-  pub read_on : ReadOn rules first (looks_of turns) (progress_of before [])
-  pub leads_to : progress_by rules first (looks_of turns) (progress_of before []) ≡ progress_of after added
-  pub gains : AreGains rules first turns (progress_of before []) added gain
+  pub own : OwnTurns poll turns old.history new.history
+  pub read_on : ReadOn poll (looks_of turns) (progress_of before [])
+  pub leads_to : progress_by poll (looks_of turns) (progress_of before []) ≡ progress_of after added
+  pub gains : AreGains poll turns (progress_of before []) added gain
 
 -- One path was taken, and counted.
 pub record TakesOne {T D : Type 0} (trees : TreeMeaning T) (disks : DiskMeaning D) (setup : Setup) (path : List ℕ) (before after : Taking) (tree tree_after : T) (disk disk_after : D) : Type 0 where
   pub gain : Gain
   pub counted : Counted before.counts gain after.counts
-  pub takes : Takes trees disks (PathTaken (rules_in setup) setup.first path before.tracker after.tracker gain) gain before.end after.end tree tree_after disk disk_after
+  pub takes : Takes trees disks (PathTaken (poll_of setup) path before.tracker after.tracker gain) gain before.end after.end tree tree_after disk disk_after
 
 -- A pass came to its end.
 pub record TakesAll {T D : Type 0} (trees : TreeMeaning T) (disks : DiskMeaning D) (setup : Setup) (paths : List (List ℕ)) (before after : Taking) (tree tree_after : T) (disk disk_after : D) : Type 0 where
   pub gain : Gain
   pub counted : Counted before.counts gain after.counts
-  pub takes : Takes trees disks (AllTaken (rules_in setup) setup.first paths before.tracker after.tracker gain) gain before.end after.end tree tree_after disk disk_after
+  pub takes : Takes trees disks (AllTaken (poll_of setup) paths before.tracker after.tracker gain) gain before.end after.end tree tree_after disk disk_after

@@ -1,5 +1,6 @@
 -- How many bytes the reads of a pass give at most, told by its looks.
 use Rattle.std.specs.Prelude.{ℕ, ◌+◌, ◌-◌, min, List, [], ◌∷◌, Bool}
+use Rattle.standing.specs.Poll.{Poll}
 use Rattle.standing.specs.Limits.{most_taken}
 use Rattle.standing.specs.Look.{Look, Outcome, Progress, skips, finds_nothing, finds_compressed, finds_no_room, finds_new, finds_row, size}
 use Rattle.standing.specs.Looks.{outcome_after}
@@ -19,10 +20,10 @@ abbrev pub cost_on : Look → Outcome → ℕ
 cost_on here found = min most_taken (bytes_past here found)
 
 -- its front, and what is read on
-abbrev pub look_cost : Rules → Look → Outcome → ℕ
-look_cost rules here found = rules.front_size + cost_on here found
+abbrev pub look_cost : Poll → Look → Outcome → ℕ
+look_cost poll here found = poll.rules.front_size + cost_on here found
 
 -- of the looks in turn, each with what it finds
-abbrev pub cost_of : Rules → Bool → List Look → Progress → ℕ
-cost_of rules first [] start = 0
-cost_of rules first (here ∷ earlier) start = cost_of rules first earlier start + look_cost rules here (outcome_after rules first earlier start here)
+abbrev pub cost_of : Poll → List Look → Progress → ℕ
+cost_of poll [] start = 0
+cost_of poll (here ∷ earlier) start = cost_of poll earlier start + look_cost poll here (outcome_after poll earlier start here)

@@ -8,6 +8,7 @@ use Rattle.pipeline.specs.AsRules.{rules_of}
 use Rattle.pipeline.specs.Parts.{HaveKinds}
 use Rattle.standing.specs.Limits.{most_taken}
 use Rattle.standing.specs.Look.{fed, lines_of}
+use Rattle.standing.specs.Poll.{Poll}
 use Rattle.standing.specs.Rows.{Row}
 use Rattle.standing.specs.Rules.{Rules}
 use Rattle.standing.specs.Tokens.{used}
@@ -21,11 +22,14 @@ use Rattle.file_pass.specs.declared.ending.OpenFile.{OpenFile}
 use Rattle.file_pass.specs.declared.feeding.Feeding.{Feeding}
 use Rattle.file_pass.specs.declared.setup.Setup.{Setup}
 
--- what the settings say, as rules
+-- what the settings say, as poll
 abbrev pub rules_in : Setup → Rules
 rules_in setup = rules_of setup.settings.now setup.pipeline.now
 
--- What is known of a file while it is read on, as a row; its front and where its reading began stay as they are.
+abbrev pub poll_of : Setup → Poll
+poll_of setup = record { rules = rules_in setup; era = setup.era; first = setup.first; stamp = setup.observed }
+
+-- What is known of a file while it is read on, as a row. What the row has besides stays as it is.
 abbrev pub feeding_row : Feeding → Row
 feeding_row feeding = record {
   id = feeding.id;
@@ -36,6 +40,10 @@ feeding_row feeding = record {
   records = feeding.state.records;
   lines = feeding.state.lines;
   state = state_text feeding.state.states.items;
+  born = 0;
+  ends = [];
+  seen = 0;
+  quiet = 0;
 }
 
 -- The numbers keep to each other, and there is a state for each operator.
@@ -56,7 +64,7 @@ pub record ReadsOn {T D : Type 0} (trees : TreeMeaning T) (disks : DiskMeaning D
   pub whole : ending ≡ Whole → before.offset + length given ≡ last_of file.size before.offset
   pub partly : (ending ≡ Whole → ⊥) → before.offset + length given < last_of file.size before.offset
   pub row : feeding_row after ≡ fed (rules_in setup) given (feeding_row before)
-  pub appends : Appends disks (lines_text (lines_of (rules_in setup) given (feeding_row before))) end end_after disk disk_after
+  pub appends : Appends disks (lines_text (lines_of (poll_of setup) given (feeding_row before))) end end_after disk disk_after
   pub world : Told (Reads file.handle.0 before.offset file.size given ending) (trees.world tree) (trees.world tree_after)
   pub cause : HasEnding ending (trees.faults tree) (trees.faults tree_after)
 
@@ -64,7 +72,7 @@ pub record ReadsOn {T D : Type 0} (trees : TreeMeaning T) (disks : DiskMeaning D
 pub record FillsUp {T : Type 0} (trees : TreeMeaning T) (setup : Setup) (file : OpenFile) (before : Feeding) (end size : ℕ) (tree tree_after : T) : Type 0 where
   pub given : List ℕ
   pub within : before.offset + length given ≤ last_of file.size before.offset
-  pub crosses : Crosses setup.limit end (lines_of (rules_in setup) given (feeding_row before)) size
+  pub crosses : Crosses setup.limit end (lines_of (poll_of setup) given (feeding_row before)) size
   pub world : Told (Reads file.handle.0 before.offset file.size given Whole) (trees.world tree) (trees.world tree_after)
   pub stood : trees.faults tree_after ≡ trees.faults tree
 
@@ -75,6 +83,6 @@ pub record IsReading {T D : Type 0} (trees : TreeMeaning T) (disks : DiskMeaning
   pub within : from ≤ last_of file.size before.offset
   pub row : feeding_row now ≡ fed (rules_in setup) given (feeding_row before)
   pub rest : carried ≡ drop (used (rules_in setup) given) given
-  pub appends : Appends disks (lines_text (lines_of (rules_in setup) given (feeding_row before))) end end_now disk disk_now
+  pub appends : Appends disks (lines_text (lines_of (poll_of setup) given (feeding_row before))) end end_now disk disk_now
   pub world : Told (Reads file.handle.0 before.offset file.size given Whole) (trees.world tree) (trees.world tree_now)
   pub cause : trees.faults tree_now ≡ trees.faults tree

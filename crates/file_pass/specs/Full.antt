@@ -1,10 +1,10 @@
 -- The line with which an output is too long.
-use Rattle.std.specs.Prelude.{◌≡◌, ℕ, ◌+◌, ◌<◌, ◌≤◌, List, [], ◌∷◌, ◌++◌, None, length, flat_map}
+use Rattle.std.specs.Prelude.{◌≡◌, ℕ, ◌+◌, ◌<◌, ◌≤◌, List, [], ◌∷◌, ◌++◌, length, flat_map}
 use Rattle.otlp_json.specs.OutputLine.{output_line}
 use Rattle.standing.specs.Marks.{Mark}
 
 abbrev pub line_of : Mark → List ℕ
-line_of mark = output_line mark.id mark.number None mark.entry
+line_of mark = output_line mark.id mark.number mark.observed mark.entry
 
 abbrev pub lines_text : List Mark → List ℕ
 lines_text marks = flat_map line_of marks

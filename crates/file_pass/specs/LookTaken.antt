@@ -4,6 +4,7 @@ use Rattle.file_tracker.specs.declared.row.Row.{Row}
 use Rattle.outside.specs.Moment.{Moves}
 use Rattle.outside.specs.Reading.{file_of}
 use Rattle.outside.specs.World.{World, History, bytes}
+use Rattle.standing.specs.Poll.{Poll}
 use Rattle.standing.specs.Look.{Look, Outcome, ReadsOn, outcome, after_look, size}
 use Rattle.standing.specs.Marks.{Mark}
 use Rattle.standing.specs.Moments.{IsLater}
@@ -19,21 +20,21 @@ abbrev pub look_at : List ℕ → ℕ → History → ℕ → Bool → Look
 look_at path file moment end skipped = record { path = path; file = file; moment = moment; end = end; skipped = skipped }
 
 -- the counts that the look adds to, by what it finds
-pub record IsGainOf (rules : Rules) (first : Bool) (here : Look) (found : Outcome) (added : List Mark) (gain : Gain) : Type 0 where
+pub record IsGainOf (poll : Poll) (here : Look) (found : Outcome) (added : List Mark) (gain : Gain) : Type 0 where
   pub files : gain.files ≡ one_if (is_filled here)
   pub lines : gain.lines ≡ length added
-  pub left : gain.left ≡ one_if (has_more rules first here found)
+  pub left : gain.left ≡ one_if (has_more poll here found)
   pub gone : gain.gone ≡ 0
   pub failed : gain.failed ≡ one_if (is_short here)
   pub compressed : gain.compressed ≡ one_if (is_passed_as_compressed here found)
-  pub shrunk : gain.shrunk ≡ one_if (is_shrunk rules first here found)
+  pub shrunk : gain.shrunk ≡ one_if (is_shrunk poll here found)
   pub full : gain.full ≡ one_if (is_left_out here found)
 
-pub record TakesLook (rules : Rules) (first : Bool) (here : Look) (before after : List Row) (added : List Mark) (gain : Gain) : Type 0 where
+pub record TakesLook (poll : Poll) (here : Look) (before after : List Row) (added : List Mark) (gain : Gain) : Type 0 where
   pub end_within : here.end ≤ size here
-  pub reads_on : ReadsOn rules first here (outcome rules before here)
-  pub leads_to : after_look rules first here (progress_of before []) ≡ progress_of after added
-  pub sums : IsGainOf rules first here (outcome rules before here) added gain
+  pub reads_on : ReadsOn poll here (outcome poll.rules before here)
+  pub leads_to : after_look poll here (progress_of before []) ≡ progress_of after added
+  pub sums : IsGainOf poll here (outcome poll.rules before here) added gain
 
 -- the handle stands for this file, which had that size at an earlier moment
 pub record IsOpenAt (file : OpenFile) (seen : ℕ) (moment : History) (world : World) : Type 0 where
@@ -42,24 +43,24 @@ pub record IsOpenAt (file : OpenFile) (seen : ℕ) (moment : History) (world : W
   pub later : IsLater moment world.history
 
 -- and these are its first bytes then
-pub record IsSeenAt (rules : Rules) (file : OpenFile) (front : List ℕ) (seen : ℕ) (moment : History) (world : World) : Type 0 where
+pub record IsSeenAt (poll : Poll) (file : OpenFile) (front : List ℕ) (seen : ℕ) (moment : History) (world : World) : Type 0 where
   pub open_at : IsOpenAt file seen moment world
-  pub front_is : front ≡ take rules.front_size (bytes moment seen)
+  pub front_is : front ≡ take poll.rules.front_size (bytes moment seen)
 
 -- An open file with this front was taken: what that makes of the rows is what a look at it makes of them.
-pub record SeenTaken (rules : Rules) (first : Bool) (path : List ℕ) (file : OpenFile) (front : List ℕ) (before after : List Row) (gain : Gain) (added : List Mark) (old new : World) : Type 0 where
+pub record SeenTaken (poll : Poll) (path : List ℕ) (file : OpenFile) (front : List ℕ) (before after : List Row) (gain : Gain) (added : List Mark) (old new : World) : Type 0 where
   pub handles : new.handles ≡ old.handles
   pub moves : Moves old.history new.history
   pub end : ℕ
-  pub looks : (seen : ℕ) (moment : History) → IsSeenAt rules file front seen moment old → TakesLook rules first (look_at path seen moment end false) before after added gain
+  pub looks : (seen : ℕ) (moment : History) → IsSeenAt poll file front seen moment old → TakesLook poll (look_at path seen moment end false) before after added gain
   -- beside what was read for the front
-  pub cost : (seen : ℕ) (moment : History) → IsSeenAt rules file front seen moment old → gain.taken ≤ cost_on (look_at path seen moment end false) (outcome rules before (look_at path seen moment end false))
+  pub cost : (seen : ℕ) (moment : History) → IsSeenAt poll file front seen moment old → gain.taken ≤ cost_on (look_at path seen moment end false) (outcome poll.rules before (look_at path seen moment end false))
 
 -- The same of any open file.
-pub record OpenTaken (rules : Rules) (first : Bool) (path : List ℕ) (file : OpenFile) (before after : List Row) (gain : Gain) (added : List Mark) (old new : World) : Type 0 where
+pub record OpenTaken (poll : Poll) (path : List ℕ) (file : OpenFile) (before after : List Row) (gain : Gain) (added : List Mark) (old new : World) : Type 0 where
   pub handles : new.handles ≡ old.handles
   pub moves : Moves old.history new.history
   pub end : ℕ
   pub skipped : Bool
-  pub looks : (seen : ℕ) (moment : History) → IsOpenAt file seen moment old → TakesLook rules first (look_at path seen moment end skipped) before after added gain
-  pub cost : (seen : ℕ) (moment : History) → IsOpenAt file seen moment old → gain.taken ≤ look_cost rules (look_at path seen moment end skipped) (outcome rules before (look_at path seen moment end skipped))
+  pub looks : (seen : ℕ) (moment : History) → IsOpenAt file seen moment old → TakesLook poll (look_at path seen moment end skipped) before after added gain
+  pub cost : (seen : ℕ) (moment : History) → IsOpenAt file seen moment old → gain.taken ≤ look_cost poll (look_at path seen moment end skipped) (outcome poll.rules before (look_at path seen moment end skipped))

@@ -4,6 +4,7 @@ use Rattle.file_tracker.specs.declared.row.Row.{Row}
 use Rattle.outside.specs.Moment.{Moves}
 use Rattle.outside.specs.Seen.{looked, missed, left_unlisted}
 use Rattle.outside.specs.World.{World, History}
+use Rattle.standing.specs.Poll.{Poll}
 use Rattle.standing.specs.Look.{Look, ComesAt, after_look, lines_of, size}
 use Rattle.standing.specs.Looks.{Come, ReadOn, progress_by}
 use Rattle.standing.specs.Moments.{IsLater}
@@ -18,54 +19,54 @@ use Rattle.file_pass.specs.declared.ending.Ending.TheVariants.{Whole}
 use Rattle.file_pass.specs.declared.ending.OpenFile.{OpenFile}
 
 -- with a line of the bytes that were read for the row at this place
-pub record RowFills (rules : Rules) (limit : ℕ) (file : OpenFile) (place : ℕ) (rows : List Row) (end full : ℕ) (old new : World) : Type 0 where
+pub record RowFills (poll : Poll) (limit : ℕ) (file : OpenFile) (place : ℕ) (rows : List Row) (end full : ℕ) (old new : World) : Type 0 where
   pub row : Row
   pub at : slice_get rows place ≡ Some row
   pub begins : row.offset ≤ file.size
   pub given : List ℕ
   pub within : row.offset + length given ≤ last_of file.size row.offset
-  pub crosses : Crosses limit end (lines_of rules given row) full
+  pub crosses : Crosses limit end (lines_of poll given row) full
   pub reads : Reads file.handle.0 row.offset file.size given Whole old new
 
 -- with a line of those that the look adds
-abbrev pub LookFills : Rules → Bool → ℕ → Look → List Row → ℕ → ℕ → Type 0
-LookFills rules first limit here rows end full = Crosses limit end (after_look rules first here (progress_of rows [])).added full
+abbrev pub LookFills : Poll → ℕ → Look → List Row → ℕ → ℕ → Type 0
+LookFills poll limit here rows end full = Crosses limit end (after_look poll here (progress_of rows [])).added full
 
 -- with a line of those that a look adds which sees this front, and could read the file to its end
-pub record SeenFills (rules : Rules) (first : Bool) (limit : ℕ) (path : List ℕ) (file : OpenFile) (front : List ℕ) (rows : List Row) (end full : ℕ) (old new : World) : Type 0 where
+pub record SeenFills (poll : Poll) (limit : ℕ) (path : List ℕ) (file : OpenFile) (front : List ℕ) (rows : List Row) (end full : ℕ) (old new : World) : Type 0 where
   pub handles : new.handles ≡ old.handles
   pub moves : Moves old.history new.history
-  pub looks : (seen : ℕ) (moment : History) → IsSeenAt rules file front seen moment old → LookFills rules first limit (look_at path seen moment file.size false) rows end full
+  pub looks : (seen : ℕ) (moment : History) → IsSeenAt poll file front seen moment old → LookFills poll limit (look_at path seen moment file.size false) rows end full
 
 -- with a line of those that a look adds which could read the file to its end
-pub record OpenFills (rules : Rules) (first : Bool) (limit : ℕ) (path : List ℕ) (file : OpenFile) (rows : List Row) (end full : ℕ) (old new : World) : Type 0 where
+pub record OpenFills (poll : Poll) (limit : ℕ) (path : List ℕ) (file : OpenFile) (rows : List Row) (end full : ℕ) (old new : World) : Type 0 where
   pub handles : new.handles ≡ old.handles
   pub moves : Moves old.history new.history
-  pub looks : (seen : ℕ) (moment : History) → IsOpenAt file seen moment old → LookFills rules first limit (look_at path seen moment file.size false) rows end full
+  pub looks : (seen : ℕ) (moment : History) → IsOpenAt file seen moment old → LookFills poll limit (look_at path seen moment file.size false) rows end full
 
-pub record PathFills (rules : Rules) (first : Bool) (limit : ℕ) (path : List ℕ) (rows : List Row) (end full : ℕ) (old new : World) : Type 0 where
+pub record PathFills (poll : Poll) (limit : ℕ) (path : List ℕ) (rows : List Row) (end full : ℕ) (old new : World) : Type 0 where
   pub here : Look
   pub path_is : here.path ≡ path
   pub whole : here.end ≡ size here
   pub later : IsLater old.history here.moment
-  pub comes : ComesAt rules here new.history
+  pub comes : ComesAt poll.rules here new.history
   pub all_looks : looked new.history ≡ here.file ∷ looked old.history
   pub all_misses : missed new.history ≡ missed old.history
   pub no_unlisted : left_unlisted new.history ≡ left_unlisted old.history
-  pub fills : LookFills rules first limit here rows end full
+  pub fills : LookFills poll limit here rows end full
   pub handles : new.handles ≡ old.handles
 
 -- The first of the paths had their turns, and the newest of the looks, which could read its file to the end, leads to lines
 -- with which the output is too long.
-pub record AllFill (rules : Rules) (first : Bool) (limit : ℕ) (paths : List (List ℕ)) (rows : List Row) (end full : ℕ) (old new : World) : Type 0 where
+pub record AllFill (poll : Poll) (limit : ℕ) (paths : List (List ℕ)) (rows : List Row) (end full : ℕ) (old new : World) : Type 0 where
   pub here : Look
   pub earlier : List Turn
   pub each : map path_of (looks_at here ∷ earlier) ≡ reverse (take (length earlier + 1) paths)
   pub whole : here.end ≡ size here
-  pub come : Come rules (here ∷ looks_of earlier) old.history new.history
+  pub come : Come poll.rules (here ∷ looks_of earlier) old.history new.history
   pub all_looks : looked new.history ≡ map (λ (look : Look). look.file) (here ∷ looks_of earlier) ++ looked old.history
   pub all_misses : missed new.history ≡ misses_of earlier ++ missed old.history
   pub no_unlisted : left_unlisted new.history ≡ left_unlisted old.history
-  pub read_on : ReadOn rules first (here ∷ looks_of earlier) (progress_of rows [])
-  pub crosses : Crosses limit end (progress_by rules first (here ∷ looks_of earlier) (progress_of rows [])).added full
+  pub read_on : ReadOn poll (here ∷ looks_of earlier) (progress_of rows [])
+  pub crosses : Crosses limit end (progress_by poll (here ∷ looks_of earlier) (progress_of rows [])).added full
   pub handles : new.handles ≡ old.handles

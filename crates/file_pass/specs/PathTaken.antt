@@ -3,6 +3,7 @@ use Rattle.std.specs.Prelude.{◌≡◌, ℕ, ◌≤◌, List, [], ◌∷◌, Bo
 use Rattle.file_tracker.specs.declared.row.Row.{Row}
 use Rattle.outside.specs.Seen.{looked, missed, left_unlisted}
 use Rattle.outside.specs.World.{World, History}
+use Rattle.standing.specs.Poll.{Poll}
 use Rattle.standing.specs.Look.{Look, ComesAt, outcome}
 use Rattle.standing.specs.Marks.{Mark}
 use Rattle.standing.specs.Moments.{IsLater}
@@ -13,13 +14,13 @@ use Rattle.file_pass.specs.LookTaken.{TakesLook}
 use Rattle.file_pass.specs.Turns.{Turn, looks_at, misses_path, finds_none, path_of, HadNone}
 
 -- a file was looked at under the path
-pub record LooksAtPath (rules : Rules) (first : Bool) (here : Look) (before after : List Row) (gain : Gain) (added : List Mark) (old new : History) : Type 0 where
+pub record LooksAtPath (poll : Poll) (here : Look) (before after : List Row) (gain : Gain) (added : List Mark) (old new : History) : Type 0 where
   pub later : IsLater old here.moment
-  pub comes : ComesAt rules here new
+  pub comes : ComesAt poll.rules here new
   pub all_looks : looked new ≡ here.file ∷ looked old
   pub all_misses : missed new ≡ missed old
-  pub takes : TakesLook rules first here before after added gain
-  pub cost : gain.taken ≤ look_cost rules here (outcome rules before here)
+  pub takes : TakesLook poll here before after added gain
+  pub cost : gain.taken ≤ look_cost poll here (outcome poll.rules before here)
 
 -- the path could not be opened
 pub record MissesPath (path : List ℕ) (before after : List Row) (gain : Gain) (added : List Mark) (old new : History) : Type 0 where
@@ -38,14 +39,14 @@ pub record FindsNoFile (path : List ℕ) (before after : List Row) (gain : Gain)
   pub none : added ≡ []
   pub gain_is : gain ≡ record no_gain { gone = 1 }
 
-abbrev pub Comes : Rules → Bool → List Row → List Row → Gain → List Mark → Turn → History → History → Type 0
-Comes rules first before after gain added (looks_at here) old new = LooksAtPath rules first here before after gain added old new
-Comes rules first before after gain added (misses_path path) old new = MissesPath path before after gain added old new
-Comes rules first before after gain added (finds_none path) old new = FindsNoFile path before after gain added old new
+abbrev pub Comes : Poll → List Row → List Row → Gain → List Mark → Turn → History → History → Type 0
+Comes poll before after gain added (looks_at here) old new = LooksAtPath poll here before after gain added old new
+Comes poll before after gain added (misses_path path) old new = MissesPath path before after gain added old new
+Comes poll before after gain added (finds_none path) old new = FindsNoFile path before after gain added old new
 
-pub record PathTaken (rules : Rules) (first : Bool) (path : List ℕ) (before after : List Row) (gain : Gain) (added : List Mark) (old new : World) : Type 0 where
+pub record PathTaken (poll : Poll) (path : List ℕ) (before after : List Row) (gain : Gain) (added : List Mark) (old new : World) : Type 0 where
   pub turn : Turn
   pub path_is : path_of turn ≡ path
-  pub comes : Comes rules first before after gain added turn old.history new.history
+  pub comes : Comes poll before after gain added turn old.history new.history
   pub handles : new.handles ≡ old.handles
   pub no_unlisted : left_unlisted new.history ≡ left_unlisted old.history

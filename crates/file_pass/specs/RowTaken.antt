@@ -2,6 +2,7 @@
 use Rattle.std.specs.Prelude.{◌≡◌, ◌⊎◌, ℕ, ◌+◌, ◌<◌, ◌≤◌, ◌-◌, min, nat_lt, List, [], length, Bool, false, Some, slice_get, slice_set}
 use Rattle.file_tracker.specs.declared.row.Row.{Row}
 use Rattle.outside.specs.World.{World}
+use Rattle.standing.specs.Poll.{Poll}
 use Rattle.standing.specs.Limits.{most_taken}
 use Rattle.standing.specs.Look.{fed, lines_of}
 use Rattle.standing.specs.Marks.{Mark}
@@ -25,7 +26,7 @@ pub record IsShorter (file : OpenFile) (row : Row) (before after : List Row) (ad
 
 -- These bytes were read from its offset on, and their tokens taken. `more`: it was read as far as one pass goes, and there
 -- is more.
-pub record IsReadOn (rules : Rules) (file : OpenFile) (place : ℕ) (row : Row) (before after : List Row) (added : List Mark) (found : Found) (old new : World) : Type 0 where
+pub record IsReadOn (poll : Poll) (file : OpenFile) (place : ℕ) (row : Row) (before after : List Row) (added : List Mark) (found : Found) (old new : World) : Type 0 where
   pub begins : row.offset ≤ file.size
   pub given : List ℕ
   pub ending : Ending
@@ -33,15 +34,15 @@ pub record IsReadOn (rules : Rules) (file : OpenFile) (place : ℕ) (row : Row) 
   pub within : row.offset + length given ≤ last_of file.size row.offset
   pub whole : ending ≡ Whole → row.offset + length given ≡ last_of file.size row.offset
   pub partly : (ending ≡ Whole → ⊥) → row.offset + length given < last_of file.size row.offset
-  pub fed_row : after ≡ slice_set before place (fed rules given row)
-  pub lines : added ≡ lines_of rules given row
+  pub fed_row : after ≡ slice_set before place (fed poll.rules given row)
+  pub lines : added ≡ lines_of poll given row
   pub is : found ≡ Read ending more (length added)
   pub left : ending ≡ Whole → more ≡ nat_lt (row.offset + most_taken) file.size
   pub not_left : (ending ≡ Whole → ⊥) → more ≡ false
   pub reads : Reads file.handle.0 row.offset file.size given ending old new
 
-pub record RowTaken (rules : Rules) (file : OpenFile) (place : ℕ) (before after : List Row) (found : Found) (gain : Gain) (added : List Mark) (old new : World) : Type 0 where
+pub record RowTaken (poll : Poll) (file : OpenFile) (place : ℕ) (before after : List Row) (found : Found) (gain : Gain) (added : List Mark) (old new : World) : Type 0 where
   pub row : Row
   pub at : slice_get before place ≡ Some row
   pub cost : gain.taken ≤ min most_taken (file.size - row.offset)
-  pub how : IsShorter file row before after added found old new ⊎ IsReadOn rules file place row before after added found old new
+  pub how : IsShorter file row before after added found old new ⊎ IsReadOn poll file place row before after added found old new

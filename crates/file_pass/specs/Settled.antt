@@ -10,7 +10,7 @@ use Rattle.file_pass.specs.declared.setup.Setup.{Setup}
 abbrev pub admitted : Setup → ℕ → List ℕ → List ℕ → ℕ → Row
 admitted setup size path front id =
     let start = if setup.first && (rules_in setup).from_end then size else 0 in
-    record { id = id; path = path; front = front; start = start; offset = start; records = 0; lines = 0; state = (rules_in setup).fresh }
+    record { id = id; path = path; front = front; start = start; offset = start; records = 0; lines = 0; state = (rules_in setup).fresh; born = setup.era; ends = []; seen = 0; quiet = 0 }
 
 -- the first row whose front begins this one has it now
 pub record IsKnown (front : List ℕ) (before : List Row) (place : ℕ) (after : List Row) : Type 0 where

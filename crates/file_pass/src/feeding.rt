@@ -2,7 +2,7 @@
 ghost use Rattle.std.specs.Prelude.{◌≡◌, ◌+◌, ◌-◌, ◌<◌, ◌≤◌, ◌^◌, ℕ, List, [], ◌++◌, length, drop, Err, IsTrue, IfOk, OnOk};
 ghost use Rattle.outside.specs.declared.disk.DiskFile.{DiskFile};
 ghost use Rattle.file_pass.specs.DiskTerms.{Appends, KeepsDisk};
-ghost use Rattle.file_pass.specs.Fed.{FillsUp, IsSane, ReadsOn, feeding_row, last_of, rules_in};
+ghost use Rattle.file_pass.specs.Fed.{poll_of, FillsUp, IsSane, ReadsOn, feeding_row, last_of, rules_in};
 ghost use Rattle.file_pass.specs.Full.{Crosses, lines_text};
 ghost use Rattle.file_pass.specs.PassCause.{HasPassCause};
 ghost use Rattle.file_pass.specs.TreeTerms.{KeepsTree};
@@ -98,12 +98,12 @@ fn feed_carried<D: Disk>(
     requires sane { IsSane setup.now feeding.old end.old }
     requires size { feeding.old.offset + length carried.old.items ≤ 2 ^ 62 }
     requires ends { IsTrue (D.meaning.images.tells disk.old) → length (D.meaning.images.seen disk.old DiskFile.Output) ≡ end.old }
-    ensures ok { OnOk result (Appends D.meaning (lines_text (lines_of (rules_in setup.now) carried.old.items (feeding_row feeding.old))) end.old end.new disk.old disk.new) }
+    ensures ok { OnOk result (Appends D.meaning (lines_text (lines_of (poll_of setup.now) carried.old.items (feeding_row feeding.old))) end.old end.new disk.old disk.new) }
     ensures fed { OnOk result (feeding_row feeding.new ≡ fed (rules_in setup.now) carried.old.items (feeding_row feeding.old)) }
     ensures rest { OnOk result (carried.new.items ≡ drop (used (rules_in setup.now) carried.old.items) carried.old.items) }
     ensures sane { OnOk result (IsSane setup.now feeding.new end.new) }
     ensures full { (size : ℕ) → result ≡ Err (PassFault.OutputFull size)
-        → Crosses setup.now.limit end.old (lines_of (rules_in setup.now) carried.old.items (feeding_row feeding.old)) size }
+        → Crosses setup.now.limit end.old (lines_of (poll_of setup.now) carried.old.items (feeding_row feeding.old)) size }
     ensures disk { KeepsDisk D.meaning end.old disk.old disk.new }
     ensures cause { HasPassCause result (D.meaning.faults disk.old) (D.meaning.faults disk.new) }
 {
@@ -131,7 +131,7 @@ fn feed_bytes(
     requires none { lines.old.items ≡ [] }
     ensures used { IfOk result (λ count. count ≡ used (rules_in setup.now) bytes.now) }
     ensures fed { OnOk result (feeding_row feeding.new ≡ fed (rules_in setup.now) bytes.now (feeding_row feeding.old)) }
-    ensures lines { OnOk result (lines.new.items ≡ lines_text (lines_of (rules_in setup.now) bytes.now (feeding_row feeding.old))) }
+    ensures lines { OnOk result (lines.new.items ≡ lines_text (lines_of (poll_of setup.now) bytes.now (feeding_row feeding.old))) }
     ensures states { OnOk result (HaveKinds setup.now.pipeline.now feeding.new.state.states.items) }
     ensures records { OnOk result (feeding.new.state.records ≤ feeding.new.offset) }
     ensures many { OnOk result (feeding.new.state.lines ≤ feeding.old.state.lines + length lines.new.items) }
@@ -139,9 +139,15 @@ fn feed_bytes(
     a_pipeline_is_rules(setup.pipeline);
     a_row_is_fed_by_the_rules(setup.pipeline);
     let path = feeding.path.as_str();
-    let count = setup
-        .pipeline
-        .feed(alloc, &mut feeding.state, feeding.id, path, bytes, lines)?;
+    let count = setup.pipeline.feed(
+        alloc,
+        &mut feeding.state,
+        feeding.id,
+        path,
+        setup.observed,
+        bytes,
+        lines,
+    )?;
     feeding.offset += count as u64;
     Ok(count)
 }

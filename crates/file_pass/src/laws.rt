@@ -10,6 +10,7 @@ ghost use Rattle.file_pass.specs.Unchanged.{FlagsChanges, HasFlagForEach, HasNoF
 ghost use Rattle.file_pass.specs.declared.taking.Taking.{Taking};
 ghost use Rattle.file_tracker.specs.declared.row.Row.{Row};
 ghost use Rattle.outside.specs.World.{World};
+ghost use Rattle.standing.specs.Poll.{Poll};
 ghost use Rattle.standing.specs.Look.{Look};
 ghost use Rattle.standing.specs.Looks.{Ascend};
 ghost use Rattle.standing.specs.Marks.{Mark};
@@ -20,14 +21,14 @@ ghost use Rattle.standing.specs.Rules.{Rules};
 /// Each path of a pass has its turn, in their order: the paths of the looks are among them, and ascend where they do. A path
 /// that named one file all the time was looked at, unless it couldn't be opened.
 pub fn each_path_has_its_turn()
-    ensures ascend { (rules : Rules) (first : Bool) (paths : List (List ℕ)) (before after : List Row) (gain : Gain)
-        (added : List Mark) (old new : World) (taken : AllTaken rules first paths before after gain added old new)
+    ensures ascend { (poll : Poll) (paths : List (List ℕ)) (before after : List Row) (gain : Gain)
+        (added : List Mark) (old new : World) (taken : AllTaken poll paths before after gain added old new)
         → IsStrictlySortedBy (slice_cmp nat_cmp) paths → Ascend (looks_of taken.turns) }
-    ensures among { (rules : Rules) (first : Bool) (paths : List (List ℕ)) (before after : List Row) (gain : Gain)
-        (added : List Mark) (old new : World) (taken : AllTaken rules first paths before after gain added old new)
+    ensures among { (poll : Poll) (paths : List (List ℕ)) (before after : List Row) (gain : Gain)
+        (added : List Mark) (old new : World) (taken : AllTaken poll paths before after gain added old new)
         → (here : Look) → Contains (looks_of taken.turns) here → Contains paths here.path }
-    ensures none_left_out { (rules : Rules) (first : Bool) (paths : List (List ℕ)) (before after : List Row) (gain : Gain)
-        (added : List Mark) (old new : World) (taken : AllTaken rules first paths before after gain added old new)
+    ensures none_left_out { (poll : Poll) (paths : List (List ℕ)) (before after : List Row) (gain : Gain)
+        (added : List Mark) (old new : World) (taken : AllTaken poll paths before after gain added old new)
         (path : List ℕ) (file : ℕ) → Contains paths path → NamesThroughout old.history new.history path file
         → WasLookedAt (looks_of taken.turns) path ⊎ Contains (misses_of taken.turns) path }
 {}

@@ -14,7 +14,7 @@ use crate::setup::Setup;
 use crate::spelled::first_spelled;
 use crate::taking::Taking;
 use entry_model::Text;
-use file_tracker::{AdmitFault, Bytes, ROW_LIMIT, Row};
+use file_tracker::{AdmitFault, Bytes, Ends, ROW_LIMIT, Row};
 use settings_text::StartAt;
 use std::alloc::{AllocError, Global};
 
@@ -125,6 +125,10 @@ fn new_row(
         records: 0,
         lines: 0,
         state: first_spelled(alloc, setup)?,
+        born: setup.era,
+        ends: Ends::none(alloc),
+        seen: 0,
+        quiet: 0,
     })
 }
 

@@ -2,7 +2,7 @@
 ghost use Rattle.std.specs.Prelude.{◌≡◌, ℕ, ◌<◌, ◌≤◌, ◌^◌, [], List, false, length, nat_lt, slice_get, slice_set, Contains, Err, IsTrue, Some, IfOk, OnOk};
 ghost use Rattle.file_pass.specs.AllTaken.{TakesAll, TakesOne};
 ghost use Rattle.file_pass.specs.DiskTerms.{KeepsDisk};
-ghost use Rattle.file_pass.specs.Fed.{feeding_row, rules_in};
+ghost use Rattle.file_pass.specs.Fed.{poll_of, feeding_row, rules_in};
 ghost use Rattle.file_pass.specs.LookTaken.{OpenTaken, SeenTaken};
 ghost use Rattle.file_pass.specs.Overflow.{AllFill, OpenFills, PathFills, RowFills, SeenFills};
 ghost use Rattle.file_pass.specs.PassCause.{HasPassCause};
@@ -75,7 +75,7 @@ pub fn take_all<T: Tree, D: Disk>(
     ensures sane { OnOk result (IsSaneTaking setup.now taking.new) }
     ensures flags { OnOk result (FlagsChanges taking.old taking.new) }
     ensures full { (size : ℕ) → result ≡ Err (PassFault.OutputFull size)
-        → Told (AllFill (rules_in setup.now) setup.now.first setup.now.limit paths.now taking.old.tracker taking.old.end size) (T.meaning.world tree.old) (T.meaning.world tree.new) }
+        → Told (AllFill (poll_of setup.now) setup.now.limit paths.now taking.old.tracker taking.old.end size) (T.meaning.world tree.old) (T.meaning.world tree.new) }
     ensures tree { KeepsTreeAt T.meaning BUFFER_SIZE tree.old tree.new }
     ensures disk { KeepsDisk D.meaning taking.old.end disk.old disk.new }
     ensures cause { HasPassCause result (D.meaning.faults disk.old) (D.meaning.faults disk.new) }
@@ -108,7 +108,7 @@ fn take_path<T: Tree, D: Disk>(
     ensures sane { OnOk result (IsSaneTaking setup.now taking.new) }
     ensures flags { OnOk result (FlagsChanges taking.old taking.new) }
     ensures full { (size : ℕ) → result ≡ Err (PassFault.OutputFull size)
-        → Told (PathFills (rules_in setup.now) setup.now.first setup.now.limit path.now taking.old.tracker taking.old.end size) (T.meaning.world tree.old) (T.meaning.world tree.new) }
+        → Told (PathFills (poll_of setup.now) setup.now.limit path.now taking.old.tracker taking.old.end size) (T.meaning.world tree.old) (T.meaning.world tree.new) }
     ensures tree { KeepsTreeAt T.meaning BUFFER_SIZE tree.old tree.new }
     ensures disk { KeepsDisk D.meaning taking.old.end disk.old disk.new }
     ensures cause { HasPassCause result (D.meaning.faults disk.old) (D.meaning.faults disk.new) }
@@ -136,13 +136,13 @@ fn open_path<T: Tree, D: Disk>(
     requires short { IsShortText path.now }
     requires room { (0 < length buffer.old) × (length buffer.old ≤ BUFFER_SIZE) }
     requires ends { IsTrue (D.meaning.images.tells disk.old) → length (D.meaning.images.seen disk.old DiskFile.Output) ≡ taking.old.end }
-    ensures ok { IfOk result (λ found. Finds T.meaning D.meaning (PathTaken (rules_in setup.now) setup.now.first path.now taking.old.tracker taking.new.tracker)
+    ensures ok { IfOk result (λ found. Finds T.meaning D.meaning (PathTaken (poll_of setup.now) path.now taking.old.tracker taking.new.tracker)
         found taking.old.end taking.new.end tree.old tree.new disk.old disk.new) }
     ensures counts { taking.new.counts ≡ taking.old.counts }
     ensures sane { OnOk result (IsSaneTaking setup.now taking.new) }
     ensures flags { OnOk result (FlagsChanges taking.old taking.new) }
     ensures full { (size : ℕ) → result ≡ Err (PassFault.OutputFull size)
-        → Told (PathFills (rules_in setup.now) setup.now.first setup.now.limit path.now taking.old.tracker taking.old.end size) (T.meaning.world tree.old) (T.meaning.world tree.new) }
+        → Told (PathFills (poll_of setup.now) setup.now.limit path.now taking.old.tracker taking.old.end size) (T.meaning.world tree.old) (T.meaning.world tree.new) }
     ensures tree { KeepsTreeAt T.meaning BUFFER_SIZE tree.old tree.new }
     ensures disk { KeepsDisk D.meaning taking.old.end disk.old disk.new }
     ensures cause { HasPassCause result (D.meaning.faults disk.old) (D.meaning.faults disk.new) }
@@ -179,13 +179,13 @@ fn take_opened<T: Tree, D: Disk>(
     requires short { IsShortText path.now }
     requires room { (0 < length buffer.old) × (length buffer.old ≤ BUFFER_SIZE) }
     requires ends { IsTrue (D.meaning.images.tells disk.old) → length (D.meaning.images.seen disk.old DiskFile.Output) ≡ taking.old.end }
-    ensures ok { IfOk result (λ found. Finds T.meaning D.meaning (OpenTaken (rules_in setup.now) setup.now.first path.now file taking.old.tracker taking.new.tracker)
+    ensures ok { IfOk result (λ found. Finds T.meaning D.meaning (OpenTaken (poll_of setup.now) path.now file taking.old.tracker taking.new.tracker)
         found taking.old.end taking.new.end tree.old tree.new disk.old disk.new) }
     ensures counts { taking.new.counts ≡ taking.old.counts }
     ensures sane { OnOk result (IsSaneTaking setup.now taking.new) }
     ensures flags { OnOk result (FlagsChanges taking.old taking.new) }
     ensures full { (size : ℕ) → result ≡ Err (PassFault.OutputFull size)
-        → Told (OpenFills (rules_in setup.now) setup.now.first setup.now.limit path.now file taking.old.tracker taking.old.end size) (T.meaning.world tree.old) (T.meaning.world tree.new) }
+        → Told (OpenFills (poll_of setup.now) setup.now.limit path.now file taking.old.tracker taking.old.end size) (T.meaning.world tree.old) (T.meaning.world tree.new) }
     ensures tree { KeepsTreeAt T.meaning BUFFER_SIZE tree.old tree.new }
     ensures disk { KeepsDisk D.meaning taking.old.end disk.old disk.new }
     ensures cause { HasPassCause result (D.meaning.faults disk.old) (D.meaning.faults disk.new) }
@@ -225,13 +225,13 @@ fn take_seen<T: Tree, D: Disk>(
     requires front { (1 ≤ length front.now) × (length front.now ≤ 4096) }
     requires room { (0 < length buffer.old) × (length buffer.old ≤ BUFFER_SIZE) }
     requires ends { IsTrue (D.meaning.images.tells disk.old) → length (D.meaning.images.seen disk.old DiskFile.Output) ≡ taking.old.end }
-    ensures ok { IfOk result (λ found. Finds T.meaning D.meaning (SeenTaken (rules_in setup.now) setup.now.first path.now file front.now taking.old.tracker taking.new.tracker)
+    ensures ok { IfOk result (λ found. Finds T.meaning D.meaning (SeenTaken (poll_of setup.now) path.now file front.now taking.old.tracker taking.new.tracker)
         found taking.old.end taking.new.end tree.old tree.new disk.old disk.new) }
     ensures counts { taking.new.counts ≡ taking.old.counts }
     ensures sane { OnOk result (IsSaneTaking setup.now taking.new) }
     ensures flags { OnOk result (FlagsChanges taking.old taking.new) }
     ensures full { (size : ℕ) → result ≡ Err (PassFault.OutputFull size)
-        → Told (SeenFills (rules_in setup.now) setup.now.first setup.now.limit path.now file front.now taking.old.tracker taking.old.end size) (T.meaning.world tree.old) (T.meaning.world tree.new) }
+        → Told (SeenFills (poll_of setup.now) setup.now.limit path.now file front.now taking.old.tracker taking.old.end size) (T.meaning.world tree.old) (T.meaning.world tree.new) }
     ensures tree { KeepsTreeAt T.meaning BUFFER_SIZE tree.old tree.new }
     ensures disk { KeepsDisk D.meaning taking.old.end disk.old disk.new }
     ensures cause { HasPassCause result (D.meaning.faults disk.old) (D.meaning.faults disk.new) }
@@ -268,13 +268,13 @@ fn take_row<T: Tree, D: Disk>(
     requires in_range { place < length taking.old.tracker }
     requires room { (0 < length buffer.old) × (length buffer.old ≤ BUFFER_SIZE) }
     requires ends { IsTrue (D.meaning.images.tells disk.old) → length (D.meaning.images.seen disk.old DiskFile.Output) ≡ taking.old.end }
-    ensures ok { IfOk result (λ found. Finds T.meaning D.meaning (RowTaken (rules_in setup.now) file place taking.old.tracker taking.new.tracker found)
+    ensures ok { IfOk result (λ found. Finds T.meaning D.meaning (RowTaken (poll_of setup.now) file place taking.old.tracker taking.new.tracker found)
         found taking.old.end taking.new.end tree.old tree.new disk.old disk.new) }
     ensures counts { taking.new.counts ≡ taking.old.counts }
     ensures sane { OnOk result (IsSaneTaking setup.now taking.new) }
     ensures flags { OnOk result (FlagsChanges taking.old taking.new) }
     ensures full { (size : ℕ) → result ≡ Err (PassFault.OutputFull size)
-        → Told (RowFills (rules_in setup.now) setup.now.limit file place taking.old.tracker taking.old.end size) (T.meaning.world tree.old) (T.meaning.world tree.new) }
+        → Told (RowFills (poll_of setup.now) setup.now.limit file place taking.old.tracker taking.old.end size) (T.meaning.world tree.old) (T.meaning.world tree.new) }
     ensures tree { KeepsTreeAt T.meaning BUFFER_SIZE tree.old tree.new }
     ensures disk { KeepsDisk D.meaning taking.old.end disk.old disk.new }
     ensures cause { HasPassCause result (D.meaning.faults disk.old) (D.meaning.faults disk.new) }
@@ -316,7 +316,7 @@ fn has_more(ending: Ending, past: u64) -> bool
 // Where reading of the row's file goes on.
 fn feeding_of(alloc: Global, setup: &Setup<'_>, row: &Row) -> Result<Feeding, AllocError>
     requires { IsTrue ((rules_in setup.now).is_state row.now.state) }
-    ensures row { IfOk result (λ feeding. feeding_row feeding ≡ record row.now { front = []; start = 0 }) }
+    ensures row { IfOk result (λ feeding. feeding_row feeding ≡ record row.now { front = []; start = 0; born = 0; ends = []; seen = 0; quiet = 0 }) }
     ensures kinds { IfOk result (λ feeding. HaveKinds setup.now.pipeline.now feeding.state.states.items) }
 {
     let path = row.path.share()?;

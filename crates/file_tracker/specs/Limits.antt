@@ -3,4 +3,4 @@ use Rattle.std.specs.Prelude.{ℕ}
 
 -- how many files are known at most
 abbrev pub row_limit : ℕ
-row_limit = 1024
+row_limit = 65536

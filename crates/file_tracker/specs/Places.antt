@@ -17,6 +17,9 @@ with_front grown row = record row { front = grown }
 abbrev pub with_progress : ℕ → ℕ → ℕ → List ℕ → Row → Row
 with_progress far cut made held row = record row { offset = far; records = cut; lines = made; state = held }
 
+abbrev pub with_look : ℕ → ℕ → Row → Row
+with_look length_seen looks row = record row { seen = length_seen; quiet = looks }
+
 -- none of the three numbers is below the row's
 pub record HasGone (row : Row) (far cut made : ℕ) : Type 0 where
   pub offset_rises : row.offset ≤ far

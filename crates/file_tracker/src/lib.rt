@@ -11,6 +11,7 @@
 #![tactic(auto)]
 
 mod bytes;
+mod ends;
 mod index;
 mod row;
 mod search;
@@ -18,6 +19,7 @@ mod steps;
 mod tracker;
 
 pub use bytes::Bytes;
+pub use ends::{End, Ends};
 pub use row::Row;
 pub use steps::Steps;
 pub use tracker::{AdmitFault, ROW_LIMIT, Tracker, constants_are_the_limits};

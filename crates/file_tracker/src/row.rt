@@ -1,12 +1,12 @@
 // What the agent keeps of one file.
 ghost use Rattle.std.specs.Prelude.{◌≡◌, IfOk};
 
-use crate::Bytes;
+use crate::{Bytes, Ends};
 use entry_model::Text;
 use std::alloc::{AllocError, Global};
 
 /// A file that the agent knows, and how far it was read.
-#[derive(Debug, Drop, PartialEq)]
+#[derive(Debug, Drop)]
 pub struct Row {
     /// Which file this is, for all that was ever written of it.
     pub id: u32,
@@ -24,6 +24,13 @@ pub struct Row {
     pub lines: u64,
     /// What the operators hold back of this file, as they spelled it.
     pub state: Bytes,
+    /// Which settings were in force when the file was admitted, the first ones being 1.
+    pub born: u32,
+    /// Where the parts of the file end that were read under those and each later settings but the last.
+    pub ends: Ends,
+    /// The file's length when it was last looked at, and how many looks in a row found that length while something waited.
+    pub seen: u64,
+    pub quiet: u32,
 }
 
 impl Row {
@@ -40,6 +47,10 @@ impl Row {
             records: self.records,
             lines: self.lines,
             state: Bytes::from_slice(alloc, self.state.as_slice())?,
+            born: self.born,
+            ends: self.ends.copy(alloc)?,
+            seen: self.seen,
+            quiet: self.quiet,
         })
     }
 }

@@ -11,7 +11,7 @@ use std::sync::ledger::{Blank, Ledger};
 use thiserror::Error;
 
 /// The most rows that a tracker has.
-pub const ROW_LIMIT: usize = 1_024;
+pub const ROW_LIMIT: usize = 65_536;
 
 /// The constant is the limit that the definitions have.
 pub fn constants_are_the_limits()
@@ -52,7 +52,7 @@ impl Model for Tracker {
 impl Tracker {
     ghost use Rattle.file_tracker.specs.declared.row.Row.{Row};
     ghost use Rattle.file_tracker.specs.Fronts.{begins, AreApart};
-    ghost use Rattle.file_tracker.specs.Places.{place_of, ChangesAt, HasGone, with_front, with_progress};
+    ghost use Rattle.file_tracker.specs.Places.{place_of, ChangesAt, HasGone, with_front, with_look, with_progress};
 
     /// A tracker without rows.
     pub fn new(alloc: Global) -> Tracker
@@ -172,6 +172,17 @@ impl Tracker {
         advanced.records = records;
         advanced.lines = lines;
         advanced.state = Bytes::new(state);
+    }
+
+    /// Notes the length that the file of one row had at a look, and how many looks in a row have found it while something
+    /// waited.
+    pub fn note(&mut self, place: usize, seen: u64, quiet: u32)
+        requires { place < length self.old }
+        ensures { ChangesAt self.old place (with_look seen quiet) self.new }
+    {
+        let noted = &mut self.rows[place];
+        noted.seen = seen;
+        noted.quiet = quiet;
     }
 
     fn find_from<L: Ledger>(&self, front: &[u8], blank: Blank) -> Option<usize>

@@ -4,7 +4,8 @@ use Rattle.std.specs.Prelude.{◌⊎◌}
 use Rattle.std.proofs.lemmas.Bool.{and_parts}
 use Rattle.checkpoint_store.specs.declared.Checkpoint.{Checkpoint}
 use Rattle.lifetimes.proofs.ImageLemmas.{NumberedBy, numbered_by, left_reopened, left_later, Kept, kept_by_stays, kept_by_steps, closed_by_stays}
-use Rattle.lifetimes.specs.Past.{Past, Failures, IsLeftAt, LeavesAt, IsDiskAt, IsWell, dropped, polled}
+use Rattle.lifetimes.specs.OneEra.{one_era}
+use Rattle.lifetimes.specs.Past.{Past, Failures, IsLeftAt, LeavesAt, IsDiskAt, IsOpened, IsWell, dropped, polled}
 use Rattle.mem_world.specs.DiskImages.{LeavesImage, LeftSince}
 use Rattle.mem_world.specs.DiskLaws.{left_now, left_only_now}
 use Rattle.mem_world.specs.DiskLog.{Log}
@@ -18,7 +19,6 @@ use Rattle.outside.specs.declared.disk.DiskFile.TheVariants.{SlotA, SlotB}
 use Rattle.poll_core.specs.IsSession.{IsSession}
 use Rattle.poll_core.specs.Polled.{IsStanding, Stays, Steps, ComesAfter}
 use Rattle.poll_core.specs.Reopens.{Reopens}
-use Rattle.poll_core.specs.SessionParts.{rules_of_session}
 use Rattle.poll_core.specs.Since.{KeepsStandingSince}
 use Rattle.poll_core.specs.StandsOn.{StandsOn}
 use Rattle.poll_core.specs.declared.session.Session.{Session}
@@ -28,7 +28,6 @@ use Rattle.slot_store.specs.Frame.{is_open_at, number_at}
 use Rattle.standing.specs.Standing.{nothing}
 use Rattle.slot_store.specs.Synced.{EachLeft}
 use Rattle.standing.specs.Apart.{Apart}
-use Rattle.standing.specs.AreRules.{AreRules}
 use Rattle.standing.specs.Marks.{Mark}
 use Rattle.standing.specs.Moments.{IsLater}
 use Rattle.standing.specs.Rules.{Rules}
@@ -54,7 +53,7 @@ leaves_empty rules disk empty durable = record {
       let none : chosen_slot image ≡ None = none_chosen image (is SlotA) (is SlotB) in
       record {
         sound = record { there = nothing; found = none; sound = tt };
-        standing = λ apart. record { there = nothing; found = none; stands = tt };
+        standing = λ apart. record { there = nothing; found = none; eras = one_era rules; are = tt; stands = tt };
         numbered = no_number image none;
         none_open = λ early. none;
       };
@@ -107,16 +106,16 @@ passes_same change disk disk_after same_disk same passes = record {
 
 -- ---- the world goes on
 
-pub leaves_later : (rules : Rules) → AreRules rules → (old new : History) (polls : ℕ) (early : Bool) (disk : MemDisk) → IsLater old new
+pub leaves_later : (rules : Rules) (old new : History) (polls : ℕ) (early : Bool) (disk : MemDisk) → IsLater old new
     → LeavesAt rules (record { history = old; polls = polls; early = early }) disk → LeavesAt rules (record { history = new; polls = polls; early = early }) disk
-leaves_later rules laws old new polls early disk later leaves = record { each = λ image left. left_later rules laws old new polls early image later (leaves.each image left) }
+leaves_later rules old new polls early disk later leaves = record { each = λ image left. left_later rules old new polls early image later (leaves.each image left) }
 
 -- ---- polls
 
 -- What stood stands, from the poll's begin on.
-pub stands_after : (rules : Rules) (old new : World) (disk disk_after : MemDisk) → moment_of disk ≤ moment_of disk_after → KeepsStandingSince disk_images rules disk disk_after old new
-    → EachLeft disk_images disk (IsStanding rules old.history) → Apart rules.front_size new.history → EachLeft disk_images disk_after (IsStanding rules new.history)
-stands_after rules old new disk disk_after later keeps stand apart = record {
+pub stands_after : (front_size : ℕ) (old new : World) (disk disk_after : MemDisk) → moment_of disk ≤ moment_of disk_after → KeepsStandingSince disk_images front_size disk disk_after old new
+    → EachLeft disk_images disk (IsStanding old.history) → Apart front_size new.history → EachLeft disk_images disk_after (IsStanding new.history)
+stands_after front_size old new disk disk_after later keeps stand apart = record {
   each = λ image left.
       keeps apart (moment_of disk) (omega arith) (λ before there. stand.each before (left_only_now (history_of disk) before there))
       image (left_now (history_of disk_after) (moment_of disk) image later left);
@@ -127,29 +126,29 @@ abbrev pub StepsBy : Session → MemDisk → MemDisk → Type 0
 StepsBy session disk disk_after = Passes disk_images (Stays session) disk disk_after
     ⊎ ((after : Checkpoint) × (added : List Mark) × ComesAfter session after added × Passes disk_images (Steps session after added) disk disk_after)
 
-module _ (session : Session) (is : IsSession session) (rules : Rules) (same : rules_of_session session ≡ rules) (past : Past) (disk disk_after : MemDisk) (stands : StandsOn disk_images session disk) (leaves : LeavesAt rules past disk) where
+module _ (session : Session) (is : IsSession session) (rules : Rules) (opened : IsOpened rules session) (past : Past) (disk disk_after : MemDisk) (stands : StandsOn disk_images session disk) (leaves : LeavesAt rules past disk) where
   pub all_kept : StepsBy session disk disk_after → EachLeft disk_images disk_after (Kept rules (past.polls + 1))
   all_kept (inl passes) = record {
     each = λ image left.
         let came = passes.now_left image left in
-        kept_by_stays session is rules same past came.0 image (stands.each.each came.0 came.1) (leaves.each came.0 came.1) came.2;
+        kept_by_stays session is rules opened past came.0 image (stands.each.each came.0 came.1) (leaves.each came.0 came.1) came.2;
   }
   all_kept (inr gain) = record {
     each = λ image left.
         let came = gain.3.now_left image left in
-        kept_by_steps session is rules same past came.0 image (stands.each.each came.0 came.1) (leaves.each came.0 came.1) gain.0 gain.1 gain.2 came.2;
+        kept_by_steps session is rules opened past came.0 image (stands.each.each came.0 came.1) (leaves.each came.0 came.1) gain.0 gain.1 gain.2 came.2;
   }
 
   pub all_closed : IsTrue past.early → Passes disk_images (Stays session) disk disk_after → EachLeft disk_images disk_after (λ image. chosen_slot image ≡ None)
   all_closed early passes = record {
     each = λ image left.
         let came = passes.now_left image left in
-        closed_by_stays session is rules same past came.0 image (stands.each.each came.0 came.1) (leaves.each came.0 came.1) early came.2;
+        closed_by_stays session is rules opened past came.0 image (stands.each.each came.0 came.1) (leaves.each came.0 came.1) early came.2;
   }
 
   -- what a poll leaves of a disk
   pub leaves_polled : (history : History) (early : Bool) → StepsBy session disk disk_after → (IsTrue early → Passes disk_images (Stays session) disk disk_after)
-      → (Apart rules.front_size history → EachLeft disk_images disk_after (IsStanding rules history)) → LeavesAt rules (polled past history early) disk_after
+      → (Apart rules.front_size history → EachLeft disk_images disk_after (IsStanding history)) → LeavesAt rules (polled past history early) disk_after
   leaves_polled history early steps quick stand = record {
     each = λ image left.
         let kept = (all_kept steps).each image left in

@@ -1,48 +1,51 @@
 -- What an image may have come to, call by call.
-use Rattle.std.proofs.Common.{◌≡◌, ℕ, ◌+◌, ◌≤◌, ◌<◌, List, Bool, IsTrue, Option, Some, None, refl, subst, arith, inl, inr}
+use Rattle.std.proofs.Common.{◌≡◌, ℕ, ◌+◌, ◌≤◌, ◌<◌, List, Bool, IsTrue, Option, Some, None, refl, subst, ◌∙◌, arith, inl, inr}
 use Rattle.checkpoint_journal.specs.JournalOf.{log_of, HasJournal}
 use Rattle.checkpoint_journal.specs.Written.{IsWorn}
 use Rattle.checkpoint_journal.specs.declared.journal.Journal.{Journal}
 use Rattle.checkpoint_store.specs.declared.Checkpoint.{Checkpoint}
-use Rattle.lifetimes.specs.Past.{Past, IsLeftAt}
+use Rattle.lifetimes.specs.OneEra.{IsSoundBy, one_era}
+use Rattle.lifetimes.specs.Past.{Past, IsLeftAt, IsOpened}
 use Rattle.outside.specs.Image.{Image}
 use Rattle.outside.specs.World.{History}
 use Rattle.outside.specs.declared.disk.DiskFile.{DiskFile}
 use Rattle.outside.specs.declared.disk.DiskFile.TheVariants.{Output}
-use Rattle.poll_core.proofs.ImageLemmas.{found_kept, sequence_kept, sound_still, standing_still, one_sequence}
+use Rattle.poll_core.proofs.ImageLemmas.{found_kept, sequence_kept, sound_still, standing_still, one_found, one_sequence}
 use Rattle.poll_core.proofs.SafeLemmas.{stays_sound, steps_sound}
 use Rattle.poll_core.proofs.SessionLemmas.{left_goes_on, found_first}
 use Rattle.poll_core.specs.Found.{IsFound}
 use Rattle.poll_core.specs.IsSession.{IsSession}
 use Rattle.poll_core.specs.Next.{HasNext}
-use Rattle.poll_core.specs.Polled.{IsSoundIn, Stays, Steps, ComesAfter}
+use Rattle.poll_core.specs.Polled.{AreErasIn, IsSoundImage, IsStanding, Stays, Steps, ComesAfter}
 use Rattle.poll_core.specs.Remembers.{HasMemory, EndsWithMemory, IsLeftBy}
 use Rattle.poll_core.specs.Reopens.{Reopens}
 use Rattle.poll_core.specs.Sequence.{HasSequence, no_slot, of_log}
-use Rattle.poll_core.specs.SessionParts.{checkpoint_of_session, rules_of_session, journal_of_session}
+use Rattle.poll_core.specs.SessionParts.{checkpoint_of_session, journal_of_session}
 use Rattle.poll_core.specs.declared.session.Session.{Session}
 use Rattle.slot_store.specs.ChosenSlot.{chosen_slot}
 use Rattle.standing.proofs.MomentLemmas.{apart_before}
 use Rattle.standing.proofs.StandsLemmas.{standing_lasts}
-use Rattle.standing.specs.AreRules.{AreRules}
+use Rattle.standing.specs.Eras.{Eras, texts_of}
 use Rattle.standing.specs.Marks.{Mark}
 use Rattle.standing.specs.Moments.{IsLater}
+use Rattle.standing.specs.Rows.{KeepStates}
 use Rattle.standing.specs.Rules.{Rules}
-use Rattle.standing.specs.Standing.{Found, nothing, damaged, found, Sound}
+use Rattle.standing.specs.Standing.{Found, nothing, damaged, found, Sound, Standing}
+use Rattle.standing.specs.Stands.{IsSound}
 
 -- ---- sequence numbers
 
 journal_number : (image : Image DiskFile) (journal : Journal) (saved : Checkpoint) → HasJournal journal saved image → HasSequence image journal.sequence
 journal_number image journal saved has = of_log (log_of journal) has.base has.records has.log_is
 
-number_of_found : (rules : Rules) (image : Image DiskFile) (there : Found) → IsFound image there → Sound rules there (image Output) → (sequence : ℕ) × HasSequence image sequence
-number_of_found rules image nothing has sound = (0, no_slot has)
-number_of_found rules image damaged has sound = absurd sound
-number_of_found rules image (found checkpoint) has sound = (has.0.sequence, journal_number image has.0 checkpoint has.1)
+number_of_found : (eras : Eras) (image : Image DiskFile) (there : Found) → IsFound image there → Sound eras there (image Output) → (sequence : ℕ) × HasSequence image sequence
+number_of_found eras image nothing has sound = (0, no_slot has)
+number_of_found eras image damaged has sound = absurd sound
+number_of_found eras image (found checkpoint) has sound = (has.0.sequence, journal_number image has.0 checkpoint has.1)
 
 -- an image that is sound has a sequence number
-number_of : (rules : Rules) (image : Image DiskFile) → IsSoundIn rules image → (sequence : ℕ) × HasSequence image sequence
-number_of rules image is = number_of_found rules image is.there is.found is.sound
+number_of : (rules : Rules) (image : Image DiskFile) → IsSoundBy rules image → (sequence : ℕ) × HasSequence image sequence
+number_of rules image is = number_of_found (one_era rules) image is.there is.found is.sound
 
 -- an image has no greater number than this
 abbrev pub NumberedBy : ℕ → Image DiskFile → Type 0
@@ -57,23 +60,42 @@ pub left_reopened : (rules : Rules) (past : Past) (old new : Image DiskFile) →
 left_reopened rules past old new reopens left =
     let was = number_of rules old left.sound in
     record {
-      sound = record { there = left.sound.there; found = found_kept reopens.logs left.sound.there left.sound.found; sound = sound_still rules old new left.sound.there reopens left.sound.found left.sound.sound };
+      sound = record { there = left.sound.there; found = found_kept reopens.logs left.sound.there left.sound.found; sound = sound_still (one_era rules) old new left.sound.there reopens left.sound.found left.sound.sound };
       standing = λ apart.
           let stood = left.standing apart in
-          record { there = stood.there; found = found_kept reopens.logs stood.there stood.found; stands = standing_still rules past.history old new stood.there reopens stood.found stood.stands };
+          record {
+            there = stood.there;
+            found = found_kept reopens.logs stood.there stood.found;
+            eras = stood.eras;
+            are = stood.are;
+            stands = standing_still stood.eras past.history old new stood.there reopens stood.found stood.stands;
+          };
       numbered = numbered_by new was.0 past.polls (sequence_kept reopens.logs was.0 was.1) (left.numbered was.0 was.1);
       none_open = λ early. reopens.logs.no_slot (left.none_open early);
     }
 
 -- ---- the world goes on
 
-pub left_later : (rules : Rules) → AreRules rules → (old new : History) (polls : ℕ) (early : Bool) (image : Image DiskFile) → IsLater old new
+standing_later : (eras : Eras) (old new : History) (there : Found) (file : List ℕ) → AreErasIn there eras → IsLater old new → Standing eras old there file → Standing eras new there file
+standing_later eras old new nothing file are later stands = tt
+standing_later eras old new damaged file are later stands = stands
+standing_later eras old new (found checkpoint) file are later stands = standing_lasts eras are.laws old new (found checkpoint) file later stands
+
+-- What stands for a history stands for each longer one.
+stood_later : (old new : History) (image : Image DiskFile) → IsLater old new → IsStanding old image → IsStanding new image
+stood_later old new image later stood = record {
+  there = stood.there;
+  found = stood.found;
+  eras = stood.eras;
+  are = stood.are;
+  stands = standing_later stood.eras old new stood.there (image Output) stood.are later stood.stands;
+}
+
+pub left_later : (rules : Rules) (old new : History) (polls : ℕ) (early : Bool) (image : Image DiskFile) → IsLater old new
     → IsLeftAt rules (record { history = old; polls = polls; early = early }) image → IsLeftAt rules (record { history = new; polls = polls; early = early }) image
-left_later rules laws old new polls early image later left = record {
+left_later rules old new polls early image later left = record {
   sound = left.sound;
-  standing = λ apart.
-      let stood = left.standing (apart_before rules.front_size old new later apart) in
-      record { there = stood.there; found = stood.found; stands = standing_lasts rules laws old new stood.there (image Output) later stood.stands };
+  standing = λ apart. stood_later old new image later (left.standing (apart_before rules.front_size old new later apart));
   numbered = left.numbered;
   none_open = left.none_open;
 }
@@ -101,22 +123,35 @@ stays_closed session old new left stays closed =
     let memory : HasMemory None (checkpoint_of_session session) new = subst (λ (journal : Option Journal). HasMemory journal (checkpoint_of_session session) new) none stays.memory in
     memory.0
 
+-- A sound image with this checkpoint, which is of these settings alone, is sound by them.
+sound_by : (rules : Rules) (image : Image DiskFile) (checkpoint : Checkpoint) → IsSoundImage image → IsFound image (found checkpoint) → checkpoint.eras ≡ texts_of (one_era rules) → KeepStates rules checkpoint.rows → IsSoundBy rules image
+sound_by rules image checkpoint sound has texts states =
+    let same : sound.there ≡ found checkpoint = one_found image sound.there (found checkpoint) sound.found has in
+    let own : IsSound sound.eras checkpoint (image Output) = subst (λ (f : Found). Sound sound.eras f (image Output)) same sound.sound in
+    record { there = found checkpoint; found = has; sound = record { texts = texts; states = states; ids = own.ids; long_enough = own.long_enough } }
+
+memory_sound_by : (rules : Rules) (journal : Option Journal) (saved : Checkpoint) (image : Image DiskFile) → IsSoundImage image → HasMemory journal saved image → saved.eras ≡ texts_of (one_era rules) → KeepStates rules saved.rows → IsSoundBy rules image
+memory_sound_by rules None saved image sound memory texts states = record { there = nothing; found = memory.0; sound = tt }
+memory_sound_by rules (Some journal) saved image sound memory texts states = sound_by rules image saved sound (journal, memory) texts states
+
 -- what a poll leaves of an image, but for what it stands for
 pub record Kept (rules : Rules) (polls : ℕ) (image : Image DiskFile) : Type 0 where
-  pub sound : IsSoundIn rules image
+  pub sound : IsSoundBy rules image
   pub numbered : NumberedBy polls image
 
-module _ (session : Session) (is : IsSession session) (rules : Rules) (same : rules_of_session session ≡ rules) (past : Past) (old new : Image DiskFile) (left : IsLeftBy session old) (was : IsLeftAt rules past old) where
+module _ (session : Session) (is : IsSession session) (rules : Rules) (opened : IsOpened rules session) (past : Past) (old new : Image DiskFile) (left : IsLeftBy session old) (was : IsLeftAt rules past old) where
   pub kept_by_stays : Stays session old new → Kept rules (past.polls + 1) new
   kept_by_stays stays = record {
-    sound = subst (λ (r : Rules). IsSoundIn r new) same (stays_sound session old new is left stays);
+    sound = memory_sound_by rules (journal_of_session session) (checkpoint_of_session session) new (stays_sound session old new is left stays) stays.memory opened.eras
+        (subst (λ (r : Rules). KeepStates r session.tracker) opened.rules_are is.states);
     numbered = stays_numbered (journal_of_session session) (checkpoint_of_session session) old new past.polls left.memory stays.memory was.numbered;
   }
 
   pub kept_by_steps : (after : Checkpoint) (added : List Mark) → ComesAfter session after added → Steps session after added old new → Kept rules (past.polls + 1) new
   kept_by_steps after added comes (inl stays) = kept_by_stays stays
   kept_by_steps after added comes (inr gains) = record {
-    sound = subst (λ (r : Rules). IsSoundIn r new) same (steps_sound session after added old new is comes left (inr gains));
+    sound = sound_by rules new after (steps_sound session after added old new is comes left (inr gains)) (gains.memory.0, gains.memory.1) (comes.eras ∙ opened.eras)
+        (subst (λ (r : Rules). KeepStates r after.rows) opened.rules_are comes.states);
     numbered = gains_numbered (journal_of_session session) (checkpoint_of_session session) after old new past.polls left.memory gains.memory was.numbered;
   }
 

@@ -1,5 +1,5 @@
 -- An output gets too long only by the lines of a large history.
-use Rattle.std.proofs.Common.{◌≡◌, ◌≢◌, ℕ, zero, suc, ◌+◌, ◌<◌, ◌≤◌, ◌==◌, List, [], ◌∷◌, ◌++◌, length, get_or, Bool, true, false, refl, sym, ap, subst, ◌∙◌, inl, inr, arith, length-append, eq-eqb, append_assoc}
+use Rattle.std.proofs.Common.{◌≡◌, ◌≢◌, ℕ, zero, suc, ◌+◌, ◌<◌, ◌≤◌, ◌==◌, List, [], ◌∷◌, ◌++◌, length, drop, get_or, true, false, refl, sym, ap, subst, ◌∙◌, inl, inr, arith, length-append, eq-eqb, append_assoc}
 use Rattle.std.specs.List.{All, sum_by}
 use Rattle.std.proofs.lemmas.Bool.{cases_eq, ne_eqb}
 use Rattle.std.proofs.lemmas.List.{append-nil, length-set}
@@ -9,27 +9,32 @@ use Rattle.std.proofs.lemmas.List.Sums.{sum_by-cons}
 use Rattle.std.proofs.lemmas.Option.{slice_get-get_or, slice_get_within}
 use Rattle.checkpoint_store.specs.Limits.{output_limit}
 use Rattle.file_pass.specs.Full.{line_of, lines_text}
+use Rattle.lifetimes.proofs.EraLemmas.{EndsWith, one_begins, one_era_laws, owner_included, session_plain, session_polls}
 use Rattle.lifetimes.specs.Large.{Share, IsShare, text_of, Differ, AreDifferent, Large}
-use Rattle.outside.specs.World.{History, World}
+use Rattle.lifetimes.specs.OneEra.{one_era}
+use Rattle.outside.specs.World.{History, World, bytes}
 use Rattle.poll_core.specs.Overflows.{Overflows, FirstPast}
 use Rattle.poll_core.specs.IsSession.{IsSession}
-use Rattle.poll_core.specs.Polled.{is_first}
-use Rattle.poll_core.specs.SessionParts.{checkpoint_of_session, rules_of_session, kept_of, limit_of}
+use Rattle.poll_core.specs.SessionParts.{checkpoint_of_session, is_first, kept_of, limit_of, poll_of_session, rules_of_session, stamp_of_session}
 use Rattle.poll_core.specs.declared.session.Session.{Session}
 use Rattle.standing.proofs.OutcomeLemmas.{finds_new-tells}
 use Rattle.standing.proofs.OwnerLemmas.{owners_differ}
-use Rattle.standing.proofs.PassLemmas.{looks_stand}
-use Rattle.standing.proofs.TellLemmas.{lines_begin}
+use Rattle.standing.proofs.PassLemmas.{looks_stand, none_added}
 use Rattle.standing.specs.Apart.{Apart}
 use Rattle.standing.specs.AreRules.{AreRules}
+use Rattle.standing.specs.Eras.{Eras, texts_of}
 use Rattle.standing.specs.Limits.{row_limit}
 use Rattle.standing.specs.Look.{Look, Outcome, skips, finds_nothing, finds_compressed, finds_no_room, finds_new, finds_row, Progress, outcome, progress_after, row_after, new_row}
 use Rattle.standing.specs.Looks.{progress_by}
 use Rattle.standing.specs.Marks.{Mark, of_id}
+use Rattle.standing.specs.Part.{part_output, whole}
 use Rattle.standing.specs.Pass.{start_at}
+use Rattle.standing.specs.Poll.{Poll, poll_in}
 use Rattle.standing.specs.Rows.{Row, IsRowAt}
 use Rattle.standing.specs.Rules.{Rules, output_text}
 use Rattle.standing.specs.Stands.{LinesStand, RowStands, Stands, IsIdOf}
+use Rattle.standing.specs.Times.{AreBefore}
+use Rattle.standing.specs.Tokens.{tokens_of}
 
 -- ---- lines by the ids of their rows
 
@@ -81,17 +86,20 @@ module _ (weight : Mark → ℕ) where
 
 -- any row, for what is read past the end of a list
 any_row : Row
-any_row = record { id = 0; path = []; front = []; start = 0; offset = 0; records = 0; lines = 0; state = [] }
+any_row = record { id = 0; path = []; front = []; start = 0; offset = 0; records = 0; lines = 0; state = []; born = 0; ends = []; seen = 0; quiet = 0 }
 
-module _ (rules : Rules) (laws : AreRules rules) (history : History) (rows : List Row) (next_id : ℕ) (marks : List Mark) (stand : LinesStand rules history rows next_id marks) (few : length rows ≤ row_limit) where
+module _ (rules : Rules) (laws : AreRules rules) (history : History) (rows : List Row) (next_id : ℕ) (marks : List Mark) (stand : LinesStand (one_era rules) history rows next_id marks) (few : length rows ≤ row_limit) where
   row_at : (k : ℕ) → k < length rows → (row : Row) × IsRowAt rows k row
   row_at k within = (get_or rows k any_row, slice_get-get_or rows k any_row within)
 
-  mine : (k : ℕ) (within : k < length rows) → RowStands rules history (row_at k within).0 (of_id (row_at k within).0.id marks)
+  mine : (k : ℕ) (within : k < length rows) → RowStands (one_era rules) history (row_at k within).0 (of_id (row_at k within).0.id marks)
   mine k within = stand.each_row k (row_at k within).0 (row_at k within).1
 
+  ends_with : (k : ℕ) (within : k < length rows) → EndsWith rules (row_at k within).0.id (part_output rules (whole rules (row_at k within).0.start) (row_at k within).0.path (tokens_of rules (drop (row_at k within).0.start (bytes history (mine k within).file)))) (of_id (row_at k within).0.id marks)
+  ends_with k within = one_begins rules history (row_at k within).0 (of_id (row_at k within).0.id marks) (mine k within) laws
+
   abbrev share_of : (k : ℕ) → k < length rows → Share
-  share_of k within = record { file = (mine k within).file; id = (row_at k within).0.id; path = (row_at k within).0.path; start = (row_at k within).0.start }
+  share_of k within = record { file = (mine k within).file; id = (row_at k within).0.id; path = (row_at k within).0.path; start = (row_at k within).0.start; lines = of_id (row_at k within).0.id marks ++ (ends_with k within).rest }
 
   id_of : (k : ℕ) (within : k < length rows) → (share_of k within).id ≡ k + 1
   id_of k within = stand.ids.ids k (row_at k within).0 (row_at k within).1
@@ -103,14 +111,15 @@ module _ (rules : Rules) (laws : AreRules rules) (history : History) (rows : Lis
         moment = owner.named_at;
         looks = owner.named;
         under = owner.under;
-        included = owner.included;
+        included = owner_included rules history (row_at k within).0 (mine k within).file owner;
         some_id = omega (arith, id_of k within);
         few_ids = omega (arith, id_of k within, within, few);
         begins = (mine k within).begins;
+        lines = record { all = (ends_with k within).all; times = (ends_with k within).times };
       }
 
   abbrev size_of : Share → ℕ
-  size_of share = length (text_of rules history share)
+  size_of share = length (text_of rules share)
 
   abbrev weight_of : Mark → ℕ
   weight_of mark = length (rules.line mark)
@@ -120,9 +129,9 @@ module _ (rules : Rules) (laws : AreRules rules) (history : History) (rows : Lis
   line_sizes k within =
       let row : Row = (row_at k within).0 in
       let own : List Mark = of_id row.id marks in
-      let begun = lines_begin rules laws history row own (mine k within) in
-      let whole : text_of rules history (share_of k within) ≡ output_text rules own ++ output_text rules begun.0 = ap (output_text rules) begun.1 ∙ flat_map-append rules.line own begun.0 in
-      let sizes : size_of (share_of k within) ≡ length (output_text rules own) + length (output_text rules begun.0) = ap length whole ∙ length-append (output_text rules own) (output_text rules begun.0) in
+      let rest : List Mark = (ends_with k within).rest in
+      let both : text_of rules (share_of k within) ≡ output_text rules own ++ output_text rules rest = flat_map-append rules.line own rest in
+      let sizes : size_of (share_of k within) ≡ length (output_text rules own) + length (output_text rules rest) = ap length both ∙ length-append (output_text rules own) (output_text rules rest) in
       let sum : length (output_text rules own) ≡ sum_by weight_of own = length-flat_map rules.line own in
       let next : suc k ≡ row.id = omega (arith, id_of k within) in
       let same : sum_by weight_of (of_id (suc k) marks) ≡ sum_by weight_of own = ap (λ (id : ℕ). sum_by weight_of (of_id id marks)) next in
@@ -138,7 +147,7 @@ module _ (rules : Rules) (laws : AreRules rules) (history : History) (rows : Lis
       let within : k < length rows = below.2.0 in
       let elsewhere : n ≢ k = λ e. omega (arith, e, below.1) in
       let apart : Differ (share_of n last) (share_of k within) = record {
-        files = owners_differ rules history rows next_id marks n k (row_at n last).0 (row_at k within).0 (mine n last).file (mine k within).file stand (row_at n last).1 (row_at k within).1 elsewhere (mine n last).owner (mine k within).owner;
+        files = owners_differ (one_era rules) history rows next_id marks n k (row_at n last).0 (row_at k within).0 (mine n last).file (mine k within).file stand (row_at n last).1 (row_at k within).1 elsewhere (mine n last).owner (mine k within).owner;
         ids = λ same. elsewhere (omega (arith, same, id_of n last, id_of k within));
       } in
       subst (λ (s : Share). Differ (share_of n last) s) (sym below.2.1) apart
@@ -193,19 +202,19 @@ module _ (rules : Rules) (laws : AreRules rules) (history : History) (rows : Lis
 -- ---- the rows of a poll
 
 -- no more rows than can be had
-few_after : (rules : Rules) (first : Bool) (here : Look) (now : Progress) (found : Outcome) → outcome rules now.rows here ≡ found → length now.rows ≤ row_limit → length (progress_after rules first here now found).rows ≤ row_limit
-few_after rules first here now skips is few = few
-few_after rules first here now finds_nothing is few = few
-few_after rules first here now finds_compressed is few = few
-few_after rules first here now finds_no_room is few = few
-few_after rules first here now finds_new is few = omega (arith, (finds_new-tells rules now.rows here is).room, length-append now.rows (row_after rules here (new_row rules first here now.next_id) ∷ []))
-few_after rules first here now (finds_row place row) is few = omega (arith, few, length-set now.rows place (row_after rules here row))
+few_after : (poll : Poll) (here : Look) (now : Progress) (found : Outcome) → outcome poll.rules now.rows here ≡ found → length now.rows ≤ row_limit → length (progress_after poll here now found).rows ≤ row_limit
+few_after poll here now skips is few = few
+few_after poll here now finds_nothing is few = few
+few_after poll here now finds_compressed is few = few
+few_after poll here now finds_no_room is few = few
+few_after poll here now finds_new is few = omega (arith, (finds_new-tells poll.rules now.rows here is).room, length-append now.rows (row_after poll here (new_row poll here now.next_id) ∷ []))
+few_after poll here now (finds_row place row) is few = omega (arith, few, length-set now.rows place (row_after poll here row))
 
-few_rows : (rules : Rules) (first : Bool) (looks : List Look) (start : Progress) → length start.rows ≤ row_limit → length (progress_by rules first looks start).rows ≤ row_limit
-few_rows rules first [] start few = few
-few_rows rules first (here ∷ earlier) start few =
-    let now : Progress = progress_by rules first earlier start in
-    few_after rules first here now (outcome rules now.rows here) refl (few_rows rules first earlier start few)
+few_rows : (poll : Poll) (looks : List Look) (start : Progress) → length start.rows ≤ row_limit → length (progress_by poll looks start).rows ≤ row_limit
+few_rows poll [] start few = few
+few_rows poll (here ∷ earlier) start few =
+    let now : Progress = progress_by poll earlier start in
+    few_after poll here now (outcome poll.rules now.rows here) refl (few_rows poll earlier start few)
 
 -- A text with a part that is too long is too long.
 full_long : (session : Session) (full : ℕ) (marks : List Mark) → FirstPast (limit_of session) (kept_of session) marks full → limit_of session < kept_of session + length (lines_text marks)
@@ -216,20 +225,25 @@ full_long session full marks past =
     ap (λ (ms : List Mark). length (lines_text ms)) whole ∙ ap length (flat_map-append line_of part past.back) ∙ length-append (lines_text part) (lines_text past.back) in
     omega (arith, past.too_much, past.size_then, sizes)
 
-pub fills_large : (session : Session) (full : ℕ) (old new : World) (output : List ℕ) → IsSession session → AreRules (rules_of_session session) → limit_of session ≡ output_limit → Overflows session full old new
-    → Apart (rules_of_session session).front_size new.history → Stands (rules_of_session session) old.history (checkpoint_of_session session).rows (checkpoint_of_session session).next_id output → length output ≡ kept_of session
+pub fills_large : (session : Session) (full : ℕ) (old new : World) (output : List ℕ) → IsSession session → session.eras ≡ texts_of (one_era (rules_of_session session)) → AreRules (rules_of_session session) → limit_of session ≡ output_limit → Overflows session full old new
+    → Apart (rules_of_session session).front_size new.history → (stands : Stands (one_era (rules_of_session session)) old.history (checkpoint_of_session session).rows (checkpoint_of_session session).next_id output) → AreBefore (stamp_of_session session) stands.marks → length output ≡ kept_of session
     → Large (rules_of_session session) new.history
-fills_large session full old new output is laws limit overflows apart stands size =
+fills_large session full old new output is eras_are laws limit overflows apart stands times size =
     let rules : Rules = rules_of_session session in
-    let first : Bool = is_first session in
+    let eras : Eras = one_era rules in
+    let poll : Poll = poll_of_session session in
+    let as_poll : poll ≡ poll_in eras (is_first session) (stamp_of_session session) = session_polls rules session eras_are refl in
     let looks : List Look = overflows.here ∷ overflows.earlier in
     let start : Progress = start_at (checkpoint_of_session session) in
-    let now : Progress = progress_by rules first looks start in
-    let P : List Mark → Type 0 = λ ms. LinesStand rules old.history start.rows start.next_id ms in
-    let stand : LinesStand rules new.history now.rows now.next_id (stands.marks ++ now.added) =
-    looks_stand rules laws first stands.marks looks old.history new.history start overflows.come apart (subst P (sym (append-nil stands.marks)) stands.lines_stand) in
+    let now : Progress = progress_by poll looks start in
+    let P : List Mark → Type 0 = λ ms. LinesStand eras old.history start.rows start.next_id ms in
+    let Q : Poll → Type 0 = λ p. LinesStand eras new.history (progress_by p looks start).rows (progress_by p looks start).next_id (stands.marks ++ (progress_by p looks start).added) in
+    let in_era : Q (poll_in eras (is_first session) (stamp_of_session session)) =
+    looks_stand eras (one_era_laws rules laws) (is_first session) (stamp_of_session session) (session_plain rules session refl) stands.marks times looks old.history new.history start overflows.come apart (none_added (poll_in eras (is_first session) (stamp_of_session session)))
+    (subst P (sym (append-nil stands.marks)) stands.lines_stand) in
+    let stand : LinesStand eras new.history now.rows now.next_id (stands.marks ++ now.added) = subst Q (sym as_poll) in_era in
     let begun : length start.rows ≤ row_limit = omega (arith, is.lawful.count, is.lawful.next_id.1) in
     let sizes : length (output_text rules (stands.marks ++ now.added)) ≡ length output + length (lines_text now.added) =
     ap length (flat_map-append rules.line stands.marks now.added) ∙ length-append (output_text rules stands.marks) (output_text rules now.added) ∙ ap (λ (o : List ℕ). length o + length (lines_text now.added)) (sym stands.whole_lines) in
-    large_by rules laws new.history now.rows now.next_id (stands.marks ++ now.added) stand (few_rows rules first looks start begun)
+    large_by rules laws new.history now.rows now.next_id (stands.marks ++ now.added) stand (few_rows poll looks start begun)
     (omega (arith, limit, sizes, size, full_long session full now.added overflows.fills))

@@ -1,3 +1,4 @@
+pub mod EraLemmas
 pub mod ImageLemmas
 pub mod DiskLemmas
 pub mod TreeLemmas
@@ -6,6 +7,7 @@ pub mod OwnLemmas
 pub mod SmallLemmas
 pub mod LargeLemmas
 pub mod PollLemmas
+pub mod OpenLemmas
 pub mod RefusalLemmas
 pub mod LifeLemmas
 pub mod RunLemmas

@@ -1,6 +1,6 @@
 -- Events come to a life, one after another.
 use Rattle.std.proofs.Common.{◌≡◌, ◌≢◌, ℕ, ◌+◌, ◌<◌, ◌≤◌, min, List, [], ◌∷◌, ◌++◌, length, Bool, true, false, Option, Some, None, refl, sym, ap, subst, ◌∙◌, inl, inr, arith}
-use Rattle.std.specs.Prelude.{◌↔◌, IfSome, IsSome, is_some, option_map, Result, Ok, Err}
+use Rattle.std.specs.Prelude.{◌↔◌, IfSome, is_some, option_map, Result, Ok, Err}
 use Rattle.std.proofs.lemmas.List.{length-append}
 use Rattle.lifetimes.proofs.DiskLemmas.{leaves_later, leaves_same, well_fresh}
 use Rattle.lifetimes.proofs.PollLemmas.{ready_same}
@@ -95,10 +95,10 @@ well_failing waiting most disk disk_after raised same well = record {
 -- ---- the world moves
 
 -- The same disk, for a history that went on by steps of others, behind more events.
-disk_later : (rules : Rules) → AreRules rules → (old new : History) (polls : ℕ) (early : Bool) (waiting most more : ℕ) (disk : MemDisk) → IsLater old new → most ≤ more
+disk_later : (rules : Rules) (old new : History) (polls : ℕ) (early : Bool) (waiting most more : ℕ) (disk : MemDisk) → IsLater old new → most ≤ more
     → IsDiskAt rules (record { history = old; polls = polls; early = early }) (failures waiting most) disk → IsDiskAt rules (record { history = new; polls = polls; early = early }) (failures waiting more) disk
-disk_later rules laws old new polls early waiting most more disk later less at = record {
-  leaves = leaves_later rules laws old new polls early disk later at.leaves;
+disk_later rules old new polls early waiting most more disk later less at = record {
+  leaves = leaves_later rules old new polls early disk later at.leaves;
   well = well_later waiting most more disk less at.well;
 }
 
@@ -143,7 +143,7 @@ module _ (rules : Rules) (events : List Event) (life : Life) (at : IsLifeAt rule
         life_is = record {
           laws = at.laws;
           tree = tree_later (pending events).plan tree_waits (length events) (length (World step ∷ events)) tree (omega arith) (tree_stepped (pending events).plan (failures tree_waits (length events)) life.tree tree at.tree event is);
-          disk = disk_later rules at.laws here (history_of tree) polls early disk_waits (length events) (length (World step ∷ events)) life.disk (later_by_one (event_of step) here (history_of tree) history_is) (omega arith) at.disk;
+          disk = disk_later rules here (history_of tree) polls early disk_waits (length events) (length (World step ∷ events)) life.disk (later_by_one (event_of step) here (history_of tree) history_is) (omega arith) at.disk;
           session = at.session;
           stopping = at.stopping;
           polls = at.polls;
@@ -164,7 +164,7 @@ module _ (rules : Rules) (events : List Event) (life : Life) (at : IsLifeAt rule
         life_is = record {
           laws = at.laws;
           tree = subst (λ (e : WorldEvent). IsTreeAt ((pending events).plan ++ (calls, e) ∷ []) (failures tree_waits (length (During calls step ∷ events))) tree) same more;
-          disk = disk_later rules at.laws here (history_of tree) polls early disk_waits (length events) (length (During calls step ∷ events)) life.disk (later_same here (history_of tree) history_is) (omega arith) at.disk;
+          disk = disk_later rules here (history_of tree) polls early disk_waits (length events) (length (During calls step ∷ events)) life.disk (later_same here (history_of tree) history_is) (omega arith) at.disk;
           session = at.session;
           stopping = at.stopping;
           polls = at.polls;
@@ -218,7 +218,7 @@ module _ (rules : Rules) (events : List Event) (life : Life) (at : IsLifeAt rule
           laws = at.laws;
           tree = subst (λ (own : Failures). IsTreeAt (pending events).plan own tree) (one_failing (pending events).tree_fails call (length events) (length (FailTree call ∷ events)) (omega arith))
               (tree_failing (pending events).plan (failures tree_waits (length events)) life.tree tree at.tree call is);
-          disk = disk_later rules at.laws here (history_of tree) polls early disk_waits (length events) (length (FailTree call ∷ events)) life.disk (later_same here (history_of tree) history_is) (omega arith) at.disk;
+          disk = disk_later rules here (history_of tree) polls early disk_waits (length events) (length (FailTree call ∷ events)) life.disk (later_same here (history_of tree) history_is) (omega arith) at.disk;
           session = at.session;
           stopping = at.stopping;
           polls = at.polls;
@@ -275,7 +275,7 @@ disk_opened rules events event life tree disk is keeps at =
     let history_is : history_of tree ≡ history_of life.tree = history_cleared life.tree tree is in
     disk_more rules past 0 (length events) (length (event ∷ events)) disk (omega arith)
     (keeps past (failures waiting (length events))
-    (disk_later rules at.laws (history_of life.tree) (history_of tree) (counts_of events).polls (counts_of events).early waiting (length events) (length events) life.disk (later_same (history_of life.tree) (history_of tree) history_is) (omega arith) at.disk))
+    (disk_later rules (history_of life.tree) (history_of tree) (counts_of events).polls (counts_of events).early waiting (length events) (length events) life.disk (later_same (history_of life.tree) (history_of tree) history_is) (omega arith) at.disk))
 
 pub opening_came : (rules : Rules) (events : List Event) (life : Life) (tree : MemTree) (disk : MemDisk) (opened : Option Session)
     → life.stopping ≡ None → is_some life.session ≡ false → state_of tree ≡ unplanned (state_of life.tree) → Opens rules (waits_of events).disk opened → Passes disk_images Reopens life.disk disk

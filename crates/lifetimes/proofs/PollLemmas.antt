@@ -1,12 +1,12 @@
--- What a poll and an opening make of a disk, as a script sees it.
+-- What a poll makes of a disk, as a script sees it.
 use Rattle.std.proofs.Common.{◌≡◌, ℕ, ◌+◌, ◌≤◌, ◌<◌, List, [], Bool, true, false, cond, IsTrue, Option, Some, None, Result, Ok, Err, refl, sym, ap, subst, ◌∙◌, arith, inl, inr}
 use Rattle.std.specs.Option.{is_none}
-use Rattle.std.specs.Prelude.{◌⊎◌, IfSome, IfOk, IfErr, OnOk, length}
+use Rattle.std.specs.Prelude.{◌⊎◌, IfSome, IfOk, OnOk, length}
 use Rattle.std.proofs.lemmas.Bool.{leb-true}
 use Rattle.checkpoint_journal.specs.JournalOf.{HasCheckpoint}
 use Rattle.checkpoint_journal.specs.Written.{IsWorn}
 use Rattle.checkpoint_journal.specs.declared.journal.Journal.{Journal}
-use Rattle.checkpoint_store.specs.Limits.{output_limit}
+use Rattle.lifetimes.proofs.EraLemmas.{eras_of_one, one_era_laws, session_has, session_plain, session_polls}
 use Rattle.lifetimes.proofs.ImageLemmas.{worn_never}
 use Rattle.lifetimes.proofs.LargeLemmas.{fills_large}
 use Rattle.lifetimes.proofs.OwnLemmas.{undisturbed_by}
@@ -17,15 +17,14 @@ use Rattle.mem_world.proofs.TreeTelling.{change_told, lawful_told, told_stays}
 use Rattle.mem_world.specs.TreeTold.{TreeState, told_world, unplanned}
 use Rattle.lifetimes.specs.Course.{GoesBy, MayFill}
 use Rattle.lifetimes.specs.Large.{Large}
+use Rattle.lifetimes.specs.OneEra.{one_era}
 use Rattle.lifetimes.specs.Small.{AreWhole}
 use Rattle.lifetimes.proofs.DiskLemmas.{StepsBy, stands_after, leaves_polled, leaves_same}
-use Rattle.lifetimes.specs.Answered.{next_of, opened_of}
+use Rattle.lifetimes.specs.Answered.{next_of}
 use Rattle.lifetimes.specs.Ended.{history_of}
-use Rattle.lifetimes.specs.Past.{Past, Failures, Waits, LeavesAt, IsDiskAt, IsWell, IsReady, IsOpened, IsTreeAt, IsTreePolled, MayPoll, GoesOn, Opens, dropped, polled}
+use Rattle.lifetimes.specs.Past.{Past, Failures, Waits, LeavesAt, IsDiskAt, IsWell, IsReady, IsOpened, IsTreeAt, IsTreePolled, MayPoll, GoesOn, dropped, polled}
 use Rattle.lifetimes.specs.Script.{Halt, is_early}
 use Rattle.lifetimes.specs.Stopped.{IsStopped}
-use Rattle.lifetimes.specs.Past.{CantOpenBy}
-use Rattle.lifetimes.specs.declared.fault.ScriptFault.{ScriptFault}
 use Rattle.mem_world.specs.CrashOutcome.{left_by, tear_of}
 use Rattle.mem_world.specs.DiskCount.{done_count}
 use Rattle.mem_world.specs.DiskLaws.{leaves_shown}
@@ -43,25 +42,19 @@ use Rattle.outside.specs.Image.{Image}
 use Rattle.outside.specs.Lawful.{IsLawful, TellsLawful}
 use Rattle.outside.specs.World.{Event, History, Told}
 use Rattle.outside.specs.declared.disk.DiskFile.{DiskFile}
-use Rattle.outside.specs.declared.disk.DiskFile.TheVariants.{Output}
-use Rattle.poll_core.specs.Differs.{DiffersAt}
-use Rattle.poll_core.specs.Found.{IsFound}
+use Rattle.poll_core.proofs.EraLemmas.{before_poll, session_eras}
+use Rattle.poll_core.proofs.RuleLemmas.{OneSet}
+use Rattle.poll_core.proofs.StoodLemmas.{stands_before}
 use Rattle.poll_core.specs.IsSession.{IsSession}
-use Rattle.poll_core.specs.MadeOf.{HasRules}
-use Rattle.poll_core.specs.OpenCause.{HasOpenCause, IsOfContents}
-use Rattle.poll_core.specs.OpenFaults.{IsSettingsRefusal, IsRefused}
-use Rattle.poll_core.proofs.StoodLemmas.{StandsBefore, stands_before as stands_in}
 use Rattle.poll_core.specs.LeavesTree.{LeavesTree}
 use Rattle.poll_core.specs.Overflows.{Overflows}
-use Rattle.poll_core.specs.Polled.{MayGain, IsStanding, IsSummed, Stays, Polled, counts_of, is_first, stretch_of}
+use Rattle.poll_core.specs.Polled.{MayGain, IsStanding, IsSummed, Stays, Polled, counts_of, stretch_of}
 use Rattle.poll_core.specs.Remembers.{EndsWithMemory}
 use Rattle.poll_core.specs.Summed.{sums_of}
 use Rattle.poll_core.specs.declared.summary.Summary.{Summary}
-use Rattle.poll_core.specs.SessionParts.{checkpoint_of_session, rules_of_session, journal_of_session}
+use Rattle.poll_core.specs.SessionParts.{checkpoint_of_session, is_first, journal_of_session, kept_of, rules_of_session, stamp_of_session}
 use Rattle.poll_core.specs.Since.{KeepsStandingSince}
 use Rattle.poll_core.specs.StandsOn.{StandsOn}
-use Rattle.poll_core.specs.declared.fault.OpenFault.{OpenFault}
-use Rattle.poll_core.specs.declared.fault.OpenFault.TheVariants.{Settings, Build, Disk, CheckpointBad, SettingsChanged, OutputShort, Memory}
 use Rattle.poll_core.specs.PollCause.{HasPollCause}
 use Rattle.poll_core.specs.declared.poll_fault.PollFault.{PollFault}
 use Rattle.poll_core.specs.declared.poll_fault.PollFault.TheVariants.{OutputFull, Worn}
@@ -74,8 +67,15 @@ use Rattle.standing.specs.Apart.{Apart}
 use Rattle.standing.specs.Moments.{IsLater}
 use Rattle.standing.specs.Rules.{Rules}
 use Rattle.standing.specs.AreRules.{AreRules}
+use Rattle.standing.specs.Eras.{Eras, texts_of}
+use Rattle.standing.specs.Look.{Look}
+use Rattle.standing.specs.Marks.{Mark}
+use Rattle.standing.specs.Pass.{Pass, Stretch}
+use Rattle.standing.specs.Poll.{Poll}
 use Rattle.standing.specs.Rows.{Checkpoint}
-use Rattle.standing.specs.Standing.{Found, Sound}
+use Rattle.standing.specs.Stands.{Stands}
+use Rattle.standing.specs.Times.{NoneLater}
+use Rattle.standing.specs.Sums.{AreSums, Sums}
 
 -- ---- counts
 
@@ -161,19 +161,18 @@ disk_polled : (rules : Rules) (past : Past) (session : Session) (tree tree_after
     → IsReady session disk → IsOpened rules session → past.history ≡ history_of tree → LeavesAt rules past disk
     → Passes disk_images (Stays session) disk disk_after ⊎ MayGain tree_meaning disk_meaning session tree tree_after disk disk_after
     → (IsTrue early → Passes disk_images (Stays session) disk disk_after)
-    → KeepsStandingSince disk_images (rules_of_session session) disk disk_after (state_of tree).world (state_of tree_after).world → IsLater (history_of tree) (history_of tree_after)
+    → KeepsStandingSince disk_images (rules_of_session session).front_size disk disk_after (state_of tree).world (state_of tree_after).world → IsLater (history_of tree) (history_of tree_after)
     → LeavesAt rules (polled past (history_of tree_after) early) disk_after
 disk_polled rules past session tree tree_after disk disk_after early ready opened history_is leaves crash quick keeps later =
     let steps = steps_by session tree tree_after disk disk_after crash in
-    let same = opened.rules_are in
-    let since : KeepsStandingSince disk_images rules disk disk_after (state_of tree).world (state_of tree_after).world =
-    subst (λ (r : Rules). KeepsStandingSince disk_images r disk disk_after (state_of tree).world (state_of tree_after).world) same keeps in
-    let stood : Apart rules.front_size (history_of tree) → EachLeft disk_images disk (IsStanding rules (history_of tree)) = λ apart. record {
+    let since : KeepsStandingSince disk_images rules.front_size disk disk_after (state_of tree).world (state_of tree_after).world =
+    subst (λ (r : Rules). KeepsStandingSince disk_images r.front_size disk disk_after (state_of tree).world (state_of tree_after).world) opened.rules_are keeps in
+    let stood : Apart rules.front_size (history_of tree) → EachLeft disk_images disk (IsStanding (history_of tree)) = λ apart. record {
       each = λ image left.
-          subst (λ (h : History). IsStanding rules h image) history_is ((leaves.each image left).standing (subst (λ (h : History). Apart rules.front_size h) (sym history_is) apart));
+          subst (λ (h : History). IsStanding h image) history_is ((leaves.each image left).standing (subst (λ (h : History). Apart rules.front_size h) (sym history_is) apart));
     } in
-    leaves_polled session ready.session_is rules same past disk disk_after ready.stands leaves (history_of tree_after) early steps quick
-    (λ apart. stands_after rules (state_of tree).world (state_of tree_after).world disk disk_after (later_by session disk disk_after steps) since (stood (apart_before rules.front_size (history_of tree) (history_of tree_after) later apart)) apart)
+    leaves_polled session ready.session_is rules opened past disk disk_after ready.stands leaves (history_of tree_after) early steps quick
+    (λ apart. stands_after rules.front_size (state_of tree).world (state_of tree_after).world disk disk_after (later_by session disk disk_after steps) since (stood (apart_before rules.front_size (history_of tree) (history_of tree_after) later apart)) apart)
 
 not_false : IsTrue false → ⊥
 not_false is = let never : false ≡ true = is in cc
@@ -182,7 +181,7 @@ not_false is = let never : false ≡ true = is in cc
 pub disk_through : (rules : Rules) (waits : Waits) (past : Past) (session : Session) (tree tree_after cleared : MemTree) (disk disk_after disk_cleared : MemDisk)
     → IsReady session disk → MayPoll rules waits past session tree disk
     → Passes disk_images (Stays session) disk disk_after ⊎ MayGain tree_meaning disk_meaning session tree tree_after disk disk_after
-    → KeepsStandingSince disk_images (rules_of_session session) disk disk_after (state_of tree).world (state_of tree_after).world → IsLater (history_of tree) (history_of tree_after)
+    → KeepsStandingSince disk_images (rules_of_session session).front_size disk disk_after (state_of tree).world (state_of tree_after).world → IsLater (history_of tree) (history_of tree_after)
     → IsWell (dropped waits.disk) disk_cleared → log_of disk_cleared ≡ log_of disk_after → state_of cleared ≡ unplanned (state_of tree_after)
     → IsDiskAt rules (polled past (history_of cleared) false) (dropped waits.disk) disk_cleared
 disk_through rules waits past session tree tree_after cleared disk disk_after disk_cleared ready may crash keeps later well same is =
@@ -198,7 +197,7 @@ pub disk_stopped : (rules : Rules) (waits : Waits) (past : Past) (session : Sess
     → IsReady session disk → MayPoll rules waits past session tree disk → log_of fused ≡ log_of disk → most_done fused ≡ Some (done_count (log_of disk) + halt.calls)
     → Passes disk_images (Stays session) fused disk_after ⊎ MayGain tree_meaning disk_meaning session tree tree_after fused disk_after
     → (DoneFewer 4 (done_of fused) (done_of disk_after) → Passes disk_images (Stays session) fused disk_after)
-    → KeepsStandingSince disk_images (rules_of_session session) fused disk_after (state_of tree).world (state_of tree_after).world → IsLater (history_of tree) (history_of tree_after)
+    → KeepsStandingSince disk_images (rules_of_session session).front_size fused disk_after (state_of tree).world (state_of tree_after).world → IsLater (history_of tree) (history_of tree_after)
     → most_done disk_after ≡ most_done fused → IfSome (most_done disk_after) (λ (most : ℕ). done_count (log_of disk_after) ≤ most)
     → state_of cleared ≡ unplanned (state_of tree_after) → LeavesAt rules (polled past (history_of cleared) (is_early (Some halt))) disk_after
 disk_stopped rules waits past session tree tree_after cleared disk fused disk_after halt ready may same limit crash quick keeps later still within is =
@@ -212,15 +211,35 @@ disk_stopped rules waits past session tree tree_after cleared disk fused disk_af
 
 -- ---- what stood before a poll
 
-pub stands_before : (rules : Rules) (waits : Waits) (past : Past) (session : Session) (tree : MemTree) (disk : MemDisk) → IsReady session disk → MayPoll rules waits past session tree disk → Apart rules.front_size (history_of tree) → StandsBefore session (history_of tree)
-stands_before rules waits past session tree disk ready may apart =
+-- What the session goes on from, as rows and an output, stands by these settings alone.
+pub record BeginsBy (rules : Rules) (session : Session) (history : History) : Type 0 where
+  pub output : List ℕ
+  pub stands : Stands (one_era rules) history (checkpoint_of_session session).rows (checkpoint_of_session session).next_id output
+  pub size : length output ≡ kept_of session
+  pub times : NoneLater (checkpoint_of_session session).observed stands.marks
+
+-- lines that stand, none later than the session's checkpoint tells
+abbrev Timely : Session → History → List ℕ → Eras → Type 0
+Timely session history output eras =
+    (stands : Stands eras history (checkpoint_of_session session).rows (checkpoint_of_session session).next_id output) × NoneLater (checkpoint_of_session session).observed stands.marks
+
+pub begins_by : OneSet → (rules : Rules) (waits : Waits) (past : Past) (session : Session) (tree : MemTree) (disk : MemDisk) → IsReady session disk → MayPoll rules waits past session tree disk → Apart rules.front_size (history_of tree) → BeginsBy rules session (history_of tree)
+begins_by one_set rules waits past session tree disk ready may apart =
     let image : Image DiskFile = seen_of disk in
     let there = leaves_shown (log_of disk) in
     let left = ready.stands.each.each image there in
     let own = may.opened.rules_are in
-    let then : IsStanding rules past.history image = (may.disk_is.leaves.each image there).standing (subst (λ (h : History). Apart rules.front_size h) (sym may.history_is) apart) in
-    let stood : IsStanding (rules_of_session session) (history_of tree) image = subst (λ (r : Rules). IsStanding r (history_of tree) image) (sym own) (subst (λ (h : History). IsStanding rules h image) may.history_is then) in
-    stands_in session (history_of tree) image left stood
+    let then : IsStanding past.history image = (may.disk_is.leaves.each image there).standing (subst (λ (h : History). Apart rules.front_size h) (sym may.history_is) apart) in
+    let stood : IsStanding (history_of tree) image = subst (λ (h : History). IsStanding h image) may.history_is then in
+    let before = stands_before session (session_eras one_set session ready.session_is (subst AreRules (sym own) may.laws)) (history_of tree) image left stood in
+    let same : before.eras ≡ one_era rules = eras_of_one one_set rules (session_has rules session ready.session_is own) session.eras before.eras before.are may.opened.eras in
+    let timely = subst (Timely session (history_of tree) before.output) same (before.stands, before.times) in
+    record {
+      output = before.output;
+      stands = timely.0;
+      size = before.size;
+      times = timely.1;
+    }
 
 -- ---- what is told
 
@@ -235,9 +254,9 @@ pub later_told : (tree tree_after : MemTree) → IsTelling tree tree_after → L
 later_told tree tree_after telling leaves = change_told GoesLater (state_of tree) (state_of tree_after) telling.0 telling.1 leaves.later
 
 -- what is told of a poll is said of the histories
-pub since_told : (session : Session) (tree tree_after : MemTree) (disk disk_after : MemDisk) → IsTelling tree tree_after → Told (KeepsStandingSince disk_images (rules_of_session session) disk disk_after) (told_world (state_of tree)) (told_world (state_of tree_after))
-    → KeepsStandingSince disk_images (rules_of_session session) disk disk_after (state_of tree).world (state_of tree_after).world
-since_told session tree tree_after disk disk_after telling keeps = change_told (KeepsStandingSince disk_images (rules_of_session session) disk disk_after) (state_of tree) (state_of tree_after) telling.0 telling.1 keeps
+pub since_told : (session : Session) (tree tree_after : MemTree) (disk disk_after : MemDisk) → IsTelling tree tree_after → Told (KeepsStandingSince disk_images (rules_of_session session).front_size disk disk_after) (told_world (state_of tree)) (told_world (state_of tree_after))
+    → KeepsStandingSince disk_images (rules_of_session session).front_size disk disk_after (state_of tree).world (state_of tree_after).world
+since_told session tree tree_after disk disk_after telling keeps = change_told (KeepsStandingSince disk_images (rules_of_session session).front_size disk disk_after) (state_of tree) (state_of tree_after) telling.0 telling.1 keeps
 
 -- ---- what becomes of the session
 
@@ -245,41 +264,49 @@ has_checkpoint : (journal : Option Journal) (saved : Checkpoint) (image : Image 
 has_checkpoint None saved image is ends = let never : true ≡ false = is in absurd (cc)
 has_checkpoint (Some journal) saved image is ends = (journal, ends.journal_is)
 
-pub goes_on : (rules : Rules) (waits : Waits) (past : Past) (session next : Session) (summary : Summary) (tree tree_after : MemTree) (disk disk_after : MemDisk)
+-- a pass of this poll, with its numbers
+abbrev Summed : Stretch → List Look → Checkpoint → Checkpoint → List Mark → Sums → Poll → Type 0
+Summed stretch looks before after added sums asked = (pass : Pass asked stretch looks before after added) × AreSums asked stretch looks before after added pass sums
+
+pub goes_on : OneSet → (rules : Rules) (waits : Waits) (past : Past) (session next : Session) (summary : Summary) (tree tree_after : MemTree) (disk disk_after : MemDisk)
     → IsReady session disk → MayPoll rules waits past session tree disk → Polled tree_meaning disk_meaning session next summary tree tree_after disk disk_after
     → IsTelling tree tree_after → IsLawful (history_of tree_after) → GoesBy waits.plan (history_of tree) (history_of tree_after) → (state_of tree).faults ≤ (state_of tree_after).faults → (state_of tree_after).faults ≤ (state_of tree).faults + waits.tree.waiting
     → GoesOn rules waits (history_of tree_after) disk_after (Some next)
-goes_on rules waits past session next summary tree tree_after disk disk_after ready may done telling lawful goes later few =
+goes_on one_set rules waits past session next summary tree tree_after disk disk_after ready may done telling lawful goes later few =
     let own = may.opened.rules_are in
+    let first : Bool = is_first session in
+    let stretch : Stretch = stretch_of (history_of tree) (history_of tree_after) (state_of tree).faults (state_of tree_after).faults in
     let pass : IsSummed session (checkpoint_of_session next) done.added summary (counts_of tree_meaning tree) (counts_of tree_meaning tree_after) (state_of tree).world (state_of tree_after).world =
     change_told (IsSummed session (checkpoint_of_session next) done.added summary (counts_of tree_meaning tree) (counts_of tree_meaning tree_after)) (state_of tree) (state_of tree_after) telling.0 telling.1 done.pass in (
-      record { rules_are = done.rules ∙ own; limit = done.limit ∙ may.opened.limit },
+      record { eras = done.comes.eras ∙ may.opened.eras; rules_are = done.rules ∙ own; limit = done.limit ∙ may.opened.limit },
       λ none_planned none_fails apart small.
           let still : GoesBy [] (history_of tree) (history_of tree_after) = subst (λ (p : List (ℕ × Event)). GoesBy p (history_of tree) (history_of tree_after)) none_planned goes in
-          let before = stands_before rules waits past session tree disk ready may (apart_before rules.front_size (history_of tree) (history_of tree_after) goes.later apart) in
-          let laws : AreRules (rules_of_session session) = subst AreRules (sym own) may.laws in
-          let whole : AreWhole (rules_of_session session) (history_of tree_after) (checkpoint_of_session next).rows =
-          small_whole (rules_of_session session) laws (is_first session) (stretch_of (history_of tree) (history_of tree_after) (state_of tree).faults (state_of tree_after).faults) pass.looks
-          (checkpoint_of_session session) (checkpoint_of_session next) done.added pass.pass (sums_of summary) before.output
-          (omega (arith, none_fails, later, few)) (omega (arith, may.tree_is.few, may.few_tree)) (subst (λ (r : Rules). Apart r.front_size (history_of tree_after)) (sym own) apart) lawful (undisturbed_by (history_of tree) (history_of tree_after) still)
-          before.stands pass.sums small in
+          let before = begins_by one_set rules waits past session tree disk ready may (apart_before rules.front_size (history_of tree) (history_of tree_after) goes.later apart) in
+          let summed = subst (Summed stretch pass.looks (checkpoint_of_session session) (checkpoint_of_session next) done.added (sums_of summary)) (session_polls rules session may.opened.eras own) (pass.pass, pass.sums) in
+          let whole : AreWhole (one_era rules) (history_of tree_after) (checkpoint_of_session next).rows =
+          small_whole (one_era rules) (one_era_laws rules may.laws) first (stamp_of_session session) (session_plain rules session own) stretch pass.looks
+          (checkpoint_of_session session) (checkpoint_of_session next) done.added summed.0 (sums_of summary) before.output
+          (omega (arith, none_fails, later, few)) (omega (arith, may.tree_is.few, may.few_tree)) apart lawful (undisturbed_by (history_of tree) (history_of tree_after) still)
+          before.stands (before_poll session ready.session_is before.stands.marks before.times) summed.1 small in
           record {
             each = λ image left. record {
               checkpoint = checkpoint_of_session next;
               has = has_checkpoint (journal_of_session next) (checkpoint_of_session next) image done.not_first (done.stands.each.each image left).memory;
-              whole = subst (λ (r : Rules). AreWhole r (history_of tree_after) (checkpoint_of_session next).rows) own whole;
+              whole = whole;
             };
           },
     )
 
-pub may_fill : (rules : Rules) (waits : Waits) (past : Past) (session : Session) (full : ℕ) (tree tree_after : MemTree) (disk : MemDisk)
+pub may_fill : OneSet → (rules : Rules) (waits : Waits) (past : Past) (session : Session) (full : ℕ) (tree tree_after : MemTree) (disk : MemDisk)
     → IsReady session disk → MayPoll rules waits past session tree disk → Overflows session full (state_of tree).world (state_of tree_after).world → IsLater (history_of tree) (history_of tree_after) → MayFill rules (history_of tree_after)
-may_fill rules waits past session full tree tree_after disk ready may overflows later = λ apart.
+may_fill one_set rules waits past session full tree tree_after disk ready may overflows later = λ apart.
     let own = may.opened.rules_are in
-    let before = stands_before rules waits past session tree disk ready may (apart_before rules.front_size (history_of tree) (history_of tree_after) later apart) in
+    let before = begins_by one_set rules waits past session tree disk ready may (apart_before rules.front_size (history_of tree) (history_of tree_after) later apart) in
+    let timely = subst (λ (r : Rules). Timely session (history_of tree) before.output (one_era r)) (sym own) (before.stands, before.times) in
+    let eras_are : session.eras ≡ texts_of (one_era (rules_of_session session)) = subst (λ (r : Rules). session.eras ≡ texts_of (one_era r)) (sym own) may.opened.eras in
     subst (λ (r : Rules). Large r (history_of tree_after)) own
-    (fills_large session full (state_of tree).world (state_of tree_after).world before.output ready.session_is (subst AreRules (sym own) may.laws) may.opened.limit overflows
-    (subst (λ (r : Rules). Apart r.front_size (history_of tree_after)) (sym own) apart) before.stands before.size)
+    (fills_large session full (state_of tree).world (state_of tree_after).world before.output ready.session_is eras_are (subst AreRules (sym own) may.laws) may.opened.limit overflows
+    (subst (λ (r : Rules). Apart r.front_size (history_of tree_after)) (sym own) apart) timely.0 (before_poll session ready.session_is timely.0.marks timely.1) before.size)
 
 -- No number is the last one while there are fewer polls than numbers.
 pub not_worn : (rules : Rules) (waits : Waits) (past : Past) (session : Session) (tree : MemTree) (disk : MemDisk) → IsReady session disk → MayPoll rules waits past session tree disk → IsWorn (journal_of_session session) → ⊥
@@ -289,38 +316,38 @@ not_worn rules waits past session tree disk ready may worn =
     worn_never (journal_of_session session) (checkpoint_of_session session) image past.polls (ready.stands.each.each image there).memory (may.disk_is.leaves.each image there).numbered may.few worn
 
 -- Of the faults of a poll only that of a full output can come, or that of a call on the disk that was to fail.
-pub refused_fills : (rules : Rules) (waits : Waits) (past : Past) (session : Session) (fault : PollFault) (tree tree_after : MemTree) (disk disk_after : MemDisk)
+pub refused_fills : OneSet → (rules : Rules) (waits : Waits) (past : Past) (session : Session) (fault : PollFault) (tree tree_after : MemTree) (disk disk_after : MemDisk)
     → IsReady session disk → MayPoll rules waits past session tree disk → faults_of disk_after ≤ faults_of disk + waits.disk.waiting
     → ((size : ℕ) → fault ≡ OutputFull size → Overflows session size (state_of tree).world (state_of tree_after).world)
     → ((sequence : ℕ) → fault ≡ Worn sequence → IsWorn (journal_of_session session)) → (fault ≡ poll.Memory → ⊥)
     → HasPollCause {T = Session × Summary} (Err fault) (faults_of disk) (faults_of disk_after) → IsLater (history_of tree) (history_of tree_after) → (0 < waits.disk.waiting) ⊎ MayFill rules (history_of tree_after)
-refused_fills rules waits past session poll.Disk tree tree_after disk disk_after ready may well full worn never cause later =
+refused_fills one_set rules waits past session poll.Disk tree tree_after disk disk_after ready may well full worn never cause later =
     inl (rose_by_some (faults_of disk) (faults_of disk_after) waits.disk.waiting waits.disk.most well may.disk_is.well.few may.few_disk cause)
-refused_fills rules waits past session (OutputFull size) tree tree_after disk disk_after ready may well full worn never cause later = inr (may_fill rules waits past session size tree tree_after disk ready may (full size refl) later)
-refused_fills rules waits past session (Worn sequence) tree tree_after disk disk_after ready may well full worn never cause later = absurd (not_worn rules waits past session tree disk ready may (worn sequence refl))
-refused_fills rules waits past session poll.Memory tree tree_after disk disk_after ready may well full worn never cause later = absurd (never refl)
+refused_fills one_set rules waits past session (OutputFull size) tree tree_after disk disk_after ready may well full worn never cause later = inr (may_fill one_set rules waits past session size tree tree_after disk ready may (full size refl) later)
+refused_fills one_set rules waits past session (Worn sequence) tree tree_after disk disk_after ready may well full worn never cause later = absurd (not_worn rules waits past session tree disk ready may (worn sequence refl))
+refused_fills one_set rules waits past session poll.Memory tree tree_after disk disk_after ready may well full worn never cause later = absurd (never refl)
 
 -- ---- what the poll didn't reach is dropped
 
 -- the poll came to its end
-pub ended_goes_on : (rules : Rules) (waits : Waits) (past : Past) (session next : Session) (summary : Summary) (tree tree_after cleared : MemTree) (disk disk_after : MemDisk)
+pub ended_goes_on : OneSet → (rules : Rules) (waits : Waits) (past : Past) (session next : Session) (summary : Summary) (tree tree_after cleared : MemTree) (disk disk_after : MemDisk)
     → IsReady session disk → MayPoll rules waits past session tree disk → Polled tree_meaning disk_meaning session next summary tree tree_after disk disk_after
     → IsTelling tree tree_after → IsLawful (history_of tree_after) → IsTreePolled waits tree cleared → state_of cleared ≡ unplanned (state_of tree_after) → GoesOn rules waits (history_of cleared) disk_after (Some next)
-ended_goes_on rules waits past session next summary tree tree_after cleared disk disk_after ready may done telling lawful went is =
+ended_goes_on one_set rules waits past session next summary tree tree_after cleared disk disk_after ready may done telling lawful went is =
     let same : history_of cleared ≡ history_of tree_after = history_cleared tree_after cleared is in
     let faults_are : (state_of cleared).faults ≡ (state_of tree_after).faults = ap (λ (s : TreeState). s.faults) is in
     let goes : GoesBy waits.plan (history_of tree) (history_of tree_after) = subst (λ (h : History). GoesBy waits.plan (history_of tree) h) same went.goes in
-    subst (λ (h : History). GoesOn rules waits h disk_after (Some next)) (sym same) (goes_on rules waits past session next summary tree tree_after disk disk_after ready may done telling lawful goes (omega (arith, faults_are, went.later)) (omega (arith, faults_are, went.few)))
+    subst (λ (h : History). GoesOn rules waits h disk_after (Some next)) (sym same) (goes_on one_set rules waits past session next summary tree tree_after disk disk_after ready may done telling lawful goes (omega (arith, faults_are, went.later)) (omega (arith, faults_are, went.few)))
 
 -- the poll was refused
-pub refused_goes_on : (rules : Rules) (waits : Waits) (past : Past) (session : Session) (fault : PollFault) (tree tree_after cleared : MemTree) (disk disk_after : MemDisk)
+pub refused_goes_on : OneSet → (rules : Rules) (waits : Waits) (past : Past) (session : Session) (fault : PollFault) (tree tree_after cleared : MemTree) (disk disk_after : MemDisk)
     → IsReady session disk → MayPoll rules waits past session tree disk → faults_of disk_after ≤ faults_of disk + waits.disk.waiting
     → ((size : ℕ) → fault ≡ OutputFull size → Overflows session size (state_of tree).world (state_of tree_after).world)
     → ((sequence : ℕ) → fault ≡ Worn sequence → IsWorn (journal_of_session session)) → (fault ≡ poll.Memory → ⊥)
     → HasPollCause {T = Session × Summary} (Err fault) (faults_of disk) (faults_of disk_after) → IsLater (history_of tree) (history_of tree_after)
     → state_of cleared ≡ unplanned (state_of tree_after) → GoesOn rules waits (history_of cleared) disk_after None
-refused_goes_on rules waits past session fault tree tree_after cleared disk disk_after ready may well full worn never cause later is =
-    subst (λ (h : History). (0 < waits.disk.waiting) ⊎ MayFill rules h) (sym (history_cleared tree_after cleared is)) (refused_fills rules waits past session fault tree tree_after disk disk_after ready may well full worn never cause later)
+refused_goes_on one_set rules waits past session fault tree tree_after cleared disk disk_after ready may well full worn never cause later is =
+    subst (λ (h : History). (0 < waits.disk.waiting) ⊎ MayFill rules h) (sym (history_cleared tree_after cleared is)) (refused_fills one_set rules waits past session fault tree tree_after disk disk_after ready may well full worn never cause later)
 
 -- ---- what the script goes on with
 
@@ -355,14 +382,14 @@ goes_on_same rules waits history disk disk_cleared (Some next) same on = (
   λ none_planned none_fails apart small. record { each = λ image left. (on.1 none_planned none_fails apart small).each image (subst (λ (log : Log). LeavesImage log image) same left) },
 )
 
-module _ (session : Session) (tree tree_after cleared : MemTree) (disk disk_after disk_cleared : MemDisk) (ready : IsReady session disk) (few : (failures : Failures) → IsWell failures disk → faults_of disk_after ≤ faults_of disk + failures.waiting) (went : (waits : Waits) → IsTreeAt waits.plan waits.tree tree → IsTreePolled waits tree cleared) (is : state_of cleared ≡ unplanned (state_of tree_after)) (same_log : log_of disk_cleared ≡ log_of disk_after) where
+module _ (one_set : OneSet) (session : Session) (tree tree_after cleared : MemTree) (disk disk_after disk_cleared : MemDisk) (ready : IsReady session disk) (few : (failures : Failures) → IsWell failures disk → faults_of disk_after ≤ faults_of disk + failures.waiting) (went : (waits : Waits) → IsTreeAt waits.plan waits.tree tree → IsTreePolled waits tree cleared) (is : state_of cleared ≡ unplanned (state_of tree_after)) (same_log : log_of disk_cleared ≡ log_of disk_after) where
   abbrev Goes : Option Session → Type 0
   Goes next = (rules : Rules) (waits : Waits) (past : Past) → MayPoll rules waits past session tree disk → GoesOn rules waits (history_of cleared) disk_cleared next
 
   refused_next : (fault : PollFault) → (fault ≡ poll.Memory → ⊥) → Answers session tree tree_after disk disk_after (Err fault) → Goes None
   refused_next fault never answers = λ rules waits past may.
       let telling : IsTelling tree tree_after = telling_by tree tree_after answers.leaves may.tree_is.told in
-      refused_goes_on rules waits past session fault tree tree_after cleared disk disk_after ready may (few waits.disk may.disk_is.well)
+      refused_goes_on one_set rules waits past session fault tree tree_after cleared disk disk_after ready may (few waits.disk may.disk_is.well)
       (λ size same. change_told (Overflows session size) (state_of tree) (state_of tree_after) telling.0 telling.1 (answers.full size (ap Err same))) (λ sequence same. answers.worn sequence (ap Err same)) never answers.cause
       (later_told tree tree_after telling answers.leaves) is
 
@@ -370,74 +397,8 @@ module _ (session : Session) (tree tree_after cleared : MemTree) (disk disk_afte
   goes_on_next (Ok done) answers = λ rules waits past may.
       goes_on_same rules waits (history_of cleared) disk_after disk_cleared (Some done.0) same_log
       (let telling : IsTelling tree tree_after = telling_by tree tree_after answers.leaves may.tree_is.told in
-      ended_goes_on rules waits past session done.0 done.1 tree tree_after cleared disk disk_after ready may answers.ok telling (lawful_told (state_of tree_after) telling.1 answers.lawful) (went waits may.tree_is) is)
+      ended_goes_on one_set rules waits past session done.0 done.1 tree tree_after cleared disk disk_after ready may answers.ok telling (lawful_told (state_of tree_after) telling.1 answers.lawful) (went waits may.tree_is) is)
   goes_on_next (Err poll.Disk) answers = refused_next poll.Disk (λ same. cc) answers
   goes_on_next (Err (OutputFull size)) answers = refused_next (OutputFull size) (λ same. cc) answers
   goes_on_next (Err (Worn sequence)) answers = refused_next (Worn sequence) (λ same. cc) answers
   goes_on_next (Err poll.Memory) answers = tt
-
--- ---- openings
-
--- a session that was made of this text polls by its rules
-pub opened_rules : (text : List ℕ) (rules : Rules) (session : Session) → ((text : List ℕ) (one other : Rules) → HasRules text one → HasRules text other → one ≡ other)
-    → IsSession session → session.settings ≡ text → HasRules text rules → rules_of_session session ≡ rules
-opened_rules text rules session one is same has =
-    let own : HasRules session.settings (rules_of_session session) = (session.pipeline, is.made, refl) in
-    one text (rules_of_session session) rules (subst (λ (t : List ℕ). HasRules t (rules_of_session session)) same own) has
-
--- nothing differs from itself
-same_differs : (text : List ℕ) (at : ℕ) → DiffersAt text text at → ⊥
-same_differs text at differs = differs.differs refl
-
--- what was opened is no refusal of what stands on the disk
-not_of_contents : (text : List ℕ) (rules : Rules) (past : Past) (disk : MemDisk) (fault : OpenFault)
-    → ((own text : List ℕ) (rules : Rules) (image : Image DiskFile) (there : Found) (fault : OpenFault) → HasRules own rules → IsFound image there → Sound rules there (image Output) → IsRefused text image fault → (at : ℕ) × (fault ≡ SettingsChanged at) × DiffersAt own text at)
-    → HasRules text rules → LeavesAt rules past disk → IsRefused text (seen_of disk) fault → ⊥
-not_of_contents text rules past disk fault opened has leaves refused =
-    let sound = (leaves.each (seen_of disk) (leaves_shown (log_of disk))).sound in
-    let changed = opened text text rules (seen_of disk) sound.there fault has sound.found sound.sound refused in
-    same_differs text changed.0 changed.2
-
--- what an opening's answer is for a script
-pub ready_opened : (disk disk_cleared : MemDisk) (opened : Result Session OpenFault) → log_of disk_cleared ≡ log_of disk → IfOk opened IsSession → IfOk opened (λ session. StandsOn disk_images session disk)
-    → IfOk (opened_of opened) (λ own. IfSome own (λ session. IsReady session disk_cleared))
-ready_opened disk disk_cleared (Ok session) same is stands = record { session_is = is; stands = ready_same session disk disk_cleared same stands }
-ready_opened disk disk_cleared (Err (Settings fault)) same is stands = tt
-ready_opened disk disk_cleared (Err (Build fault)) same is stands = tt
-ready_opened disk disk_cleared (Err Disk) same is stands = tt
-ready_opened disk disk_cleared (Err (CheckpointBad place)) same is stands = tt
-ready_opened disk disk_cleared (Err (SettingsChanged place)) same is stands = tt
-ready_opened disk disk_cleared (Err (OutputShort kept size)) same is stands = tt
-ready_opened disk disk_cleared (Err Memory) same is stands = tt
-
--- there is a session by these rules, or a call on the disk was to fail
-abbrev OpensOn : List ℕ → MemDisk → Option Session → Type 0
-OpensOn text disk own = (rules : Rules) (past : Past) (failures : Failures) → HasRules text rules → IsDiskAt rules past failures disk → failures.most < 18446744073709551615 → Opens rules failures own
-
-pub opens_is : (text : List ℕ) (disk disk_after : MemDisk) (opened : Result Session OpenFault) → ((text : List ℕ) (one other : Rules) → HasRules text one → HasRules text other → one ≡ other)
-    → ((failures : Failures) → IsWell failures disk → faults_of disk_after ≤ faults_of disk + failures.waiting)
-    → IfOk opened IsSession → IfOk opened (λ session. session.settings ≡ text) → IfOk opened (λ session. session.limit ≡ output_limit) → HasOpenCause opened (faults_of disk) (faults_of disk_after) → IfOk (opened_of opened) (OpensOn text disk)
-opens_is text disk disk_after (Ok session) one few is same limit cause = λ rules past failures has at below. record { rules_are = opened_rules text rules session one is same has; limit = limit }
-opens_is text disk disk_after (Err (Settings fault)) one few is same limit cause = tt
-opens_is text disk disk_after (Err (Build fault)) one few is same limit cause = tt
-opens_is text disk disk_after (Err Disk) one few is same limit cause = λ rules past failures has at below.
-    rose_by_some (faults_of disk) (faults_of disk_after) failures.waiting failures.most (few failures at.well) at.well.few below cause
-opens_is text disk disk_after (Err (CheckpointBad place)) one few is same limit cause = tt
-opens_is text disk disk_after (Err (SettingsChanged place)) one few is same limit cause = tt
-opens_is text disk disk_after (Err (OutputShort kept size)) one few is same limit cause = tt
-opens_is text disk disk_after (Err Memory) one few is same limit cause = tt
-
-abbrev CantOn : List ℕ → MemDisk → ScriptFault → Type 0
-CantOn text disk fault = (rules : Rules) (past : Past) (failures : Failures) → HasRules text rules → IsDiskAt rules past failures disk → CantOpenBy text fault
-
-pub refused_open : (text : List ℕ) (disk : MemDisk) (opened : Result Session OpenFault)
-    → ((own text : List ℕ) (rules : Rules) (image : Image DiskFile) (there : Found) (fault : OpenFault) → HasRules own rules → IsFound image there → Sound rules there (image Output) → IsRefused text image fault → (at : ℕ) × (fault ≡ SettingsChanged at) × DiffersAt own text at)
-    → IfErr opened (IsSettingsRefusal text) → IfErr opened (λ fault. IsTrue true → IsOfContents fault → IsRefused text (seen_of disk) fault) → IfErr (opened_of opened) (CantOn text disk)
-refused_open text disk (Ok session) sound refusal contents = tt
-refused_open text disk (Err (Settings fault)) sound refusal contents = λ rules past failures has at. record { of_settings = tt; refusal = refusal }
-refused_open text disk (Err (Build fault)) sound refusal contents = λ rules past failures has at. record { of_settings = tt; refusal = refusal }
-refused_open text disk (Err Disk) sound refusal contents = tt
-refused_open text disk (Err (CheckpointBad place)) sound refusal contents = λ rules past failures has at. absurd (not_of_contents text rules past disk (CheckpointBad place) sound has at.leaves (contents refl tt))
-refused_open text disk (Err (SettingsChanged place)) sound refusal contents = λ rules past failures has at. absurd (not_of_contents text rules past disk (SettingsChanged place) sound has at.leaves (contents refl tt))
-refused_open text disk (Err (OutputShort kept size)) sound refusal contents = λ rules past failures has at. absurd (not_of_contents text rules past disk (OutputShort kept size) sound has at.leaves (contents refl tt))
-refused_open text disk (Err Memory) sound refusal contents = λ rules past failures has at. tt

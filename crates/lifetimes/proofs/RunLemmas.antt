@@ -1,6 +1,6 @@
 -- A script runs, event by event.
-use Rattle.std.proofs.Common.{◌≡◌, ℕ, ◌+◌, ◌<◌, ◌≤◌, List, [], ◌∷◌, ◌++◌, length, take, get_or, Bool, Option, Some, None, sym, ap, subst, ◌∙◌, arith}
-use Rattle.std.specs.Prelude.{reverse, slice_get, is_some, false, Vec}
+use Rattle.std.proofs.Common.{◌≡◌, ℕ, ◌+◌, ◌<◌, ◌≤◌, List, [], ◌∷◌, ◌++◌, length, take, get_or, Option, Some, None, sym, ap, subst, ◌∙◌, arith}
+use Rattle.std.specs.Prelude.{reverse, slice_get, is_some, Vec}
 use Rattle.std.specs.declared.alloc.Global.{Global}
 use Rattle.std.proofs.lemmas.List.{reverse-append, length-reverse, take_more, take_all, length-take}
 use Rattle.lifetimes.specs.Course.{Course, Begins, Runs, begins, goes_on}
@@ -71,6 +71,7 @@ run_ends text script life marks run =
       ends = record {
         has_session = is_some life.session;
         runs = subst (λ (events : List Event). Runs rules (reverse events) (reverse marks.items) (course_of life)) whole run.2.runs;
+        sound = record { each = λ image left. (at.disk.leaves.each image left).sound };
         standing = λ apart. record { each = λ image left. (at.disk.leaves.each image left).standing apart };
         reached = λ apart ends small few. at.reached ends few apart small;
         none_open = λ early. record { each = λ image left. (at.disk.leaves.each image left).none_open early };

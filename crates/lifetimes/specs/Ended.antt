@@ -2,6 +2,7 @@
 use Rattle.std.specs.Prelude.{◌≡◌, ℕ, Bool, true, false, List, take, reverse, None, Some, slice_get, IsTrue, ⊤}
 use Rattle.lifetimes.specs.Course.{Course, Runs}
 use Rattle.lifetimes.specs.Large.{Large}
+use Rattle.lifetimes.specs.OneEra.{IsSoundBy, one_era}
 use Rattle.lifetimes.specs.Refusal.{IsSetup}
 use Rattle.lifetimes.specs.Script.{counts_of, EndsUndisturbed}
 use Rattle.lifetimes.specs.Small.{IsSmall, IsReachedIn}
@@ -30,11 +31,14 @@ use Rattle.standing.specs.Rules.{Rules}
 abbrev pub history_of : MemTree → History
 history_of tree = (state_of tree).world.history
 
-abbrev pub AllStand : Rules → History → MemDisk → Type 0
-AllStand rules history disk = EachLeft disk_images disk (IsStanding rules history)
+abbrev pub AllSound : Rules → MemDisk → Type 0
+AllSound rules disk = EachLeft disk_images disk (IsSoundBy rules)
+
+abbrev pub AllStand : History → MemDisk → Type 0
+AllStand history disk = EachLeft disk_images disk (IsStanding history)
 
 abbrev pub AllReached : Rules → History → MemDisk → Type 0
-AllReached rules history disk = EachLeft disk_images disk (IsReachedIn rules history)
+AllReached rules history disk = EachLeft disk_images disk (IsReachedIn (one_era rules) history)
 
 abbrev pub NoneOpen : MemDisk → Type 0
 NoneOpen disk = EachLeft disk_images disk (λ image. chosen_slot image ≡ None)
@@ -44,8 +48,10 @@ pub record IsEndingBy (rules : Rules) (events : List Event) (ending : Ending) : 
   -- The world and the disk took a course that the script allows, and the marks tell where each event ended.
   pub has_session : Bool
   pub runs : Runs rules events (reverse ending.marks.items) (record { history = history_of ending.tree; disk = ending.disk; has_session = has_session })
-  -- Where files can be told apart, whatever a crash may leave stands for the history.
-  pub standing : Apart rules.front_size (history_of ending.tree) → AllStand rules (history_of ending.tree) ending.disk
+  -- Whatever a crash may leave is of these settings alone, and fits its output.
+  pub sound : AllSound rules ending.disk
+  -- Where files can be told apart, it stands for the history.
+  pub standing : Apart rules.front_size (history_of ending.tree) → AllStand (history_of ending.tree) ending.disk
   -- After a poll that nothing disturbed, a small history's files are taken as a whole, unless they have too many lines.
   pub reached : Apart rules.front_size (history_of ending.tree) → EndsUndisturbed events → IsSmall (history_of ending.tree)
       → (Large rules (history_of ending.tree) → ⊥) → AllReached rules (history_of ending.tree) ending.disk

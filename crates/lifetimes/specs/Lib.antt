@@ -1,3 +1,4 @@
+pub mod OneEra
 pub mod Refusal
 pub mod Answered
 pub mod Script

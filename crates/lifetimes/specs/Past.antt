@@ -3,6 +3,7 @@ use Rattle.std.specs.Prelude.{◌≡◌, ◌⊎◌, ◌≤◌, ◌<◌, ℕ, ◌
 use Rattle.checkpoint_store.specs.Limits.{output_limit}
 use Rattle.lifetimes.specs.Course.{GoesBy, MayFill}
 use Rattle.lifetimes.specs.Ended.{history_of, AllReached}
+use Rattle.lifetimes.specs.OneEra.{IsSoundBy, one_era}
 use Rattle.lifetimes.specs.Refusal.{IsSetup}
 use Rattle.lifetimes.specs.Small.{IsSmall}
 use Rattle.lifetimes.specs.declared.fault.ScriptFault.{ScriptFault}
@@ -15,7 +16,7 @@ use Rattle.outside.specs.Image.{Image}
 use Rattle.outside.specs.World.{Event as WorldEvent, History}
 use Rattle.outside.specs.declared.disk.DiskFile.{DiskFile}
 use Rattle.poll_core.specs.IsSession.{IsSession}
-use Rattle.poll_core.specs.Polled.{IsSoundIn, IsStanding}
+use Rattle.poll_core.specs.Polled.{IsStanding}
 use Rattle.poll_core.specs.Sequence.{HasSequence}
 use Rattle.poll_core.specs.SessionParts.{rules_of_session, limit_of}
 use Rattle.poll_core.specs.StandsOn.{StandsOn}
@@ -24,6 +25,7 @@ use Rattle.slot_store.specs.ChosenSlot.{chosen_slot}
 use Rattle.slot_store.specs.Synced.{EachLeft}
 use Rattle.standing.specs.Apart.{Apart}
 use Rattle.standing.specs.AreRules.{AreRules}
+use Rattle.standing.specs.Eras.{texts_of}
 use Rattle.standing.specs.Rules.{Rules}
 
 -- ---- the world
@@ -54,11 +56,11 @@ pub record Past : Type 0 where
   -- each poll was stopped before its fourth call
   pub early : Bool
 
--- The image may be left: it is sound, and stands where files can be told apart. No more commits than polls were made, and none
--- in polls that were stopped early.
+-- The image may be left: it is sound by these settings alone, and stands where files can be told apart. No more commits than
+-- polls were made, and none in polls that were stopped early.
 pub record IsLeftAt (rules : Rules) (past : Past) (image : Image DiskFile) : Type 0 where
-  pub sound : IsSoundIn rules image
-  pub standing : Apart rules.front_size past.history → IsStanding rules past.history image
+  pub sound : IsSoundBy rules image
+  pub standing : Apart rules.front_size past.history → IsStanding past.history image
   pub numbered : (sequence : ℕ) → HasSequence image sequence → sequence ≤ past.polls
   pub none_open : IsTrue past.early → chosen_slot image ≡ None
 
@@ -85,7 +87,9 @@ pub record IsReady (session : Session) (disk : MemDisk) : Type 0 where
   pub session_is : IsSession session
   pub stands : StandsOn disk_images session disk
 
+-- its settings were never changed
 pub record IsOpened (rules : Rules) (session : Session) : Type 0 where
+  pub eras : session.eras ≡ texts_of (one_era rules)
   pub rules_are : rules_of_session session ≡ rules
   pub limit : limit_of session ≡ output_limit
 

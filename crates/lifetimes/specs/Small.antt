@@ -5,13 +5,14 @@ use Rattle.checkpoint_store.specs.declared.Checkpoint.{Checkpoint}
 use Rattle.outside.specs.Image.{Image}
 use Rattle.outside.specs.World.{create, append, rename, remove, look, miss, unlisted, History, bytes}
 use Rattle.outside.specs.declared.disk.DiskFile.{DiskFile}
+use Rattle.standing.specs.Eras.{Eras, last_era}
 use Rattle.standing.specs.Limits.{row_limit, most_taken, is_compressed}
 use Rattle.standing.specs.Moments.{IsNamed}
 use Rattle.standing.specs.Owner.{IsOwner}
 use Rattle.standing.specs.Pass.{IsReachable}
 use Rattle.standing.specs.Reached.{Reached}
 use Rattle.standing.specs.Rows.{Row, IsRowAt}
-use Rattle.standing.specs.Rules.{Rules, Includes}
+use Rattle.standing.specs.Rules.{Includes}
 
 -- the files that there ever were
 abbrev pub created : History → List ℕ
@@ -33,19 +34,19 @@ pub record IsSmall (history : History) : Type 0 where
   pub few : length (created history) ≤ row_limit
 
 -- Some row is the file's, and it has taken all that can be taken of the file's bytes.
-pub record IsWhole (rules : Rules) (history : History) (rows : List Row) (file : ℕ) : Type 0 where
+pub record IsWhole (eras : Eras) (history : History) (rows : List Row) (file : ℕ) : Type 0 where
   pub place : ℕ
   pub row : Row
   pub at : IsRowAt rows place row
-  pub owner : IsOwner rules history row file
-  pub reached : Reached rules (bytes history file) row (length (bytes history file))
+  pub owner : IsOwner eras history row file
+  pub reached : Reached (last_era eras) (bytes history file) row (length (bytes history file))
 
 -- every file that isn't empty and has a path to be read is taken as a whole
-abbrev pub AreWhole : Rules → History → List Row → Type 0
-AreWhole rules history rows = (path : List ℕ) (file : ℕ) → Includes rules path → IsNamed history path file → 0 < length (bytes history file) → IsWhole rules history rows file
+abbrev pub AreWhole : Eras → History → List Row → Type 0
+AreWhole eras history rows = (path : List ℕ) (file : ℕ) → Includes (last_era eras) path → IsNamed history path file → 0 < length (bytes history file) → IsWhole eras history rows file
 
 -- The image has a checkpoint, and by its rows every such file is.
-pub record IsReachedIn (rules : Rules) (history : History) (image : Image DiskFile) : Type 0 where
+pub record IsReachedIn (eras : Eras) (history : History) (image : Image DiskFile) : Type 0 where
   pub checkpoint : Checkpoint
   pub has : HasCheckpoint (Some checkpoint) image
-  pub whole : AreWhole rules history checkpoint.rows
+  pub whole : AreWhole eras history checkpoint.rows

@@ -1,5 +1,5 @@
 -- What a stop leaves of a disk.
-use Rattle.std.specs.Prelude.{◌≡◌, ℕ, ◌+◌, ◌≤◌, Some}
+use Rattle.std.specs.Prelude.{◌≡◌, ◌+◌, ◌≤◌, Some}
 use Rattle.lifetimes.specs.Script.{Halt}
 use Rattle.lifetimes.specs.declared.stopping.Stopping.{Stopping}
 use Rattle.mem_world.specs.CrashOutcome.{left_by, tear_of}

@@ -11,6 +11,7 @@ use crate::ScriptFault;
 use crate::devices::{disk_keeps_its_terms, tree_keeps_its_terms};
 use crate::stopping::{Stopping, crash};
 use mem_world::{MemDisk, MemTree};
+use poll_core::laws::settings_give_one_set_of_rules;
 use poll_core::{PollFault, Session, Summary};
 use std::alloc::Global;
 
@@ -30,6 +31,7 @@ pub(crate) fn poll_through(
         → MayPoll rules waits past session tree.old disk.old → GoesOn rules waits (history_of tree.new) disk.new next) }
     ensures memory { IfErr result (λ fault. fault ≡ ScriptFault.Memory) }
 {
+    settings_give_one_set_of_rules();
     let polled = session.poll(alloc, tree, disk);
     tree_keeps_its_terms(tree);
     disk_keeps_its_terms(disk);

@@ -68,9 +68,9 @@ fn feed_log(
     run: &mut Run,
 ) -> Result<(), Unanswered> {
     let log = log_of(alloc, lines, words)?;
-    let left = go_on(alloc, pipeline, words.path(), &log, words.size, run)?;
+    let left = go_on(alloc, pipeline, words, &log, run)?;
     if words.flushed {
-        flush(alloc, pipeline, words.path(), left, run)?;
+        flush(alloc, pipeline, words, left, run)?;
     }
     Ok(())
 }

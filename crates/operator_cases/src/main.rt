@@ -3,9 +3,9 @@
 //! Where settings stand in the first line of an input, or in those before a line of two hyphens, the rest is a log, whose last line
 //! has its end where the words of the case don't say `unended`. A path among the words is the file's, and a number says how many
 //! bytes are fed at a time; what is kept is saved and restored before each. Where the words say `flushed`, what is left of the log
-//! is taken too, and the operators are closed. In a log `<COUNT*BYTE>` stands for a byte so often, and
-//! so it does in an answer. A record is shown as a JSON object with plain values in the place of OTLP's, and its resource in front
-//! where that has attributes.
+//! is taken too, and the operators are closed. `observed=TIME` gives the lines a time. In a log `<COUNT*BYTE>` stands for a byte so
+//! often, and so it does in an answer. A record is shown as a JSON object with plain values in the place of OTLP's, and its
+//! resource in front where that has attributes.
 //!
 //! | Call | Input | Answer |
 //! |---|---|---|

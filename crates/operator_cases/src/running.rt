@@ -4,6 +4,7 @@ ghost use Rattle.pipeline.specs.Parts.{HaveKinds};
 
 use crate::refusal::refusal;
 use crate::unanswered::Unanswered;
+use crate::words::Words;
 use pipeline::{FileState, Pipeline};
 use settings_text::laws::settings_keep_limits;
 use settings_text::read;
@@ -53,23 +54,22 @@ pub fn begun(alloc: Global, pipeline: &Pipeline) -> Result<Run, AllocError> {
     Ok(Run::new(alloc, kept))
 }
 
-/// Feeds a log so many bytes at a time, and restores what is kept before each. Answers what is left of it.
+/// Feeds a log as many bytes at a time as the words say, and restores what is kept before each. Answers what is left of it.
 pub fn go_on<'l>(
     alloc: Global,
     pipeline: &Pipeline,
-    path: &str,
+    words: Words,
     log: &'l [u8],
-    size: usize,
     run: &mut Run,
 ) -> Result<&'l [u8], Unanswered> {
     let mut from = 0usize;
     let mut to = 0usize;
     for _ in 0..=log.len() {
-        to = to.saturating_add(size).min(log.len());
+        to = to.saturating_add(words.size).min(log.len());
         let Some(piece) = log.get(from..to) else {
             break;
         };
-        let used = feed(alloc, pipeline, path, piece, run)?;
+        let used = feed(alloc, pipeline, words, piece, run)?;
         from = from.saturating_add(used);
         if to == log.len() {
             break;
@@ -82,12 +82,13 @@ pub fn go_on<'l>(
 fn feed(
     alloc: Global,
     pipeline: &Pipeline,
-    path: &str,
+    words: Words,
     bytes: &[u8],
     run: &mut Run,
 ) -> Result<usize, Unanswered> {
     let mut state = restored(alloc, pipeline, bytes, run)?;
-    let used = pipeline.feed(alloc, &mut state, 7, path, bytes, &mut run.out)?;
+    let (path, observed) = (words.path(), words.observed);
+    let used = pipeline.feed(alloc, &mut state, 7, path, observed, bytes, &mut run.out)?;
     keep(alloc, pipeline, &state, run)?;
     Ok(used)
 }
@@ -96,12 +97,13 @@ fn feed(
 pub fn flush(
     alloc: Global,
     pipeline: &Pipeline,
-    path: &str,
+    words: Words,
     bytes: &[u8],
     run: &mut Run,
 ) -> Result<(), Unanswered> {
     let mut state = restored(alloc, pipeline, bytes, run)?;
-    pipeline.finish(alloc, &mut state, 7, path, bytes, &mut run.out)?;
+    let (path, observed) = (words.path(), words.observed);
+    pipeline.finish(alloc, &mut state, 7, path, observed, bytes, &mut run.out)?;
     if !pipeline.is_fresh(&state) {
         return Err(Unanswered::Refused(String::from_str(alloc, "not fresh")?));
     }

@@ -9,6 +9,8 @@ pub struct Words<'t> {
     pub ended: bool,
     /// Whether what is left at the end is flushed.
     pub flushed: bool,
+    /// The time that the lines have, in nanoseconds since 1970.
+    pub observed: Option<u64>,
     /// The file's path, or what else the call names.
     pub name: Option<&'t str>,
 }
@@ -19,6 +21,7 @@ impl<'t> Words<'t> {
             size: usize::MAX,
             ended: true,
             flushed: false,
+            observed: None,
             name: None,
         };
         for word in text.split_whitespace() {
@@ -26,6 +29,8 @@ impl<'t> Words<'t> {
                 words.ended = false;
             } else if word == "flushed" {
                 words.flushed = true;
+            } else if let Some(time) = word.strip_prefix("observed=") {
+                words.observed = time.parse::<u64>().ok();
             } else if let Ok(size) = word.parse::<usize>() {
                 words.size = size;
             } else {

@@ -18,3 +18,5 @@ pub mod DiskCalls
 pub mod DiskMeaning
 pub mod Stream
 pub mod StreamMeaning
+pub mod ClockMeaning
+pub mod MemClock

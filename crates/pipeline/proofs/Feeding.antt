@@ -12,6 +12,7 @@ use Rattle.otlp_json.specs.OutputLines.{output_lines}
 use Rattle.pipeline.specs.Entries.{records_of, record_with, records_behind, text_of}
 use Rattle.pipeline.specs.Fed.{Fed, GoesOn}
 use Rattle.pipeline.specs.GraphOutput.{graph_output, kept_from, given_from, StandsFor}
+use Rattle.pipeline.specs.Origin.{Origin}
 use Rattle.pipeline.specs.NextToken.{BeginsWith}
 use Rattle.pipeline.specs.declared.state.FileState.{FileState}
 use Rattle.settings_text.specs.declared.settings.Settings.{Settings}
@@ -35,26 +36,27 @@ records_append settings path n (token ∷ a) b =
     ∙ sym (append_assoc (records_of settings path (n + 1) (text_of settings token)) (records_behind settings path (n + 1) a) (records_behind settings path (n + length (token ∷ a)) b))
 
 module _ (settings : Settings) (network : Network Kept LogRecord) (path : List ℕ) (graph : GraphLaws network) where
-  inputs_append : (n : ℕ) (a b : List (List ℕ)) (m : ℕ) → m ≡ n + length a → inputs network (records_behind settings path n (a ++ b)) ≡ inputs network (records_behind settings path n a) ++ inputs network (records_behind settings path m b)
+  pub inputs_append : (n : ℕ) (a b : List (List ℕ)) (m : ℕ) → m ≡ n + length a → inputs network (records_behind settings path n (a ++ b)) ≡ inputs network (records_behind settings path n a) ++ inputs network (records_behind settings path m b)
   inputs_append n a b m e =
       ap (inputs network) (records_append settings path n a b)
       ∙ map-append _ (records_behind settings path n a) (records_behind settings path (n + length a) b)
       ∙ ap (λ k. inputs network (records_behind settings path n a) ++ inputs network (records_behind settings path k b)) (sym e)
 
-  pub fed_none : (lines : LineLaws) (id : ℕ) (state : FileState) (out : List ℕ) → Fed settings network id path [] state state out out
-  fed_none lines id state out = record {
+module _ (settings : Settings) (network : Network Kept LogRecord) (origin : Origin) (graph : GraphLaws network) where
+  pub fed_none : (lines : LineLaws) (state : FileState) (out : List ℕ) → Fed settings network origin [] state state out out
+  fed_none lines state out = record {
     made = [];
     served = graph.begin state.states.items [];
     records = omega arith;
     lines = omega arith;
-    written = sym (append-nil out) ∙ ap (λ t. out ++ t) (sym (lines.none id (state.lines + 1) None));
+    written = sym (append-nil out) ∙ ap (λ t. out ++ t) (sym (lines.none origin.id (state.lines + 1) origin.time));
   }
 
-  pub fed_then : (laws : LineLaws) (id : ℕ) (a b : List (List ℕ)) (s m t : FileState) (o q r : List ℕ) → Fed settings network id path a s m o q → Fed settings network id path b m t q r → Fed settings network id path (a ++ b) s t o r
-  fed_then laws id a b s m t o q r first next =
-      let joined = inputs_append s.records a b m.records first.records in
-      let front = inputs network (records_behind settings path s.records a) in
-      let back = inputs network (records_behind settings path m.records b) in
+  pub fed_then : (laws : LineLaws) (a b : List (List ℕ)) (s m t : FileState) (o q r : List ℕ) → Fed settings network origin a s m o q → Fed settings network origin b m t q r → Fed settings network origin (a ++ b) s t o r
+  fed_then laws a b s m t o q r first next =
+      let joined = inputs_append settings network origin.path graph s.records a b m.records first.records in
+      let front = inputs network (records_behind settings origin.path s.records a) in
+      let back = inputs network (records_behind settings origin.path m.records b) in
       record {
         made = first.made ++ next.made;
         served = record {
@@ -67,53 +69,53 @@ module _ (settings : Settings) (network : Network Kept LogRecord) (path : List �
         records = omega (arith, first.records, next.records, length-append a b);
         lines = omega (arith, first.lines, next.lines, length-append first.made next.made);
         written =
-            next.written ∙ ap (λ x. x ++ output_lines id (m.lines + 1) None next.made) first.written
-            ∙ append_assoc o (output_lines id (s.lines + 1) None first.made) (output_lines id (m.lines + 1) None next.made)
-            ∙ ap (λ x. o ++ x) (ap (λ n. output_lines id (s.lines + 1) None first.made ++ output_lines id n None next.made) (omega (arith, first.lines)) ∙ sym (laws.append id (s.lines + 1) None first.made next.made));
+            next.written ∙ ap (λ x. x ++ output_lines origin.id (m.lines + 1) origin.time next.made) first.written
+            ∙ append_assoc o (output_lines origin.id (s.lines + 1) origin.time first.made) (output_lines origin.id (m.lines + 1) origin.time next.made)
+            ∙ ap (λ x. o ++ x) (ap (λ n. output_lines origin.id (s.lines + 1) origin.time first.made ++ output_lines origin.id n origin.time next.made) (omega (arith, first.lines)) ∙ sym (laws.append origin.id (s.lines + 1) origin.time first.made next.made));
       }
 
-  pub goes_on : (id : ℕ) (earlier more : List (List ℕ)) (s t : FileState) (o r : List ℕ) → StandsFor settings network path earlier s → Fed settings network id path more s t o r → GoesOn settings network id path earlier more t o r
-  goes_on id earlier more s t o r stands fed =
-      let joined = inputs_append 0 earlier more s.records (omega (arith, stands.records)) in
+  pub goes_on : (earlier more : List (List ℕ)) (s t : FileState) (o r : List ℕ) → StandsFor settings network origin.path earlier s → Fed settings network origin more s t o r → GoesOn settings network origin earlier more t o r
+  goes_on earlier more s t o r stands fed =
+      let joined = inputs_append settings network origin.path graph 0 earlier more s.records (omega (arith, stands.records)) in
       let start = start_states network in
-      let front = inputs network (records_behind settings path 0 earlier) in
-      let back = inputs network (records_behind settings path s.records more) in
-      let past : graph_output settings network path (earlier ++ more) ≡ graph_output settings network path earlier ++ fed.made =
+      let front = inputs network (records_behind settings origin.path 0 earlier) in
+      let back = inputs network (records_behind settings origin.path s.records more) in
+      let past : graph_output settings network origin.path (earlier ++ more) ≡ graph_output settings network origin.path earlier ++ fed.made =
       ap (outputs network start) joined ∙ graph.items start front back ∙ ap (λ x. outputs network start front ++ x) (ap (λ from. outputs network from back) (sym stands.states) ∙ sym fed.served.items) in
       record {
         stands = record {
           states = fed.served.states ∙ ap (λ from. states_after network from back) stands.states ∙ sym (graph.states start front back) ∙ ap (states_after network start) (sym joined);
           records = omega (arith, fed.records, stands.records, length-append earlier more);
-          lines = omega (arith, fed.lines, stands.lines, ap length past, length-append (graph_output settings network path earlier) fed.made);
+          lines = omega (arith, fed.lines, stands.lines, ap length past, length-append (graph_output settings network origin.path earlier) fed.made);
         };
         made = fed.made;
         past = past;
-        written = fed.written ∙ ap (λ n. o ++ output_lines id (n + 1) None fed.made) stands.lines;
+        written = fed.written ∙ ap (λ n. o ++ output_lines origin.id (n + 1) origin.time fed.made) stands.lines;
       }
 
 -- some tokens of the bytes were fed, and those of the rest are left
-pub record FeedsOn (settings : Settings) (network : Network Kept LogRecord) (first : List ℕ → Option Cut) (id : ℕ) (path bytes rest : List ℕ) (at : ℕ) (before after : FileState) (out grown : List ℕ) : Type 0 where
+pub record FeedsOn (settings : Settings) (network : Network Kept LogRecord) (first : List ℕ → Option Cut) (origin : Origin) (bytes rest : List ℕ) (at : ℕ) (before after : FileState) (out grown : List ℕ) : Type 0 where
   pub done : List (List ℕ)
   pub left : texts (cuts first bytes) ≡ done ++ texts (cuts first rest)
   pub used_so_far : used_by (cuts first bytes) ≡ at + used_by (cuts first rest)
-  pub fed : Fed settings network id path done before after out grown
+  pub fed : Fed settings network origin done before after out grown
 
-module _ (settings : Settings) (network : Network Kept LogRecord) (first : List ℕ → Option Cut) (id : ℕ) (path : List ℕ) (graph : GraphLaws network) (laws : LineLaws) (bytes : List ℕ) (s : FileState) (o : List ℕ) where
-  pub feeds_from_start : FeedsOn settings network first id path bytes bytes 0 s s o o
-  feeds_from_start = record { done = []; left = refl; used_so_far = omega arith; fed = fed_none settings network path graph laws id s o }
+module _ (settings : Settings) (network : Network Kept LogRecord) (first : List ℕ → Option Cut) (origin : Origin) (graph : GraphLaws network) (laws : LineLaws) (bytes : List ℕ) (s : FileState) (o : List ℕ) where
+  pub feeds_from_start : FeedsOn settings network first origin bytes bytes 0 s s o o
+  feeds_from_start = record { done = []; left = refl; used_so_far = omega arith; fed = fed_none settings network origin graph laws s o }
 
-  pub feeds_token : (rest : List ℕ) (at : ℕ) (c : Cut) (m t : FileState) (q r : List ℕ) → BeginsWith first rest c → FeedsOn settings network first id path bytes rest at s m o q → Fed settings network id path (c.text ∷ []) m t q r → FeedsOn settings network first id path bytes (drop c.used rest) (at + c.used) s t o r
+  pub feeds_token : (rest : List ℕ) (at : ℕ) (c : Cut) (m t : FileState) (q r : List ℕ) → BeginsWith first rest c → FeedsOn settings network first origin bytes rest at s m o q → Fed settings network origin (c.text ∷ []) m t q r → FeedsOn settings network first origin bytes (drop c.used rest) (at + c.used) s t o r
   feeds_token rest at c m t q r begins so_far next = record {
     done = so_far.done ++ c.text ∷ [];
     left = so_far.left ∙ ap (λ cs. so_far.done ++ texts cs) begins.cuts_follow ∙ sym (append_assoc so_far.done (c.text ∷ []) (texts (cuts first (drop c.used rest))));
     used_so_far = omega (arith, so_far.used_so_far, ap used_by begins.cuts_follow, sum_by-cons (λ (d : Cut). d.used) c (cuts first (drop c.used rest)));
-    fed = fed_then settings network path graph laws id so_far.done (c.text ∷ []) s m t o q r so_far.fed next;
+    fed = fed_then settings network origin graph laws so_far.done (c.text ∷ []) s m t o q r so_far.fed next;
   }
 
-  pub feeds_all : (rest : List ℕ) (at : ℕ) (t : FileState) (r : List ℕ) → cuts first rest ≡ [] → FeedsOn settings network first id path bytes rest at s t o r → (at ≡ used_by (cuts first bytes)) × Fed settings network id path (texts (cuts first bytes)) s t o r
+  pub feeds_all : (rest : List ℕ) (at : ℕ) (t : FileState) (r : List ℕ) → cuts first rest ≡ [] → FeedsOn settings network first origin bytes rest at s t o r → (at ≡ used_by (cuts first bytes)) × Fed settings network origin (texts (cuts first bytes)) s t o r
   feeds_all rest at t r ends so_far =
       let all : so_far.done ≡ texts (cuts first bytes) = sym (so_far.left ∙ ap (λ cs. so_far.done ++ texts cs) ends ∙ append-nil so_far.done) in
-      (omega (arith, so_far.used_so_far, ap used_by ends), subst (λ ts. Fed settings network id path ts s t o r) all so_far.fed)
+      (omega (arith, so_far.used_so_far, ap used_by ends), subst (λ ts. Fed settings network origin ts s t o r) all so_far.fed)
 
 pub prefix_kept : (settings : Settings) (network : Network Kept LogRecord) → GraphLaws network → (path : List ℕ) (earlier more : List (List ℕ)) → (rest : List LogRecord) × (graph_output settings network path (earlier ++ more) ≡ graph_output settings network path earlier ++ rest)
 prefix_kept settings network graph path earlier more =
@@ -147,10 +149,10 @@ record_one settings path before token some = append-nil _ ∙ by (text_of settin
     by (byte ∷ more) some = refl
 
 -- a token with a record, which went through the network
-pub one_fed : (settings : Settings) (network : Network Kept LogRecord) (id : ℕ) (path token : List ℕ) (record_of_it : LogRecord) (made : List LogRecord) (s t : FileState) (o r : List ℕ)
-    → records_behind settings path s.records (token ∷ []) ≡ record_of_it ∷ [] → Served network s.states.items [] (inputs network (record_of_it ∷ [])) t.states.items made
-    → t.records ≡ s.records + 1 → t.lines ≡ s.lines + length made → r ≡ o ++ output_lines id (s.lines + 1) None made → Fed settings network id path (token ∷ []) s t o r
-one_fed settings network id path token record_of_it made s t o r one served records lines written = record {
+pub one_fed : (settings : Settings) (network : Network Kept LogRecord) (origin : Origin) (token : List ℕ) (record_of_it : LogRecord) (made : List LogRecord) (s t : FileState) (o r : List ℕ)
+    → records_behind settings origin.path s.records (token ∷ []) ≡ record_of_it ∷ [] → Served network s.states.items [] (inputs network (record_of_it ∷ [])) t.states.items made
+    → t.records ≡ s.records + 1 → t.lines ≡ s.lines + length made → r ≡ o ++ output_lines origin.id (s.lines + 1) origin.time made → Fed settings network origin (token ∷ []) s t o r
+one_fed settings network origin token record_of_it made s t o r one served records lines written = record {
   made = made;
   served = subst (λ rs. Served network s.states.items [] (inputs network rs) t.states.items made) (sym one) served;
   records = records;

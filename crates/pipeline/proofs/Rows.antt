@@ -1,7 +1,7 @@
 -- What feeding does to the state of a row.
 use Rattle.std.proofs.Common.{◌≡◌, ℕ, zero, suc, ◌+◌, ◌<◌, get_or, arith, List, [], ◌∷◌, ◌++◌, true, length, refl, sym, ap, subst, ◌∙◌}
 use Rattle.std.proofs.Math.Seq.{drop-append_seam}
-use Rattle.std.specs.Prelude.{Option, None, flat_map}
+use Rattle.std.specs.Prelude.{Option, flat_map}
 use Rattle.entry_model.specs.LogRecord.{LogRecord}
 use Rattle.graph_core.specs.Traces.{network_of, start_states, states_after, outputs, inputs}
 use Rattle.graph_core.specs.declared.NodeSpec.{NodeSpec}
@@ -18,13 +18,16 @@ use Rattle.pipeline.specs.AsRules.{rules_of}
 use Rattle.pipeline.specs.Entries.{records_behind}
 use Rattle.pipeline.specs.Fed.{Fed}
 use Rattle.pipeline.specs.GraphOutput.{kept_from, given_from}
+use Rattle.pipeline.specs.Origin.{origin_of}
 use Rattle.pipeline.specs.Parts.{settings_of, network}
 use Rattle.pipeline.specs.RowStates.{IsStateOfRow, TakesTokens}
 use Rattle.pipeline.specs.Tokens.{tokens_of}
 use Rattle.pipeline.specs.declared.Pipeline.{Pipeline}
 use Rattle.pipeline.specs.declared.state.FileState.{FileState}
 use Rattle.standing.specs.Marks.{Mark, numbered}
+use Rattle.standing.specs.Poll.{Poll}
 use Rattle.standing.specs.Rows.{Row}
+use Rattle.standing.specs.Rules.{Rules}
 use Rattle.state_codec.proofs.Numbers.{IsBytes, bytes_after}
 
 -- the law of lines in a row, as the crate that makes them states it
@@ -33,14 +36,14 @@ pub record RowLines : Type 0 where
   pub more : (id number : ℕ) (observed : Option ℕ) (first : LogRecord) (rest : List LogRecord)
       → output_lines id number observed (first ∷ rest) ≡ output_line id number observed first ++ output_lines id (number + 1) observed rest
 
-marks_are_lines : RowLines → (id number : ℕ) (made : List LogRecord) → output_lines id number None made ≡ flat_map (λ (mark : Mark). output_line mark.id mark.number None mark.entry) (numbered id number made)
-marks_are_lines laws id number [] = laws.none id number None
-marks_are_lines laws id number (first ∷ rest) = laws.more id number None first rest ∙ ap (λ t. output_line id number None first ++ t) (marks_are_lines laws id (number + 1) rest)
+marks_are_lines : RowLines → (id number : ℕ) (time : Option ℕ) (made : List LogRecord) → output_lines id number time made ≡ flat_map (λ (mark : Mark). output_line mark.id mark.number mark.observed mark.entry) (numbered id number time made)
+marks_are_lines laws id number time [] = laws.none id number time
+marks_are_lines laws id number time (first ∷ rest) = laws.more id number time first rest ∙ ap (λ t. output_line id number time first ++ t) (marks_are_lines laws id (number + 1) time rest)
 
-pub row_fed : RowLines → (pipeline : Pipeline) (settings_text bytes : List ℕ) (row : Row) (before after : FileState) (out_before out_after : List ℕ) → IsStateOfRow pipeline row before
-    → Fed (settings_of pipeline) (network pipeline) row.id row.path (tokens_of (settings_of pipeline) bytes) before after out_before out_after
-    → TakesTokens pipeline (rules_of settings_text pipeline) bytes row after out_before out_after
-row_fed laws pipeline settings_text bytes row before after out_before out_after is went =
+pub row_fed : RowLines → (pipeline : Pipeline) (settings_text bytes : List ℕ) (poll : Poll) (row : Row) (before after : FileState) (out_before out_after : List ℕ) → poll.rules ≡ rules_of settings_text pipeline → IsStateOfRow pipeline row before
+    → Fed (settings_of pipeline) (network pipeline) (origin_of row.id row.path poll.stamp) (tokens_of (settings_of pipeline) bytes) before after out_before out_after
+    → TakesTokens pipeline poll bytes row after out_before out_after
+row_fed laws pipeline settings_text bytes poll row before after out_before out_after rules is went =
     let settings = settings_of pipeline in
     let nodes = pipeline.graph in
     let net = network pipeline in
@@ -55,7 +58,9 @@ row_fed laws pipeline settings_text bytes row before after out_before out_after 
     ∙ ap (λ (ks : List Kept). states_after net ks (inputs net (records_behind settings row.path row.records tokens))) begun in
     let kinds_then : AreOfKinds nodes after.states.items =
     subst (AreOfKinds nodes) (sym went.served.states) (kinds_kept nodes before.states.items (inputs net (records_behind settings row.path before.records tokens)) is.states.kinds) in
-    record {
+    let by_rules : Poll = record { rules = rules_of settings_text pipeline; era = poll.era; first = poll.first; stamp = poll.stamp } in
+    let same : by_rules ≡ poll = ap (λ (r : Rules). let p : Poll = record { rules = r; era = poll.era; first = poll.first; stamp = poll.stamp } in p) (sym rules) in
+    subst (λ (p : Poll). TakesTokens pipeline p bytes row after out_before out_after) same (record {
       state = record {
         states = record { kinds = kinds_then; told = ap state_text (sym kept) };
         records_are = went.records ∙ ap (λ n. n + length tokens) is.records_are;
@@ -64,9 +69,9 @@ row_fed laws pipeline settings_text bytes row before after out_before out_after 
       written =
           went.written
           ∙ ap (λ t. out_before ++ t)
-          (ap (λ n. output_lines row.id (n + 1) None went.made) is.lines_are ∙ ap (λ (m : List LogRecord). output_lines row.id (row.lines + 1) None m) given
-          ∙ marks_are_lines laws row.id (row.lines + 1) (given_from settings net row.path row.records from tokens));
-    }
+          (ap (λ n. output_lines row.id (n + 1) poll.stamp went.made) is.lines_are ∙ ap (λ (m : List LogRecord). output_lines row.id (row.lines + 1) poll.stamp m) given
+          ∙ marks_are_lines laws row.id (row.lines + 1) poll.stamp (given_from settings net row.path row.records from tokens));
+    })
 
 -- ---- the first states
 

@@ -71,19 +71,22 @@ of_64_bits entry is =
 pub record FitsWhole (mark : Mark) : Type 0 where
   pub id : mark.id < 2 ^ 64
   pub number : mark.number < 2 ^ 64
+  pub time : IsTime mark.observed
   pub entry : IsOf64Bits mark.entry
 
 pub fits_whole : (mark : Mark) → fits mark ≡ true → FitsWhole mark
 fits_whole mark is =
     let id = both (nat_lt mark.id (2 ^ 64)) _ is in
     let number = both (nat_lt mark.number (2 ^ 64)) _ id.1 in
-    record { id = ltb-true mark.id (2 ^ 64) id.0; number = ltb-true mark.number (2 ^ 64) number.0; entry = of_64_bits mark.entry number.1 }
+    let observed = both (is_time mark.observed) _ number.1 in
+    record { id = ltb-true mark.id (2 ^ 64) id.0; number = ltb-true mark.number (2 ^ 64) number.0; time = time mark.observed observed.0; entry = of_64_bits mark.entry observed.1 }
 
-pub same_mark : (mark other : Mark) → mark.id ≡ other.id → mark.number ≡ other.number → mark.entry ≡ other.entry → mark ≡ other
-same_mark mark other id number entry =
-    ap (λ i. let m : Mark = record { id = i; number = mark.number; entry = mark.entry } in m) id
-    ∙ ap (λ n. let m : Mark = record { id = other.id; number = n; entry = mark.entry } in m) number
-    ∙ ap (λ (e : LogRecord). let m : Mark = record { id = other.id; number = other.number; entry = e } in m) entry
+pub same_mark : (mark other : Mark) → mark.id ≡ other.id → mark.number ≡ other.number → mark.observed ≡ other.observed → mark.entry ≡ other.entry → mark ≡ other
+same_mark mark other id number observed entry =
+    ap (λ i. let m : Mark = record { id = i; number = mark.number; observed = mark.observed; entry = mark.entry } in m) id
+    ∙ ap (λ n. let m : Mark = record { id = other.id; number = n; observed = mark.observed; entry = mark.entry } in m) number
+    ∙ ap (λ (t : Option ℕ). let m : Mark = record { id = other.id; number = other.number; observed = t; entry = mark.entry } in m) observed
+    ∙ ap (λ (e : LogRecord). let m : Mark = record { id = other.id; number = other.number; observed = other.observed; entry = e } in m) entry
 
 -- ---- states
 

@@ -14,6 +14,7 @@ use Rattle.otlp_json.specs.Template.{numbered, text_record}
 use Rattle.otlp_json.specs.declared.template.Template.{Template}
 use Rattle.pipeline.specs.Entries.{with_asked, file_attributes, attributes_at, record_with, text_of}
 use Rattle.pipeline.specs.Fed.{Fed}
+use Rattle.pipeline.specs.Origin.{Origin}
 use Rattle.pipeline.specs.Parts.{settings_of, network, HaveKinds}
 use Rattle.pipeline.specs.Sources.{number_name, IsSource}
 use Rattle.pipeline.specs.declared.Pipeline.{Pipeline}
@@ -66,24 +67,24 @@ one_line none more = record {
       more id number observed item [] ∙ ap (λ t. output_line id number observed item ++ t) (none id (number + 1) observed) ∙ append-nil (output_line id number observed item);
 }
 
-pub text_fed : (pipeline : Pipeline) (id : ℕ) (path token text : List ℕ) (template : Template) (s t : FileState) (o r : List ℕ) → OneLine
-    → IsSource pipeline id path (Lines template) → HaveKinds pipeline s.states.items → text ≡ text_of (settings_of pipeline) token → 0 < length text
+pub text_fed : (pipeline : Pipeline) (origin : Origin) (token text : List ℕ) (template : Template) (s t : FileState) (o r : List ℕ) → OneLine
+    → IsSource pipeline origin (Lines template) → HaveKinds pipeline s.states.items → text ≡ text_of (settings_of pipeline) token → 0 < length text
     → t.records ≡ s.records + 1 → t.lines ≡ s.lines + 1 → t.states.items ≡ s.states.items
-    → r ≡ o ++ output_line id (s.lines + 1) None (text_record (settings_of pipeline).resource (numbered (number_name (settings_of pipeline)) (s.records + 1) (file_attributes (settings_of pipeline) path)) text)
-    → Fed (settings_of pipeline) (network pipeline) id path (token ∷ []) s t o r
-text_fed pipeline id path token text template s t o r one is have text_is some records lines states written =
+    → r ≡ o ++ output_line origin.id (s.lines + 1) origin.time (text_record (settings_of pipeline).resource (numbered (number_name (settings_of pipeline)) (s.records + 1) (file_attributes (settings_of pipeline) origin.path)) text)
+    → Fed (settings_of pipeline) (network pipeline) origin (token ∷ []) s t o r
+text_fed pipeline origin token text template s t o r one is have text_is some records lines states written =
     let settings = settings_of pipeline in
-    let item = record_with settings path (s.records + 1) (text_of settings token) in
-    let told : text_record settings.resource (numbered (number_name settings) (s.records + 1) (file_attributes settings path)) text ≡ item =
-    record_of_text settings path (s.records + 1) text ∙ ap (record_with settings path (s.records + 1)) text_is in
-    one_fed settings (network pipeline) id path token item (item ∷ []) s t o r
-    (record_one settings path s.records token (subst (λ (body : List ℕ). 0 < length body) text_is some))
+    let item = record_with settings origin.path (s.records + 1) (text_of settings token) in
+    let told : text_record settings.resource (numbered (number_name settings) (s.records + 1) (file_attributes settings origin.path)) text ≡ item =
+    record_of_text settings origin.path (s.records + 1) text ∙ ap (record_with settings origin.path (s.records + 1)) text_is in
+    one_fed settings (network pipeline) origin token item (item ∷ []) s t o r
+    (record_one settings origin.path s.records token (subst (λ (body : List ℕ). 0 < length body) text_is some))
     (subst (λ (after : List Kept). Served (network pipeline) s.states.items [] (inputs (network pipeline) (item ∷ [])) after (item ∷ [])) (sym states) (through_none pipeline.graph s.states.items item is.0 have))
     records lines
-    (written ∙ ap (λ line. o ++ line) (ap (output_line id (s.lines + 1) None) told ∙ sym (one.lines id (s.lines + 1) None item)))
+    (written ∙ ap (λ line. o ++ line) (ap (output_line origin.id (s.lines + 1) origin.time) told ∙ sym (one.lines origin.id (s.lines + 1) origin.time item)))
 
 -- a line is no fewer bytes than one
-pub line_counted : (id number : ℕ) (item : LogRecord) (o r : List ℕ) (before after : ℕ) → IsOneLine (output_line id number None item) → r ≡ o ++ output_line id number None item → after ≡ before + 1
+pub line_counted : (id number : ℕ) (time : Option ℕ) (item : LogRecord) (o r : List ℕ) (before after : ℕ) → IsOneLine (output_line id number time item) → r ≡ o ++ output_line id number time item → after ≡ before + 1
     → after + length o ≤ before + length r
-line_counted id number item o r before after one written counted =
-    omega (arith, counted, ap length written, length-append o (output_line id number None item), ap length one.ends, length-append one.content (10 ∷ []))
+line_counted id number time item o r before after one written counted =
+    omega (arith, counted, ap length written, length-append o (output_line id number time item), ap length one.ends, length-append one.content (10 ∷ []))

@@ -2,7 +2,9 @@
 use Rattle.std.specs.Prelude.{ℕ, ◌^◌, ℤ, pos, negsuc, List, Bool, true, false, ◌&&◌, nat_lt, Option, None, Some}
 use Rattle.entry_model.specs.Datum.{Datum, null, boolean, int, text, list, fields, Items, no_items, item, Members, no_members, member}
 use Rattle.entry_model.specs.LogRecord.{LogRecord}
-use Rattle.graph_core.specs.Traces.{start_states}
+use Rattle.graph_core.specs.Traces.{start_states, outputs, closings}
+use Rattle.idle_flush.specs.Rests.{rest_cuts}
+use Rattle.line_splitter.specs.Cuts.{texts}
 use Rattle.otlp_json.specs.OutputLine.{output_line}
 use Rattle.op_kinds.specs.StateTexts.{states_in, state_text, is_state_text}
 use Rattle.op_kinds.specs.States.{states_spelling, kinds_of}
@@ -47,7 +49,7 @@ is_of_64_bits entry =
     has_integers entry.body && (members_have_integers entry.attributes && (members_have_integers entry.resource && (is_time entry.timestamp && nat_lt entry.severity (2 ^ 64))))
 
 abbrev pub fits : Mark → Bool
-fits mark = nat_lt mark.id (2 ^ 64) && (nat_lt mark.number (2 ^ 64) && is_of_64_bits mark.entry)
+fits mark = nat_lt mark.id (2 ^ 64) && (nat_lt mark.number (2 ^ 64) && (is_time mark.observed && is_of_64_bits mark.entry))
 
 -- ---- the rules
 
@@ -63,12 +65,16 @@ rules_of settings_text pipeline = record {
   cuts = cuts_of (settings_of pipeline);
   made = λ path before state tokens. given_from (settings_of pipeline) (network pipeline) path before (states_in (kinds_of pipeline.graph) state) tokens;
   state_after = λ path before state tokens. state_text (kept_from (settings_of pipeline) (network pipeline) path before (states_in (kinds_of pipeline.graph) state) tokens);
+  rest = λ bytes. texts (rest_cuts (settings_of pipeline).max_log_size bytes);
+  closed = λ state. outputs (network pipeline) (states_in (kinds_of pipeline.graph) state) (closings (network pipeline));
   fresh = states_spelling (start_states (network pipeline));
   is_state = is_state_text (kinds_of pipeline.graph);
-  line = λ mark. output_line mark.id mark.number None mark.entry;
+  line = λ mark. output_line mark.id mark.number mark.observed mark.entry;
   fits = fits;
   include = pipeline.include.items;
   exclude = pipeline.exclude.items;
   front_size = (settings_of pipeline).fingerprint_size;
   from_end = begins_at_end (settings_of pipeline).start_at;
+  stamps = (settings_of pipeline).include_observed_time;
+  flush_after = 0;
 }

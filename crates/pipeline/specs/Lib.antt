@@ -9,6 +9,7 @@ pub mod Globs
 pub mod BuildFaults
 pub mod Parts
 pub mod GraphOutput
+pub mod Origin
 pub mod Fed
 pub mod AsRules
 pub mod RowStates

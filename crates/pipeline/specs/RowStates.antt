@@ -4,8 +4,9 @@ use Rattle.op_kinds.specs.StateTexts.{Tells}
 use Rattle.pipeline.specs.declared.Pipeline.{Pipeline}
 use Rattle.pipeline.specs.declared.state.FileState.{FileState}
 use Rattle.standing.specs.Look.{fed, lines_of}
+use Rattle.standing.specs.Poll.{Poll}
 use Rattle.standing.specs.Rows.{Row}
-use Rattle.standing.specs.Rules.{Rules, output_text}
+use Rattle.standing.specs.Rules.{output_text}
 
 -- they stand in memory
 abbrev pub AreBytes : List ℕ → Type 0
@@ -20,8 +21,8 @@ pub record IsStateOf (pipeline : Pipeline) (records lines : ℕ) (text : List �
 abbrev pub IsStateOfRow : Pipeline → Row → FileState → Type 0
 IsStateOfRow pipeline row state = IsStateOf pipeline row.records row.lines row.state state
 
--- The row goes on as the rules say of the tokens of these bytes: the state is that of the row which has taken them, and their
+-- The row goes on as the poll's rules say of the tokens of these bytes: the state is that of the row which has taken them, and their
 -- lines were appended.
-pub record TakesTokens (pipeline : Pipeline) (rules : Rules) (bytes : List ℕ) (row : Row) (after : FileState) (out_before out_after : List ℕ) : Type 0 where
-  pub state : IsStateOfRow pipeline (fed rules bytes row) after
-  pub written : out_after ≡ out_before ++ output_text rules (lines_of rules bytes row)
+pub record TakesTokens (pipeline : Pipeline) (poll : Poll) (bytes : List ℕ) (row : Row) (after : FileState) (out_before out_after : List ℕ) : Type 0 where
+  pub state : IsStateOfRow pipeline (fed poll.rules bytes row) after
+  pub written : out_after ≡ out_before ++ output_text poll.rules (lines_of poll bytes row)

@@ -69,6 +69,13 @@ impl Pipeline {
         &self.exclude
     }
 
+    /// Whether each line has the time at which it was made.
+    pub fn stamps(&self) -> bool
+        ensures { result ≡ (settings_of self.now).include_observed_time }
+    {
+        self.settings.include_observed_time
+    }
+
     /// The state of a file of which nothing was taken.
     pub fn fresh(&self, alloc: Global) -> Result<FileState, AllocError>
         ensures stands { IfOk result (λ state. (path : _) → StandsFor (settings_of self.now) (network self.now) path [] state) }

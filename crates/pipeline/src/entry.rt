@@ -9,6 +9,7 @@ ghost use Rattle.entry_model.specs.LogRecord.{log_record};
 ghost use Rattle.field_paths.specs.MapOf.{members_seen};
 ghost use Rattle.field_paths.specs.Members.{with_member};
 ghost use Rattle.pipeline.specs.Entries.{base_name, with_asked, file_attributes, attributes_at, record_with};
+ghost use Rattle.pipeline.specs.Origin.{Origin};
 ghost use Rattle.pipeline.specs.Parts.{settings_of};
 ghost use Rattle.pipeline.specs.Sources.{IsShared};
 
@@ -56,8 +57,8 @@ impl Pipeline {
         number: u64,
     ) -> Result<Fields, AllocError>
         requires { number ≤ 2 ^ 62 }
-        ensures { IfOk result (λ members. (id : ℕ) (path : List ℕ) → IsShared (settings_of self.now) id path shared.now
-            → members_seen members.entries ≡ attributes_at (settings_of self.now) path number) }
+        ensures { IfOk result (λ members. (origin : Origin) → IsShared (settings_of self.now) origin shared.now
+            → members_seen members.entries ≡ attributes_at (settings_of self.now) origin.path number) }
     {
         let attributes = copy_fields(alloc, &shared.attributes)?;
         let Some(name) = &shared.number else {
@@ -75,8 +76,8 @@ impl Pipeline {
         body: String,
     ) -> Result<Entry, AllocError>
         requires { number ≤ 2 ^ 62 }
-        ensures { IfOk result (λ entry. (id : ℕ) (path : List ℕ) → IsShared (settings_of self.now) id path shared.now
-            → log_record entry ≡ record_with (settings_of self.now) path number (string_bytes body)) }
+        ensures { IfOk result (λ entry. (origin : Origin) → IsShared (settings_of self.now) origin shared.now
+            → log_record entry ≡ record_with (settings_of self.now) origin.path number (string_bytes body)) }
     {
         Ok(Entry {
             body: Value::Text(Text::new(body)?),

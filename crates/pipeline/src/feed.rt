@@ -1,5 +1,5 @@
 // From bytes to lines.
-ghost use Rattle.std.specs.Prelude.{◌≡◌, ℕ, ◌+◌, ◌-◌, ◌^◌, ◌≤◌, [], ◌∷◌, ◌++◌, List, length, string_bytes, Option, None, OnOk, IfOk};
+ghost use Rattle.std.specs.Prelude.{◌≡◌, ℕ, ◌+◌, ◌-◌, ◌^◌, ◌≤◌, [], ◌∷◌, ◌++◌, List, length, string_bytes, Option, OnOk, IfOk};
 ghost use Rattle.entry_model.specs.Datum.{Members};
 ghost use Rattle.graph_core.specs.Traces.{inputs, Served};
 ghost use Rattle.otlp_json.specs.OutputLine.{output_line};
@@ -9,6 +9,7 @@ ghost use Rattle.pipeline.specs.Entries.{records_behind, record_with};
 ghost use Rattle.pipeline.specs.Fed.{Fed, GoesOn};
 ghost use Rattle.pipeline.specs.GraphOutput.{StandsFor};
 ghost use Rattle.pipeline.specs.NextToken.{IsNext};
+ghost use Rattle.pipeline.specs.Origin.{Origin, origin_of};
 ghost use Rattle.pipeline.specs.Parts.{settings_of, network, HaveKinds};
 ghost use Rattle.pipeline.specs.Sources.{IsShared, IsSource};
 ghost use Rattle.line_splitter.specs.Cuts.{cuts, texts, used_by};
@@ -38,14 +39,16 @@ pub(crate) enum Cutting {
 
 impl Pipeline {
     /// Takes the tokens of the bytes, appends the lines of what comes out, and answers how many bytes the tokens used.
-    /// `id` and `path` are the file's. The state has one state for each operator, of its kind, and keeps them so. After want
-    /// of memory nothing is said of the state and of what was appended.
+    /// `id` and `path` are the file's, and `observed` is the time of the lines in nanoseconds since 1970, where they have one.
+    /// The state has one state for each operator, of its kind, and keeps them so. After want of memory nothing is said of the
+    /// state and of what was appended.
     pub fn feed(
         &self,
         alloc: Global,
         state: &mut FileState,
         id: u32,
         path: &str,
+        observed: Option<u64>,
         bytes: &[u8],
         out: &mut Vec<u8>,
     ) -> Result<usize, AllocError>
@@ -55,7 +58,7 @@ impl Pipeline {
         ensures used { IfOk result (λ count. count ≡ used_of (settings_of self.now) bytes.now) }
 
         // From any state.
-        ensures fed { OnOk result (Fed (settings_of self.now) (network self.now) id path.now
+        ensures fed { OnOk result (Fed (settings_of self.now) (network self.now) (origin_of id path.now observed)
             (tokens_of (settings_of self.now) bytes.now) state.old state.new out.old.items out.new.items) }
         ensures records { OnOk result (state.new.records ≤ state.old.records + used_of (settings_of self.now) bytes.now) }
         ensures lines { OnOk result (state.new.lines + length out.old.items ≤ state.old.lines + length out.new.items) }
@@ -65,12 +68,13 @@ impl Pipeline {
         // From a state that stands for the tokens before.
         ensures goes_on { OnOk result ((earlier : List (List ℕ))
             → StandsFor (settings_of self.now) (network self.now) path.now earlier state.old
-            → GoesOn (settings_of self.now) (network self.now) id path.now earlier
+            → GoesOn (settings_of self.now) (network self.now) (origin_of id path.now observed) earlier
             (tokens_of (settings_of self.now) bytes.now) state.new out.old.items out.new.items) }
     {
         graph::begin(&self.graph);
         graph::go_on(&self.graph);
-        self.feed_by(alloc, state, id, path, Cutting::Whole, bytes, out)
+        let source = self.source(alloc, id, path, observed)?;
+        self.feed_by(alloc, state, &source, Cutting::Whole, bytes, out)
     }
 
     // Takes these tokens of the bytes, and answers how many bytes they used.
@@ -78,18 +82,19 @@ impl Pipeline {
         &self,
         alloc: Global,
         state: &mut FileState,
-        id: u32,
-        path: &str,
+        source: &Source,
         cutting: Cutting,
         bytes: &[u8],
         out: &mut Vec<u8>,
     ) -> Result<usize, AllocError>
+        requires source { (origin : Origin) × IsSource self.now origin source.now }
         requires states { HaveKinds self.now state.old.states.items }
         requires lines { state.old.lines ≤ 2 ^ 40 + length out.old.items }
         requires records { state.old.records + length bytes.now ≤ 2 ^ 62 }
         ensures used { IfOk result (λ count. count ≡ used_by (cuts (rule_of (settings_of self.now) cutting) bytes.now)) }
         ensures within { IfOk result (λ count. count ≤ length bytes.now) }
-        ensures fed { OnOk result (Fed (settings_of self.now) (network self.now) id path.now
+        ensures fed { OnOk result ((origin : Origin) → IsSource self.now origin source.now
+            → Fed (settings_of self.now) (network self.now) origin
             (texts (cuts (rule_of (settings_of self.now) cutting) bytes.now)) state.old state.new out.old.items out.new.items) }
         ensures records { IfOk result (λ count. state.new.records ≤ state.old.records + count) }
         ensures lines { OnOk result (state.new.lines + length out.old.items ≤ state.old.lines + length out.new.items) }
@@ -99,12 +104,11 @@ impl Pipeline {
         graph::begin(&self.graph);
         graph::go_on(&self.graph);
         lines_append();
-        let source = self.source(alloc, id, path)?;
         let mut buffers = Buffers::new(alloc);
         let mut at = 0;
         while let Some(token) = self.next_token(alloc, cutting, &bytes[at..])? {
             let text = &bytes[at..][token.from..token.to];
-            self.feed_token(alloc, state, &source, &mut buffers, text, out)?;
+            self.feed_token(alloc, state, source, &mut buffers, text, out)?;
             at += token.after;
         }
         Ok(at)
@@ -139,9 +143,9 @@ impl Pipeline {
         requires lines { state.old.lines ≤ 2 ^ 40 + length out.old.items }
         requires records { state.old.records + 1 ≤ 2 ^ 62 }
         requires empty { buffers.old.emitted.items ≡ [] }
-        ensures fed { OnOk result ((id : ℕ) (path : List ℕ) → IsSource self.now id path source.now
-            → Fed (settings_of self.now) (network self.now) id path (token.now ∷ []) state.old state.new out.old.items out.new.items) }
-        ensures lines { OnOk result ((id : ℕ) (path : List ℕ) → IsSource self.now id path source.now
+        ensures fed { OnOk result ((origin : Origin) → IsSource self.now origin source.now
+            → Fed (settings_of self.now) (network self.now) origin (token.now ∷ []) state.old state.new out.old.items out.new.items) }
+        ensures lines { OnOk result ((origin : Origin) → IsSource self.now origin source.now
             → state.new.lines + length out.old.items ≤ state.old.lines + length out.new.items) }
         ensures records { OnOk result (state.new.records ≡ state.old.records + 1) }
         ensures states { OnOk result (HaveKinds self.now state.new.states.items) }
@@ -168,9 +172,9 @@ impl Pipeline {
         requires states { HaveKinds self.now state.old.states.items }
         requires lines { state.old.lines ≤ 2 ^ 40 + length out.old.items }
         requires records { state.old.records + 1 ≤ 2 ^ 62 }
-        ensures fed { OnOk result ((id : ℕ) (path : List ℕ) → IsSource self.now id path (Lines template.now)
-            → Fed (settings_of self.now) (network self.now) id path (token.now ∷ []) state.old state.new out.old.items out.new.items) }
-        ensures lines { OnOk result ((id : ℕ) (path : List ℕ) → IsSource self.now id path (Lines template.now)
+        ensures fed { OnOk result ((origin : Origin) → IsSource self.now origin (Lines template.now)
+            → Fed (settings_of self.now) (network self.now) origin (token.now ∷ []) state.old state.new out.old.items out.new.items) }
+        ensures lines { OnOk result ((origin : Origin) → IsSource self.now origin (Lines template.now)
             → state.new.lines + length out.old.items ≤ state.old.lines + length out.new.items) }
         ensures records { OnOk result (state.new.records ≡ state.old.records + 1) }
         ensures states { state.new.states.items ≡ state.old.states.items }
@@ -205,8 +209,8 @@ impl Pipeline {
         requires lines { state.old.lines ≤ 2 ^ 40 + length out.old.items }
         requires records { state.old.records + 1 ≤ 2 ^ 62 }
         requires empty { buffers.old.emitted.items ≡ [] }
-        ensures fed { OnOk result ((id : ℕ) (path : List ℕ) → IsShared (settings_of self.now) id path shared.now
-            → Fed (settings_of self.now) (network self.now) id path (token.now ∷ []) state.old state.new out.old.items out.new.items) }
+        ensures fed { OnOk result ((origin : Origin) → IsShared (settings_of self.now) origin shared.now
+            → Fed (settings_of self.now) (network self.now) origin (token.now ∷ []) state.old state.new out.old.items out.new.items) }
         ensures lines { OnOk result (state.new.lines + length out.old.items ≤ state.old.lines + length out.new.items) }
         ensures records { OnOk result (state.new.records ≡ state.old.records + 1) }
         ensures states { OnOk result (HaveKinds self.now state.new.states.items) }
@@ -226,7 +230,7 @@ impl Pipeline {
         let (emitted, made) = (&mut buffers.emitted, &mut buffers.made);
         self.graph
             .push_by(alloc, &mut state.states, item, emitted, made)?;
-        append_lines(&shared.scope, &mut state.lines, made, out)?;
+        append_lines(&shared.scope, shared.observed, &mut state.lines, made, out)?;
         Ok(())
     }
 }
@@ -239,8 +243,8 @@ fn append_text(
     out: &mut Vec<u8>,
 ) -> Result<(), AllocError>
     requires { state.old.lines ≤ 2 ^ 40 + length out.old.items }
-    ensures line { OnOk result ((id : ℕ) (resource attributes : Members) (name : Option (List ℕ)) → IsTemplate id None resource attributes name template.now
-        → out.new.items ≡ out.old.items ++ output_line id (state.old.lines + 1) None (text_record resource (numbered name state.old.records attributes) text.now)) }
+    ensures line { OnOk result ((id : ℕ) (time : Option ℕ) (resource attributes : Members) (name : Option (List ℕ)) → IsTemplate id time resource attributes name template.now
+        → out.new.items ≡ out.old.items ++ output_line id (state.old.lines + 1) time (text_record resource (numbered name state.old.records attributes) text.now)) }
     ensures lines { OnOk result (state.new.lines ≡ state.old.lines + 1) }
     ensures records { state.new.records ≡ state.old.records }
     ensures states { state.new.states.items ≡ state.old.states.items }
@@ -252,20 +256,21 @@ fn append_text(
 // Appends the lines of the records, and counts them.
 pub(crate) fn append_lines(
     scope: &Scope,
+    observed: Option<u64>,
     lines: &mut u64,
     made: &[Record],
     out: &mut Vec<u8>,
 ) -> Result<(), AllocError>
     requires { lines.old ≤ 2 ^ 40 + length out.old.items }
     ensures lines { OnOk result (lines.new ≡ lines.old + length made.now) }
-    ensures written { OnOk result (out.new.items ≡ out.old.items ++ output_lines scope.now (lines.old + 1) None made.now) }
+    ensures written { OnOk result (out.new.items ≡ out.old.items ++ output_lines scope.now (lines.old + 1) observed made.now) }
     ensures within { OnOk result (lines.new + length out.old.items ≤ lines.old + length out.new.items) }
 {
     lines_append();
     line_is_one_line();
     for record in made {
         *lines += 1;
-        scope.line(*lines, None, record.entry(), out)?;
+        scope.line(*lines, observed, record.entry(), out)?;
     }
     Ok(())
 }

@@ -9,6 +9,7 @@ ghost use Rattle.op_kinds.specs.States.{states_spelling, kinds_of, Spell, SpellN
 ghost use Rattle.pipeline.specs.AsRules.{rules_of};
 ghost use Rattle.pipeline.specs.Fed.{Fed};
 ghost use Rattle.pipeline.specs.GraphOutput.{graph_output, kept_from, given_from};
+ghost use Rattle.pipeline.specs.Origin.{origin_of};
 ghost use Rattle.pipeline.specs.Parts.{settings_of, network};
 ghost use Rattle.pipeline.specs.RowStates.{AreBytes, IsStateOfRow, TakesTokens};
 ghost use Rattle.pipeline.specs.Tokens.{first_cut_of, tokens_of, used_of};
@@ -17,6 +18,7 @@ ghost use Rattle.settings_text.specs.Limits.{KeepsLimits};
 ghost use Rattle.settings_text.specs.declared.settings.OpSpec.{OpSpec};
 ghost use Rattle.pipeline.specs.declared.state.FileState.{FileState};
 ghost use Rattle.standing.specs.AreRules.{AreRules};
+ghost use Rattle.standing.specs.Poll.{Poll};
 ghost use Rattle.standing.specs.Rows.{Row};
 ghost use Rattle.standing.specs.Tokens.{used};
 
@@ -74,10 +76,10 @@ pub fn go_on(pipeline: &Pipeline)
 /// the tokens use as many bytes, the state is that of the row which has taken them, and their lines were appended.
 pub fn a_row_is_fed_by_the_rules(pipeline: &Pipeline)
     ensures used { (settings_text bytes : List ℕ) → used (rules_of settings_text pipeline.now) bytes ≡ used_of (settings_of pipeline.now) bytes }
-    ensures fed { (settings_text bytes : List ℕ) (row : Row) (before after : FileState) (out_before out_after : List ℕ)
-        → IsStateOfRow pipeline.now row before
-        → Fed (settings_of pipeline.now) (network pipeline.now) row.id row.path (tokens_of (settings_of pipeline.now) bytes) before after out_before out_after
-        → TakesTokens pipeline.now (rules_of settings_text pipeline.now) bytes row after out_before out_after }
+    ensures fed { (settings_text bytes : List ℕ) (poll : Poll) (row : Row) (before after : FileState) (out_before out_after : List ℕ)
+        → poll.rules ≡ rules_of settings_text pipeline.now → IsStateOfRow pipeline.now row before
+        → Fed (settings_of pipeline.now) (network pipeline.now) (origin_of row.id row.path poll.stamp) (tokens_of (settings_of pipeline.now) bytes) before after out_before out_after
+        → TakesTokens pipeline.now poll bytes row after out_before out_after }
 {
     lines_append();
 }

@@ -1,5 +1,6 @@
 // What is made of a file before its tokens are taken.
 ghost use Rattle.std.specs.Prelude.{◌≡◌, IfOk};
+ghost use Rattle.pipeline.specs.Origin.{origin_of};
 ghost use Rattle.pipeline.specs.Parts.{settings_of};
 ghost use Rattle.pipeline.specs.Sources.{number_name, IsSource};
 
@@ -33,11 +34,19 @@ pub(crate) struct Shared {
     /// The attribute that has a record's number, where one is asked for.
     pub(crate) number: Option<Text>,
     pub(crate) scope: Scope,
+    /// The time that the lines have, in nanoseconds since 1970.
+    pub(crate) observed: Option<u64>,
 }
 
 impl Pipeline {
-    pub(crate) fn source(&self, alloc: Global, id: u32, path: &str) -> Result<Source, AllocError>
-        ensures { IfOk result (IsSource self.now id path.now) }
+    pub(crate) fn source(
+        &self,
+        alloc: Global,
+        id: u32,
+        path: &str,
+        observed: Option<u64>,
+    ) -> Result<Source, AllocError>
+        ensures { IfOk result (IsSource self.now (origin_of id path.now observed)) }
     {
         let attributes = self.file_attributes(alloc, path)?;
         let number = self.number_name(alloc)?;
@@ -47,10 +56,11 @@ impl Pipeline {
                 attributes,
                 number,
                 scope,
+                observed,
             }));
         }
         let resource = self.settings.resource.as_fields();
-        let template = Template::new(alloc, id, None, resource, attributes, number)?;
+        let template = Template::new(alloc, id, observed, resource, attributes, number)?;
         Ok(Source::Lines(template))
     }
 

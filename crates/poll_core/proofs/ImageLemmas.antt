@@ -16,8 +16,8 @@ use Rattle.record_log.proofs.LogLaws.{one_log}
 use Rattle.record_log.specs.LogOf.{HasLog}
 use Rattle.record_log.specs.declared.log.Log.{Log}
 use Rattle.slot_store.specs.ChosenSlot.{chosen_slot}
+use Rattle.standing.specs.Eras.{Eras}
 use Rattle.standing.specs.Rows.{Checkpoint}
-use Rattle.standing.specs.Rules.{Rules}
 use Rattle.standing.specs.Standing.{Found, nothing, damaged, found, kept, Sound, Standing}
 
 -- ---- an image has one thing
@@ -55,7 +55,6 @@ module _ {old new : Image DiskFile} (keeps : KeepsLogs old new) where
     base = has.base;
     records = has.records;
     log_is = keeps.log_is (log_of journal) has.base has.records has.log_is;
-    version_is = has.version_is;
     says = has.says;
   }
 
@@ -119,20 +118,25 @@ long_enough_still old new checkpoint reopens has within =
       | inr cut ↦ omega (arith, ap length cut, length-take-le checkpoint.output_length (old Output) within)
     ]
 
-pub sound_still : (rules : Rules) (old new : Image DiskFile) (there : Found) → Reopens old new → IsFound old there → Sound rules there (old Output) → Sound rules there (new Output)
-sound_still rules old new nothing reopens has sound = tt
-sound_still rules old new damaged reopens has sound = absurd sound
-sound_still rules old new (found checkpoint) reopens has sound = record {
-  settings = sound.settings;
+pub sound_still : (eras : Eras) (old new : Image DiskFile) (there : Found) → Reopens old new → IsFound old there → Sound eras there (old Output) → Sound eras there (new Output)
+sound_still eras old new nothing reopens has sound = tt
+sound_still eras old new damaged reopens has sound = absurd sound
+sound_still eras old new (found checkpoint) reopens has sound = record {
+  texts = sound.texts;
   states = sound.states;
   ids = sound.ids;
   long_enough = long_enough_still old new checkpoint reopens has sound.long_enough;
 }
 
-pub standing_still : (rules : Rules) (history : History) (old new : Image DiskFile) (there : Found) → Reopens old new → IsFound old there → Standing rules history there (old Output) → Standing rules history there (new Output)
-standing_still rules history old new nothing reopens has stands = tt
-standing_still rules history old new damaged reopens has stands = absurd stands
-standing_still rules history old new (found checkpoint) reopens has stands = record {
-  sound = sound_still rules old new (found checkpoint) reopens has stands.sound;
-  stands = rw (kept_stays old new (found checkpoint) reopens has) stands.stands;
+pub standing_still : (eras : Eras) (history : History) (old new : Image DiskFile) (there : Found) → Reopens old new → IsFound old there → Standing eras history there (old Output) → Standing eras history there (new Output)
+standing_still eras history old new nothing reopens has stands = tt
+standing_still eras history old new damaged reopens has stands = absurd stands
+standing_still eras history old new (found checkpoint) reopens has stands = record {
+  sound = sound_still eras old new (found checkpoint) reopens has stands.sound;
+  stands = record {
+    marks = stands.stands.marks;
+    whole_lines = kept_stays old new (found checkpoint) reopens has ∙ stands.stands.whole_lines;
+    lines_stand = stands.stands.lines_stand;
+  };
+  times = stands.times;
 }

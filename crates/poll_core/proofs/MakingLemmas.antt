@@ -1,11 +1,14 @@
 -- A session is made of what was found.
 use Rattle.std.proofs.Common.{◌≡◌, ℕ, ◌<◌, ◌≤◌, List, length, Bool, true, false, Option, Some, None, Ok, Err, refl, sym, subst, arith}
 use Rattle.std.proofs.lemmas.Bool.Decides.{nat_tests}
-use Rattle.std.specs.Prelude.{nat_lt, if◌then◌else◌}
+use Rattle.std.specs.Prelude.{IfSome, nat_lt, if◌then◌else◌}
 use Rattle.checkpoint_journal.specs.JournalOf.{FoundIn, HasJournal, IsBadAt}
 use Rattle.checkpoint_journal.specs.declared.fault.JournalFault.{JournalFault}
 use Rattle.checkpoint_journal.specs.declared.fault.JournalFault.TheVariants as journal
 use Rattle.checkpoint_journal.specs.declared.journal.Journal.{Journal}
+use Rattle.checkpoint_store.proofs.Older.{newest_lawful}
+use Rattle.checkpoint_store.specs.Limits.{newest}
+use Rattle.checkpoint_store.specs.Rules.{IsCheckpoint}
 use Rattle.checkpoint_store.specs.declared.Checkpoint.{Checkpoint}
 use Rattle.outside.specs.Image.{Image}
 use Rattle.outside.specs.declared.disk.DiskFile.{DiskFile}
@@ -18,7 +21,7 @@ use Rattle.poll_core.specs.Making.{IsOfFound, IsRejected}
 use Rattle.poll_core.specs.OpenCause.{IsOfContents, journal_refusal}
 use Rattle.poll_core.specs.OpenFaults.{IsRefused, no_reading, other_settings, foreign_state, short_output}
 use Rattle.poll_core.specs.Remembers.{HasMemory, GoesOnFrom}
-use Rattle.poll_core.specs.SessionParts.{checkpoint_of_session, journal_of_session, rules_of_session, kept_of}
+use Rattle.poll_core.specs.SessionParts.{checkpoint_of_session, journal_of_session, rules_of_session, settings_of_session, kept_of}
 use Rattle.poll_core.specs.declared.fault.OpenFault.{OpenFault}
 use Rattle.poll_core.specs.declared.fault.OpenFault.TheVariants.{Settings, Build, Disk, CheckpointBad, SettingsChanged, OutputShort, Memory}
 use Rattle.poll_core.specs.declared.session.Session.{Session}
@@ -36,6 +39,11 @@ short_text text said is = by (nat_lt 1048576 (length text)) refl is
     by : (test : Bool) → nat_lt 1048576 (length text) ≡ test → (if test then Err (TooLong (length text)) else (or_fault NotJson (json_of text) >>= settings_of)) ≡ Ok said → length text ≤ 1048576
     by true long is = absurd (cc)
     by false short is = grind (arith, nat_tests)
+
+-- a checkpoint of any version can be written again
+pub found_newest : (found : Option (Journal × Checkpoint)) → IfSome found (λ known. IsCheckpoint known.0.version known.1) → IfSome found (λ known. IsCheckpoint newest known.1)
+found_newest None lawful = tt
+found_newest (Some known) lawful = newest_lawful known.0.version known.1 lawful
 
 -- ---- refusals
 
@@ -77,7 +85,7 @@ goes_on_from session image found size is has size_is enough = record {
   long_enough = omega (arith, enough, size_is);
 }
 
-pub short_refused : (text : List ℕ) (session : Session) (image : Image DiskFile) (found : Option (Journal × Checkpoint)) (size : ℕ) → IsSession session → session.settings ≡ text → IsOfFound found session → FoundIn found image → size ≡ length (image Output) → size < kept_of session → IsRefused text image (OutputShort (kept_of session) size)
+pub short_refused : (text : List ℕ) (session : Session) (image : Image DiskFile) (found : Option (Journal × Checkpoint)) (size : ℕ) → IsSession session → settings_of_session session ≡ text → IsOfFound found session → FoundIn found image → size ≡ length (image Output) → size < kept_of session → IsRefused text image (OutputShort (kept_of session) size)
 short_refused text session image None size is settings_are of_found has size_is short = absurd (omega (arith, short, of_found.1.output))
 short_refused text session image (Some found) size is settings_are of_found has size_is short =
     short_output (kept_of session) size (record {

@@ -1,7 +1,7 @@
 -- What a pass begins with, and what faults of it are for a poll.
-use Rattle.std.proofs.Common.{◌≡◌, ℕ, ◌≤◌, List, length, Err, sym, ap, subst, ◌∙◌, arith}
+use Rattle.std.proofs.Common.{◌≡◌, ℕ, ◌≤◌, List, length, Result, Ok, Err, sym, ap, subst, ◌∙◌, arith}
 use Rattle.std.specs.Prelude.{Contains}
-use Rattle.file_pass.specs.Fed.{rules_in}
+use Rattle.file_pass.specs.Fed.{poll_of, rules_in}
 use Rattle.file_pass.specs.PassCause.{HasPassCause}
 use Rattle.file_pass.specs.Sane.{AreSaneRows, IsSaneTaking}
 use Rattle.file_pass.specs.declared.counts.Counts.{Counts}
@@ -22,11 +22,12 @@ use Rattle.standing.specs.Rules.{Includes}
 use Rattle.tree_walk.specs.Walked.{Finds}
 use Rattle.tree_walk.specs.declared.walk.Walk.{Walk}
 
-pub begun_sane : (setup : Setup) (rows : List Row) (kept : ℕ) (taking : Taking) → IsBegun rows kept taking → AreSaneRows (rules_in setup) kept rows → length rows ≤ row_limit → kept ≤ setup.limit → IsSaneTaking setup taking
-begun_sane setup rows kept taking begun sane few within = record {
-  rows = subst (λ (end : ℕ). AreSaneRows (rules_in setup) end taking.tracker) (sym begun.end_is)
-      (subst (λ (r : List Row). AreSaneRows (rules_in setup) kept r) (sym begun.rows_are) sane);
+pub begun_sane : (setup : Setup) (rows : List Row) (kept : ℕ) (taking : Taking) → IsBegun rows kept taking → AreSaneRows (poll_of setup) kept rows → length rows ≤ row_limit → 1 ≤ setup.era → kept ≤ setup.limit → IsSaneTaking setup taking
+begun_sane setup rows kept taking begun sane few era within = record {
+  rows = subst (λ (end : ℕ). AreSaneRows (poll_of setup) end taking.tracker) (sym begun.end_is)
+      (subst (λ (r : List Row). AreSaneRows (poll_of setup) kept r) (sym begun.rows_are) sane);
   few = omega (arith, few, ap length begun.rows_are);
+  era = era;
   flags = begun.flags ∙ sym (ap length begun.rows_are);
   end_within = omega (arith, within, begun.end_is);
   lines = omega (arith, ap (λ (c : Counts). c.lines) begun.counts_are);
@@ -43,6 +44,9 @@ pub included_by : {T : Type 0} (trees : TreeMeaning T) (setup : Setup) (walk : W
 included_by trees setup walk tree mid paths same finds path c = finds.included path (subst (λ (ps : List (List ℕ)). Contains ps path) same c)
 
 -- ---- faults
+
+pub not_err : {S T : Type 0} (given : S) (fault : T) → ◌≡◌ {A = Result S T} (Ok given) (Err fault) → ⊥
+not_err given fault is = absurd (cc)
 
 pub full_of_pass : (fault : PassFault) (size : ℕ) → OutputFull size ≡ pass_refusal fault → fault ≡ pass.OutputFull size
 full_of_pass pass.Disk size is = absurd (cc)

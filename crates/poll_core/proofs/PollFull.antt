@@ -1,12 +1,12 @@
 -- A pass in which the output would have got too long.
-use Rattle.std.proofs.Common.{◌≡◌, ℕ, zero, suc, ◌+◌, ◌<◌, Less, List, [], ◌∷◌, ◌++◌, length, map, take, Bool, Option, None, Some, sym, ap, subst, ◌∙◌}
+use Rattle.std.proofs.Common.{◌≡◌, ℕ, zero, suc, ◌+◌, ◌<◌, Less, List, [], ◌∷◌, ◌++◌, length, map, take, Option, None, Some, sym, ap, subst, ◌∙◌}
 use Rattle.std.specs.Cmp.Lexicographic.{slice_cmp}
 use Rattle.std.specs.List.{AllByRecursion}
 use Rattle.std.specs.List.Sorted.{IsStrictlySortedBy}
 use Rattle.std.specs.Ordering.{nat_cmp}
 use Rattle.std.specs.Prelude.{max}
 use Rattle.file_pass.proofs.Turned.{looks_ascend}
-use Rattle.file_pass.specs.Fed.{rules_in}
+use Rattle.file_pass.specs.Fed.{poll_of}
 use Rattle.file_pass.specs.Full.{line_of}
 use Rattle.file_pass.specs.Overflow.{AllFill}
 use Rattle.file_pass.specs.Turns.{looks_at, looks_of, misses_of}
@@ -17,12 +17,11 @@ use Rattle.poll_core.proofs.PollLines.{first_past}
 use Rattle.poll_core.proofs.PollPass.{come_earlier}
 use Rattle.poll_core.specs.Overflows.{Overflows}
 use Rattle.poll_core.specs.Passed.{PassFills}
-use Rattle.poll_core.specs.Polled.{is_first}
-use Rattle.poll_core.specs.SessionParts.{rules_of_session, kept_of, limit_of}
+use Rattle.poll_core.specs.SessionParts.{poll_of_session, rules_of_session, kept_of, limit_of}
 use Rattle.poll_core.specs.declared.session.Session.{Session}
 use Rattle.standing.specs.Look.{Look}
 use Rattle.standing.specs.Marks.{Mark}
-use Rattle.standing.specs.Rules.{Rules}
+use Rattle.standing.specs.Poll.{Poll}
 use Rattle.tree_walk.specs.Walked.{Ascends, FindsIn}
 
 abbrev Texts : Type 0
@@ -45,7 +44,7 @@ module _ (session : Session) (full limit fails unnamed : ℕ) (paths deep : Text
   Found = FindsIn (rules_of_session session).include (rules_of_session session).exclude paths deep fails unnamed
 
   abbrev Fills : World → World → Type 0
-  Fills = AllFill (rules_of_session session) (is_first session) limit paths session.tracker (kept_of session) full
+  Fills = AllFill (poll_of_session session) limit paths session.tracker (kept_of session) full
 
   overflows : (old mid new : World) → Found old mid → Fills mid new → Overflows session full old new
   overflows old mid new found fills = record {
@@ -71,13 +70,11 @@ module _ (session : Session) (full limit fails unnamed : ℕ) (paths deep : Text
   told (Some old) (Some mid) None found fills = absurd fills
   told (Some old) (Some mid) (Some new) found fills = overflows old mid new found fills
 
-pub overflows_by : {T : Type 0} (trees : TreeMeaning T) (session : Session) (setup : Setup) (full : ℕ) (tree tree_after : T) → PassFills trees setup session.tracker session.kept full tree tree_after → rules_in setup ≡ rules_of_session session → setup.first ≡ is_first session
+pub overflows_by : {T : Type 0} (trees : TreeMeaning T) (session : Session) (setup : Setup) (full : ℕ) (tree tree_after : T) → PassFills trees setup session.tracker session.kept full tree tree_after → poll_of setup ≡ poll_of_session session
     → setup.limit ≡ max (limit_of session) (kept_of session) → ((mark : Mark) → 0 < length (line_of mark)) → Told (Overflows session full) (trees.world tree) (trees.world tree_after)
-overflows_by trees session setup full tree tree_after fills rules_are first_is limit_is some =
+overflows_by trees session setup full tree tree_after fills poll_is limit_is some =
     let walk = fills.walk in
     let finds = fills.finds in
-    let found = subst (λ (rules : Rules). Told (FindsIn rules.include rules.exclude walk.paths.items finds.deep_folders finds.fails finds.unnamed) (trees.world tree) (trees.world fills.between)) rules_are finds.world in
-    let fill =
-    subst (λ (first : Bool). Told (AllFill (rules_of_session session) first setup.limit walk.paths.items session.tracker session.kept full) (trees.world fills.between) (trees.world tree_after)) first_is
-    (subst (λ (rules : Rules). Told (AllFill rules setup.first setup.limit walk.paths.items session.tracker session.kept full) (trees.world fills.between) (trees.world tree_after)) rules_are fills.fills) in
+    let found = subst (λ (poll : Poll). Told (FindsIn poll.rules.include poll.rules.exclude walk.paths.items finds.deep_folders finds.fails finds.unnamed) (trees.world tree) (trees.world fills.between)) poll_is finds.world in
+    let fill = subst (λ (poll : Poll). Told (AllFill poll setup.limit walk.paths.items session.tracker session.kept full) (trees.world fills.between) (trees.world tree_after)) poll_is fills.fills in
     told session full setup.limit finds.fails finds.unnamed walk.paths.items finds.deep_folders some limit_is finds.ascends (trees.world tree) (trees.world fills.between) (trees.world tree_after) found fill

@@ -10,6 +10,11 @@ module _ (some : (mark : Mark) → 0 < length (line_of mark)) where
   pub lines_some : (first : Mark) (marks : List Mark) → 0 < length (lines_text (first ∷ marks))
   lines_some first marks = omega (arith, some first, length-append (line_of first) (lines_text marks))
 
+  -- no text has no lines
+  pub no_lines : (marks : List Mark) → length (lines_text marks) ≡ 0 → marks ≡ []
+  no_lines [] none = refl
+  no_lines (first ∷ marks) none = absurd (omega (arith, none, lines_some first marks))
+
   -- an output that got longer is within its own limit
   pub within_own : (limit kept end : ℕ) (added : List Mark) → end ≡ kept + length (lines_text added) → end ≤ max limit kept → added ≢ [] → end ≤ limit
   within_own limit kept end [] end_is within some_added = absurd (some_added refl)

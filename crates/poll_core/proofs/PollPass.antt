@@ -1,5 +1,5 @@
 -- A walk, and a pass over the paths that it found, are a pass of the rules, and the numbers are those of its looks.
-use Rattle.std.proofs.Common.{◌≡◌, ◌⊎◌, ℕ, ◌+◌, ◌≤◌, List, [], ◌∷◌, ◌++◌, length, map, Bool, refl, sym, ap, ◌∙◌, arith, inl, inr}
+use Rattle.std.proofs.Common.{◌≡◌, ◌⊎◌, ℕ, ◌+◌, ◌≤◌, List, [], ◌∷◌, ◌++◌, length, map, refl, sym, ap, subst, ◌∙◌, arith, inl, inr}
 use Rattle.std.specs.Prelude.{Contains, min}
 use Rattle.file_pass.proofs.Turned.{looks_ascend, none_left_out}
 use Rattle.file_pass.specs.AllTaken.{AllTaken}
@@ -23,7 +23,8 @@ use Rattle.standing.specs.Look.{Look, Progress}
 use Rattle.standing.specs.Looks.{Come}
 use Rattle.standing.specs.Marks.{Mark}
 use Rattle.standing.specs.Moments.{IsLater, NamesThroughout}
-use Rattle.standing.specs.Pass.{IsReachable, OwnCalls, LeavesNoneOut, Pass, WasHidden}
+use Rattle.standing.specs.Pass.{IsObserved, IsReachable, OwnCalls, LeavesNoneOut, Pass, WasHidden}
+use Rattle.standing.specs.Poll.{Poll}
 use Rattle.standing.specs.Rules.{Includes, Rules, output_text}
 use Rattle.standing.specs.Sums.{AreSums, partings}
 use Rattle.tree_walk.proofs.Worlds.{file_named, named_kind, once_longer}
@@ -47,7 +48,7 @@ later_named old mid new path file later throughout = λ moment after before. thr
 hidden : (misses unlisteds : Texts) (path : List ℕ) → IsHidden unlisteds path → WasHidden misses unlisteds path
 hidden misses unlisteds path is = inr is
 
-module _ (rules : Rules) (first : Bool) (paths deep : Texts) (fails unnamed : ℕ) (before after : List Row) (gain : Gain) (added : List Mark) (old mid new : World) (found : FindsIn rules.include rules.exclude paths deep fails unnamed old mid) (taken : AllTaken rules first paths before after gain added mid new) (sorted : Ascends paths) where
+module _ (poll : Poll) (paths deep : Texts) (fails unnamed : ℕ) (before after : List Row) (gain : Gain) (added : List Mark) (old mid new : World) (found : FindsIn poll.rules.include poll.rules.exclude paths deep fails unnamed old mid) (taken : AllTaken poll paths before after gain added mid new) (sorted : Ascends paths) where
   walked : IsLater old.history mid.history
   walked = found.calls.later
 
@@ -62,7 +63,7 @@ module _ (rules : Rules) (first : Bool) (paths deep : Texts) (fails unnamed : �
     counted = λ in_range. omega (arith, rose, rose_then, in_range, found.each_fails, taken.gains.failed);
   }
 
-  none_out : LeavesNoneOut rules (stretch_of old.history new.history 0 0) (looks_of taken.turns) (misses_of taken.turns) found.unlisteds
+  none_out : LeavesNoneOut poll.rules (stretch_of old.history new.history 0 0) (looks_of taken.turns) (misses_of taken.turns) found.unlisteds
   none_out = λ path file included reachable throughout.
       let always = always_file old.history mid.history path file (earlier_named old.history mid.history new.history path file took throughout) in
       elim (found.none_left_out path included reachable always) [
@@ -74,27 +75,29 @@ module _ (rules : Rules) (first : Bool) (paths deep : Texts) (fails unnamed : �
       ]
 
   -- the pass, with the paths that met faults
-  pub record Joined (settings : List ℕ) (kept end count count_after : ℕ) : Type 0 where
-    pub pass : Pass rules first (stretch_of old.history new.history count count_after) (looks_of taken.turns) (checkpoint_with settings kept before) (checkpoint_with settings end after) added
+  pub record Joined (eras : List (List ℕ)) (observed observed_after kept end count count_after : ℕ) : Type 0 where
+    pub pass : Pass poll (stretch_of old.history new.history count count_after) (looks_of taken.turns) (checkpoint_with eras kept observed before) (checkpoint_with eras end observed_after after) added
     pub misses_are : pass.misses ≡ misses_of taken.turns
     pub unlisteds_are : pass.unlisteds ≡ found.unlisteds
 
-  pub joined : (settings : List ℕ) (kept end count mid_count count_after : ℕ) → settings ≡ rules.settings → end ≡ kept + length (output_text rules added) → raised count fails ≤ mid_count → raised mid_count gain.failed ≤ count_after → Joined settings kept end count count_after
-  joined settings kept end count mid_count count_after settings_are end_is rose rose_then = record {
+  pub joined : (eras : List (List ℕ)) (observed observed_after kept end count mid_count count_after : ℕ) → end ≡ kept + length (output_text poll.rules added) → IsObserved poll (checkpoint_with eras kept observed before) (checkpoint_with eras end observed_after after) added
+      → raised count fails ≤ mid_count → raised mid_count gain.failed ≤ count_after → Joined eras observed observed_after kept end count count_after
+  joined eras observed observed_after kept end count mid_count count_after end_is timed rose rose_then = record {
     pass = record {
       misses = misses_of taken.turns;
       unlisteds = found.unlisteds;
       calls = own_calls count mid_count count_after rose rose_then;
-      come = come_earlier rules (looks_of taken.turns) old.history mid.history new.history walked taken.own.come;
+      come = come_earlier poll.rules (looks_of taken.turns) old.history mid.history new.history walked taken.own.come;
       ascend = looks_ascend paths taken.turns taken.each sorted;
       leaves_none_out = none_out;
       read_on = taken.read_on;
       leads_to = record {
-        settings = settings_are;
+        eras = refl;
         rows = ap (λ (p : Progress). p.rows) (sym taken.leads_to);
         next_id = ap (λ (p : Progress). p.next_id) (sym taken.leads_to);
         lines = ap (λ (p : Progress). p.added) (sym taken.leads_to);
         output_length = end_is;
+        observed = timed;
       };
     };
     misses_are = refl;
@@ -121,10 +124,10 @@ module _ (rules : Rules) (first : Bool) (paths deep : Texts) (fails unnamed : �
   few_gone : IsLawful new.history → length (gone_of taken.turns) + partings old.history ≤ partings new.history
   few_gone lawful = lost_few old.history new.history (gone_of taken.turns) lawful (later_then old.history mid.history new.history walked took) (gone_differ paths taken.turns taken.each sorted) was_lost
 
-  pub summed : (walk : Walk) (taking : Taking) (summary : Summary) (settings : List ℕ) (kept count count_after : ℕ) (join : Joined settings kept taking.end count count_after)
+  pub summed : (walk : Walk) (taking : Taking) (summary : Summary) (eras : List (List ℕ)) (observed observed_after kept count count_after : ℕ) (join : Joined eras observed observed_after kept taking.end count count_after)
       → IsLawful new.history → Counted no_counts gain taking.counts → IsSummaryOf walk taking summary → walk.failed ≡ min (fails + unnamed) 4294967295 → gain.lines ≡ length added
-      → AreSums rules first (stretch_of old.history new.history count count_after) (looks_of taken.turns) (checkpoint_with settings kept before) (checkpoint_with settings taking.end after) added join.pass (sums_of summary)
-  summed walk taking summary settings kept count count_after join lawful counted is failed lines = record {
+      → AreSums poll (stretch_of old.history new.history count count_after) (looks_of taken.turns) (checkpoint_with eras kept observed before) (checkpoint_with eras taking.end observed_after after) added join.pass (sums_of summary)
+  summed walk taking summary eras observed observed_after kept count count_after join lawful counted is failed lines = record {
     files = omega (arith, is.files, counted.files, taken.gains.files);
     lines = omega (arith, is.lines, counted.lines, lines);
     left = omega (arith, is.left, counted.left, taken.gains.left);
@@ -136,16 +139,16 @@ module _ (rules : Rules) (first : Bool) (paths deep : Texts) (fails unnamed : �
     output = is.output;
   }
 
-  met_later : (folder : List ℕ) → IsMet rules.include old.history mid.history folder → IsMet rules.include old.history new.history folder
+  met_later : (folder : List ℕ) → IsMet poll.rules.include old.history mid.history folder → IsMet poll.rules.include old.history new.history folder
   met_later folder met = elim met [
     | inl start ↦ inl start
     | inr held ↦ inr (held.0, once_longer Folder old.history old.history mid.history new.history folder (later_none old.history) took held.1)
   ]
 
-  pub are_deep : (folder : List ℕ) → Contains deep folder → IsDeep rules old.history new.history folder
+  pub are_deep : (folder : List ℕ) → Contains deep folder → IsDeep poll.rules old.history new.history folder
   are_deep folder c = let is = found.are_deep folder c in record { deep = is.0; met = met_later folder is.1 }
 
-  pub no_deep_out : (path : List ℕ) (file : ℕ) → Includes rules path → (IsReachable path → ⊥) → NamesThroughout old.history new.history path file → HasDeepFolder deep path ⊎ WasHidden (misses_of taken.turns) found.unlisteds path
+  pub no_deep_out : (path : List ℕ) (file : ℕ) → Includes poll.rules path → (IsReachable path → ⊥) → NamesThroughout old.history new.history path file → HasDeepFolder deep path ⊎ WasHidden (misses_of taken.turns) found.unlisteds path
   no_deep_out path file included beyond throughout =
       let always = always_file old.history mid.history path file (earlier_named old.history mid.history new.history path file took throughout) in
       elim (found.no_deep_left_out path included beyond always) [

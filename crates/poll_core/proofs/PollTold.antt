@@ -1,7 +1,7 @@
 -- What a pass that came to its end is, over a tree that may tell its history.
-use Rattle.std.proofs.Common.{◌≡◌, ◌⊎◌, ℕ, ◌+◌, ◌≤◌, List, length, Bool, Option, None, Some, refl, sym, ap, subst, ◌∙◌, arith}
+use Rattle.std.proofs.Common.{◌≡◌, ◌⊎◌, ℕ, ◌+◌, ◌≤◌, List, [], ◌∷◌, length, Bool, true, false, Option, None, Some, refl, sym, ap, subst, ◌∙◌, arith, inl, inr}
 use Rattle.file_pass.specs.AllTaken.{AllTaken}
-use Rattle.file_pass.specs.Fed.{rules_in}
+use Rattle.file_pass.specs.Fed.{poll_of}
 use Rattle.file_pass.specs.Full.{lines_text}
 use Rattle.file_pass.specs.Gain.{Counted, Gain}
 use Rattle.file_pass.specs.Turns.{looks_of}
@@ -17,33 +17,37 @@ use Rattle.outside.specs.World.{World, Told}
 use Rattle.poll_core.proofs.PollPass.{Joined, are_deep, joined, no_deep_out, summed}
 use Rattle.poll_core.specs.Begun.{no_counts}
 use Rattle.poll_core.specs.Passed.{Passed}
-use Rattle.poll_core.specs.Polled.{IsPass, IsSummed, RoseBy, TreeCounts, counts_of, is_first}
-use Rattle.poll_core.specs.SessionParts.{rules_of_session, kept_of}
+use Rattle.poll_core.proofs.PollRows.{next_of_session}
+use Rattle.poll_core.specs.Polled.{IsPass, IsSummed, RoseBy, TreeCounts, counts_of}
+use Rattle.poll_core.specs.SessionParts.{checkpoint_of_session, poll_of_session, rules_of_session, kept_of}
 use Rattle.poll_core.specs.Summed.{IsSummaryOf, HasDeepFolder}
-use Rattle.poll_core.specs.Taken.{taken_checkpoint}
 use Rattle.poll_core.specs.declared.session.Session.{Session}
 use Rattle.poll_core.specs.declared.summary.Summary.{Summary}
 use Rattle.standing.specs.Marks.{Mark}
-use Rattle.standing.specs.Pass.{WasHidden}
-use Rattle.standing.specs.Rules.{Rules}
+use Rattle.standing.specs.Pass.{IsObserved, WasHidden}
+use Rattle.standing.specs.Poll.{Poll}
 use Rattle.standing.specs.Sums.{capped}
 use Rattle.tree_walk.specs.Walked.{Ascends, FindsIn}
 use Rattle.tree_walk.specs.declared.walk.Walk.{Walk}
 
 -- ---- over a told history
 
-module _ (session : Session) (taking : Taking) (paths deep : List (List ℕ)) (fails unnamed : ℕ) (gain : Gain) (added : List Mark) (counts counts_after : TreeCounts) (mid_count : ℕ) (sorted : Ascends paths) (end_is : taking.end ≡ kept_of session + length (lines_text added)) (rose : raised counts.faults fails ≤ mid_count) (rose_then : raised mid_count gain.failed ≤ counts_after.faults) (read : counts_after.taken ≤ counts.taken + gain.taken) where
+-- the next checkpoint has the time that is to be kept
+abbrev pub IsTimed : Session → ℕ → Taking → List Mark → Type 0
+IsTimed session observed taking added = IsObserved (poll_of_session session) (checkpoint_of_session session) (next_of_session session observed taking) added
+
+module _ (session : Session) (observed : ℕ) (taking : Taking) (paths deep : List (List ℕ)) (fails unnamed : ℕ) (gain : Gain) (added : List Mark) (counts counts_after : TreeCounts) (mid_count : ℕ) (sorted : Ascends paths) (end_is : taking.end ≡ kept_of session + length (lines_text added)) (timed : IsTimed session observed taking added) (rose : raised counts.faults fails ≤ mid_count) (rose_then : raised mid_count gain.failed ≤ counts_after.faults) (read : counts_after.taken ≤ counts.taken + gain.taken) where
   abbrev Found : World → World → Type 0
   Found = FindsIn (rules_of_session session).include (rules_of_session session).exclude paths deep fails unnamed
 
   abbrev Took : World → World → Type 0
-  Took = AllTaken (rules_of_session session) (is_first session) paths session.tracker taking.tracker gain added
+  Took = AllTaken (poll_of_session session) paths session.tracker taking.tracker gain added
 
-  join : (old mid new : World) (found : Found old mid) (took : Took mid new) → Joined (rules_of_session session) (is_first session) paths deep fails unnamed session.tracker taking.tracker gain added old mid new found took sorted session.settings (kept_of session) taking.end counts.faults counts_after.faults
+  join : (old mid new : World) (found : Found old mid) (took : Took mid new) → Joined (poll_of_session session) paths deep fails unnamed session.tracker taking.tracker gain added old mid new found took sorted session.eras session.observed observed (kept_of session) taking.end counts.faults counts_after.faults
   join old mid new found took =
-      joined (rules_of_session session) (is_first session) paths deep fails unnamed session.tracker taking.tracker gain added old mid new found took sorted session.settings (kept_of session) taking.end counts.faults mid_count counts_after.faults refl end_is rose rose_then
+      joined (poll_of_session session) paths deep fails unnamed session.tracker taking.tracker gain added old mid new found took sorted session.eras session.observed observed (kept_of session) taking.end counts.faults mid_count counts_after.faults end_is timed rose rose_then
 
-  pass_told : (old mid new : Option World) → Told Found old mid → Told Took mid new → Told (IsPass session (taken_checkpoint session.settings taking) added counts counts_after) old new
+  pass_told : (old mid new : Option World) → Told Found old mid → Told Took mid new → Told (IsPass session (next_of_session session observed taking) added counts counts_after) old new
   pass_told None None None found took = tt
   pass_told None None (Some new) found took = absurd took
   pass_told None (Some mid) new found took = absurd found
@@ -52,26 +56,26 @@ module _ (session : Session) (taking : Taking) (paths deep : List (List ℕ)) (f
   pass_told (Some old) (Some mid) (Some new) found took = record { looks = looks_of took.turns; pass = (join old mid new found took).pass; read = omega (arith, read, took.gains.taken) }
 
   module _ (walk : Walk) (summary : Summary) (counted : Counted no_counts gain taking.counts) (is : IsSummaryOf walk taking summary) (failed : walk.failed ≡ capped (fails + unnamed)) (deep_once : Ascends deep) (deep_is : walk.deep ≡ capped (length deep)) (lines : gain.lines ≡ length added) where
-    sums_of_one : (old mid new : World) → Found old mid → Took mid new → IsLawful new.history → IsSummed session (taken_checkpoint session.settings taking) added summary counts counts_after old new
+    sums_of_one : (old mid new : World) → Found old mid → Took mid new → IsLawful new.history → IsSummed session (next_of_session session observed taking) added summary counts counts_after old new
     sums_of_one old mid new found took lawful =
         let j = join old mid new found took in
-        let rules : Rules = rules_of_session session in
+        let poll : Poll = poll_of_session session in
         record {
           looks = looks_of took.turns;
           pass = j.pass;
           read = omega (arith, read, took.gains.taken);
-          sums = summed rules (is_first session) paths deep fails unnamed session.tracker taking.tracker gain added old mid new found took sorted walk taking summary session.settings (kept_of session) counts.faults counts_after.faults j lawful counted is failed lines;
+          sums = summed poll paths deep fails unnamed session.tracker taking.tracker gain added old mid new found took sorted walk taking summary session.eras session.observed observed (kept_of session) counts.faults counts_after.faults j lawful counted is failed lines;
           deep = deep;
           deep_once = deep_once;
           deep_is = is.deep ∙ deep_is;
-          are_deep = are_deep rules (is_first session) paths deep fails unnamed session.tracker taking.tracker gain added old mid new found took sorted;
+          are_deep = are_deep poll paths deep fails unnamed session.tracker taking.tracker gain added old mid new found took sorted;
           no_deep_left_out = λ path file included beyond throughout.
               subst (λ (unlisteds : List (List ℕ)). HasDeepFolder deep path ⊎ WasHidden j.pass.misses unlisteds path) (sym j.unlisteds_are)
               (subst (λ (misses : List (List ℕ)). HasDeepFolder deep path ⊎ WasHidden misses found.unlisteds path) (sym j.misses_are)
-              (no_deep_out rules (is_first session) paths deep fails unnamed session.tracker taking.tracker gain added old mid new found took sorted path file included beyond throughout));
+              (no_deep_out poll paths deep fails unnamed session.tracker taking.tracker gain added old mid new found took sorted path file included beyond throughout));
         }
 
-    sums_told : (old mid new : Option World) → Told Found old mid → Told Took mid new → TellsLawful new → Told (IsSummed session (taken_checkpoint session.settings taking) added summary counts counts_after) old new
+    sums_told : (old mid new : Option World) → Told Found old mid → Told Took mid new → TellsLawful new → Told (IsSummed session (next_of_session session observed taking) added summary counts counts_after) old new
     sums_told None None None found took lawful = tt
     sums_told None None (Some new) found took lawful = absurd took
     sums_told None (Some mid) new found took lawful = absurd found
@@ -81,7 +85,7 @@ module _ (session : Session) (taking : Taking) (paths deep : List (List ℕ)) (f
 
 -- ---- over any tree
 
-module _ {T D : Type 0} (trees : TreeMeaning T) (disks : DiskMeaning D) (session : Session) (setup : Setup) (walk : Walk) (taking : Taking) (tree tree_after : T) (disk disk_after : D) (rules_are : rules_in setup ≡ rules_of_session session) (first_is : setup.first ≡ is_first session) (passed : Passed trees disks setup session.tracker session.kept walk taking tree tree_after disk disk_after) where
+module _ {T D : Type 0} (trees : TreeMeaning T) (disks : DiskMeaning D) (session : Session) (setup : Setup) (walk : Walk) (taking : Taking) (tree tree_after : T) (disk disk_after : D) (poll_is : poll_of setup ≡ poll_of_session session) (passed : Passed trees disks setup session.tracker session.kept walk taking tree tree_after disk disk_after) (observed : ℕ) (timed : IsTimed session observed taking passed.takes.takes.added) where
   pub added_by : List Mark
   added_by = passed.takes.takes.added
 
@@ -92,27 +96,26 @@ module _ {T D : Type 0} (trees : TreeMeaning T) (disks : DiskMeaning D) (session
   end_by = passed.takes.takes.appends.end_is ∙ ap (λ (n : ℕ). n + length (lines_text passed.takes.takes.added)) passed.is_begun.end_is
 
   found_by : Told (FindsIn (rules_of_session session).include (rules_of_session session).exclude walk.paths.items passed.finds.deep_folders passed.finds.fails passed.finds.unnamed) (trees.world tree) (trees.world passed.between)
-  found_by = subst (λ (rules : Rules). Told (FindsIn rules.include rules.exclude walk.paths.items passed.finds.deep_folders passed.finds.fails passed.finds.unnamed) (trees.world tree) (trees.world passed.between)) rules_are passed.finds.world
+  found_by = subst (λ (poll : Poll). Told (FindsIn poll.rules.include poll.rules.exclude walk.paths.items passed.finds.deep_folders passed.finds.fails passed.finds.unnamed) (trees.world tree) (trees.world passed.between)) poll_is passed.finds.world
 
-  took_by : Told (AllTaken (rules_of_session session) (is_first session) walk.paths.items session.tracker taking.tracker passed.takes.gain passed.takes.takes.added) (trees.world passed.between) (trees.world tree_after)
+  took_by : Told (AllTaken (poll_of_session session) walk.paths.items session.tracker taking.tracker passed.takes.gain passed.takes.takes.added) (trees.world passed.between) (trees.world tree_after)
   took_by =
-      subst (λ (rows : List Row). Told (AllTaken (rules_of_session session) (is_first session) walk.paths.items rows taking.tracker passed.takes.gain passed.takes.takes.added) (trees.world passed.between) (trees.world tree_after)) passed.is_begun.rows_are
-      (subst (λ (first : Bool). Told (AllTaken (rules_of_session session) first walk.paths.items passed.begun.tracker taking.tracker passed.takes.gain passed.takes.takes.added) (trees.world passed.between) (trees.world tree_after)) first_is
-      (subst (λ (rules : Rules). Told (AllTaken rules setup.first walk.paths.items passed.begun.tracker taking.tracker passed.takes.gain passed.takes.takes.added) (trees.world passed.between) (trees.world tree_after)) rules_are passed.takes.takes.world))
+      subst (λ (rows : List Row). Told (AllTaken (poll_of_session session) walk.paths.items rows taking.tracker passed.takes.gain passed.takes.takes.added) (trees.world passed.between) (trees.world tree_after)) passed.is_begun.rows_are
+      (subst (λ (poll : Poll). Told (AllTaken poll walk.paths.items passed.begun.tracker taking.tracker passed.takes.gain passed.takes.takes.added) (trees.world passed.between) (trees.world tree_after)) poll_is passed.takes.takes.world)
 
   read_by : trees.taken tree_after ≤ trees.taken tree + passed.takes.gain.taken
   read_by = omega (arith, passed.takes.takes.read, passed.walk_read)
 
-  pub is_pass : Told (IsPass session (taken_checkpoint session.settings taking) passed.takes.takes.added (counts_of trees tree) (counts_of trees tree_after)) (trees.world tree) (trees.world tree_after)
-  is_pass = pass_told session taking walk.paths.items passed.finds.deep_folders passed.finds.fails passed.finds.unnamed passed.takes.gain passed.takes.takes.added (counts_of trees tree) (counts_of trees tree_after) (trees.faults passed.between)
-      passed.finds.ascends end_by passed.finds.counts.rose passed.takes.takes.rose read_by (trees.world tree) (trees.world passed.between) (trees.world tree_after) found_by took_by
+  pub is_pass : Told (IsPass session (next_of_session session observed taking) passed.takes.takes.added (counts_of trees tree) (counts_of trees tree_after)) (trees.world tree) (trees.world tree_after)
+  is_pass = pass_told session observed taking walk.paths.items passed.finds.deep_folders passed.finds.fails passed.finds.unnamed passed.takes.gain passed.takes.takes.added (counts_of trees tree) (counts_of trees tree_after) (trees.faults passed.between)
+      passed.finds.ascends end_by timed passed.finds.counts.rose passed.takes.takes.rose read_by (trees.world tree) (trees.world passed.between) (trees.world tree_after) found_by took_by
 
   counted_by : Counted no_counts passed.takes.gain taking.counts
   counted_by = subst (λ (counts : Counts). Counted counts passed.takes.gain taking.counts) passed.is_begun.counts_are passed.takes.counted
 
-  pub is_summed : (summary : Summary) → IsSummaryOf walk taking summary → TellsLawful (trees.world tree_after) → Told (IsSummed session (taken_checkpoint session.settings taking) passed.takes.takes.added summary (counts_of trees tree) (counts_of trees tree_after)) (trees.world tree) (trees.world tree_after)
-  is_summed summary is lawful = sums_told session taking walk.paths.items passed.finds.deep_folders passed.finds.fails passed.finds.unnamed passed.takes.gain passed.takes.takes.added (counts_of trees tree) (counts_of trees tree_after) (trees.faults passed.between)
-      passed.finds.ascends end_by passed.finds.counts.rose passed.takes.takes.rose read_by walk summary counted_by is passed.finds.failed passed.finds.deep_once passed.finds.deep passed.takes.takes.lines
+  pub is_summed : (summary : Summary) → IsSummaryOf walk taking summary → TellsLawful (trees.world tree_after) → Told (IsSummed session (next_of_session session observed taking) passed.takes.takes.added summary (counts_of trees tree) (counts_of trees tree_after)) (trees.world tree) (trees.world tree_after)
+  is_summed summary is lawful = sums_told session observed taking walk.paths.items passed.finds.deep_folders passed.finds.fails passed.finds.unnamed passed.takes.gain passed.takes.takes.added (counts_of trees tree) (counts_of trees tree_after) (trees.faults passed.between)
+      passed.finds.ascends end_by timed passed.finds.counts.rose passed.takes.takes.rose read_by walk summary counted_by is passed.finds.failed passed.finds.deep_once passed.finds.deep passed.takes.takes.lines
       (trees.world tree) (trees.world passed.between) (trees.world tree_after) found_by took_by lawful
 
   pub lines_by : (summary : Summary) → IsSummaryOf walk taking summary → summary.lines ≡ length passed.takes.takes.added

@@ -7,6 +7,7 @@ use Rattle.checkpoint_journal.proofs.ShortLemmas.{checkpoint_short}
 use Rattle.checkpoint_journal.specs.JournalOf.{EndsWith}
 use Rattle.checkpoint_journal.specs.Written.{Awaits, appended, GainsChange, Appends, written_file, started, StandsIn, KeepsOld, Rewrites}
 use Rattle.checkpoint_journal.specs.declared.journal.Journal.{Journal}
+use Rattle.checkpoint_store.specs.Limits.{newest}
 use Rattle.checkpoint_store.specs.Rules.{IsCheckpoint}
 use Rattle.checkpoint_store.specs.Spelling.{change_spelling, checkpoint_spelling}
 use Rattle.checkpoint_store.specs.declared.Change.{Change}
@@ -23,7 +24,8 @@ use Rattle.outside.specs.declared.disk.DiskFile.TheVariants.{Settings, Output, S
 use Rattle.poll_core.proofs.TakenLemmas.{change_within}
 use Rattle.poll_core.specs.IsSession.{IsShort}
 use Rattle.poll_core.specs.Next.{Costs, IsDue, IsNext, IsSavable, KeepsFiles, KeepsMemory, Puts, WrittenAtMost, cost_of_rows, sequence_after}
-use Rattle.poll_core.specs.Taken.{taken_change, taken_checkpoint}
+use Rattle.poll_core.specs.Taken.{Keeping, keeping_of}
+use Rattle.poll_core.specs.declared.heading.Heading.{Heading}
 use Rattle.slot_store.specs.ChosenSlot.{IsSlotFile}
 use Rattle.slot_store.specs.Committed.{KeepsOthers, other_file}
 use Rattle.slot_store.specs.Counted.{HasWritten}
@@ -67,22 +69,22 @@ written_is_slot (Some journal) = other_is_slot journal.slot.file
 
 -- ---- a change behind
 
-awaits : (journal : Journal) (settings : List ℕ) (taking : Taking) (image : Image DiskFile) → IsSavable (Some journal) settings taking image → Awaits journal (taken_change taking) image
-awaits journal settings taking image savable = record { checkpoint = savable.before; stands = savable.ends; fits = savable.fits }
+awaits : (journal : Journal) (keeping : Keeping) (image : Image DiskFile) → IsSavable (Some journal) keeping image → Awaits journal keeping.change image
+awaits journal keeping image savable = record { checkpoint = savable.before; stands = savable.ends; fits = savable.fits }
 
-gained : (journal : Journal) (settings : List ℕ) (taking : Taking) (old new : Image DiskFile) → IsSavable (Some journal) settings taking old → GainsChange journal (taken_change taking) old new
-    → EndsWith (appended journal (taken_change taking)) (taken_checkpoint settings taking) new
-gained journal settings taking old new savable gains =
-    let next = appended journal (taken_change taking) in
+gained : (journal : Journal) (keeping : Keeping) (old new : Image DiskFile) → IsSavable (Some journal) keeping old → GainsChange journal keeping.change old new
+    → EndsWith (appended journal keeping.change) keeping.after new
+gained journal keeping old new savable gains =
+    let next = appended journal keeping.change in
     subst (λ (c : Checkpoint). EndsWith next c new) (sym savable.makes) (gains savable.before savable.ends.journal_is savable.fits)
 
-put_of_append : (journal : Journal) (settings : List ℕ) (taking : Taking) (old new : Image DiskFile) → IsSlotFile journal.slot.file → IsSavable (Some journal) settings taking old → Appends journal (taken_change taking) old new
-    → Puts (Some journal) (taken_checkpoint settings taking) old new
-put_of_append journal settings taking old new is savable appends = record {
+put_of_append : (journal : Journal) (keeping : Keeping) (old new : Image DiskFile) → IsSlotFile journal.slot.file → IsSavable (Some journal) keeping old → Appends journal keeping.change old new
+    → Puts (Some journal) keeping.after old new
+put_of_append journal keeping old new is savable appends = record {
   files = files_kept journal.slot.file old new is appends.others;
   choice = elim appends.choice [
     | inl keeps ↦ inl keeps
-    | inr gains ↦ inr (appended journal (taken_change taking), (gained journal settings taking old new savable gains).journal_is, refl)
+    | inr gains ↦ inr (appended journal keeping.change, (gained journal keeping old new savable gains).journal_is, refl)
   ];
 }
 
@@ -95,43 +97,43 @@ behind_next journal after change short not_due = record {
 }
 
 -- the change that is put, and its place
-pub record IsBehind (journal : Journal) (taking : Taking) (change : Change) : Type 0 where
+pub record IsBehind (journal : Journal) (keeping : Keeping) (change : Change) : Type 0 where
   pub file : IsSlotFile journal.slot.file
-  pub change_is : change ≡ taken_change taking
+  pub change_is : change ≡ keeping.change
 
-module _ {D : Type 0} {images : Images DiskFile D} {old : D} (journal : Journal) (settings : List ℕ) (taking : Taking) (change : Change) (behind : IsBehind journal taking change) (savable : EachLeft images old (IsSavable (Some journal) settings taking)) where
+module _ {D : Type 0} {images : Images DiskFile D} {old : D} (journal : Journal) (keeping : Keeping) (change : Change) (behind : IsBehind journal keeping change) (savable : EachLeft images old (IsSavable (Some journal) keeping)) where
   pub each_awaits : EachLeft images old (Awaits journal change)
   each_awaits =
       subst (λ (c : Change). EachLeft images old (Awaits journal c)) (sym behind.change_is)
-      (record { each = λ image left. awaits journal settings taking image (savable.each image left) })
+      (record { each = λ image left. awaits journal keeping image (savable.each image left) })
 
-  pub behind_crash : {new : D} → Passes images (Appends journal change) old new → Passes images (Puts (Some journal) (taken_checkpoint settings taking)) old new
+  pub behind_crash : {new : D} → Passes images (Appends journal change) old new → Passes images (Puts (Some journal) keeping.after) old new
   behind_crash passes = passes_by passes (λ first second left step.
-      put_of_append journal settings taking first second behind.file (savable.each first left)
+      put_of_append journal keeping first second behind.file (savable.each first left)
       (subst (λ (c : Change). Appends journal c first second) behind.change_is step))
 
-  pub behind_put : {new : D} → LeavesChanged images (GainsChange journal change) old new → EachLeft images new (EndsWith (appended journal change) (taken_checkpoint settings taking))
+  pub behind_put : {new : D} → LeavesChanged images (GainsChange journal change) old new → EachLeft images new (EndsWith (appended journal change) keeping.after)
   behind_put {new} leaves =
-      subst (λ (c : Change). EachLeft images new (EndsWith (appended journal c) (taken_checkpoint settings taking))) (sym behind.change_is)
+      subst (λ (c : Change). EachLeft images new (EndsWith (appended journal c) keeping.after)) (sym behind.change_is)
       (record {
         each = λ image left.
             let past = leaves.each image left in
-            gained journal settings taking past.0 image (savable.each past.0 past.1) (subst (λ (c : Change). GainsChange journal c past.0 image) behind.change_is past.2);
+            gained journal keeping past.0 image (savable.each past.0 past.1) (subst (λ (c : Change). GainsChange journal c past.0 image) behind.change_is past.2);
       })
 
-pub behind_cost : (taking : Taking) (change : Change) → change ≡ taken_change taking → length (change_spelling change) + 18 ≤ cost_of_rows (taken_change taking).rows
-behind_cost taking change is = subst (λ (c : Change). length (change_spelling c) + 18 ≤ cost_of_rows (taken_change taking).rows) (sym is) (change_cost (taken_change taking))
+pub behind_cost : (keeping : Keeping) (change : Change) → change ≡ keeping.change → length (change_spelling newest change) + 18 ≤ cost_of_rows keeping.change.rows
+behind_cost keeping change is = subst (λ (c : Change). length (change_spelling newest c) + 18 ≤ cost_of_rows keeping.change.rows) (sym is) (change_cost newest keeping.change)
 
-pub behind_room : (settings : List ℕ) (taking : Taking) (change : Change) (end : ℕ) → IsCheckpoint (taken_checkpoint settings taking) → change ≡ taken_change taking → end ≤ 2 ^ 55 → end + 17 + length (change_spelling change) ≤ last_number
-behind_room settings taking change end lawful is ends =
-    let short : length (change_spelling change) ≤ 2 ^ 52 = subst (λ (c : Change). length (change_spelling c) ≤ 2 ^ 52) (sym is) (change_within settings taking lawful) in
+pub behind_room : (heading : Heading) (taking : Taking) (change : Change) (end : ℕ) → IsCheckpoint newest (keeping_of heading taking).after → change ≡ (keeping_of heading taking).change → end ≤ 2 ^ 55 → end + 17 + length (change_spelling newest change) ≤ last_number
+behind_room heading taking change end lawful is ends =
+    let short : length (change_spelling newest change) ≤ 2 ^ 52 = subst (λ (c : Change). length (change_spelling newest c) ≤ 2 ^ 52) (sym is) (change_within heading taking lawful) in
     omega arith
 
 -- ---- a checkpoint beside
 
-stands_in : (journal : Option Journal) (settings : List ℕ) (taking : Taking) (image : Image DiskFile) → IsSavable journal settings taking image → StandsIn journal image
-stands_in None settings taking image savable = savable.ends.0
-stands_in (Some journal) settings taking image savable = (savable.before, savable.ends)
+stands_in : (journal : Option Journal) (keeping : Keeping) (image : Image DiskFile) → IsSavable journal keeping image → StandsIn journal image
+stands_in None keeping image savable = savable.ends.0
+stands_in (Some journal) keeping image savable = (savable.before, savable.ends)
 
 keeps_memory : (journal : Option Journal) (old new : Image DiskFile) → KeepsOld journal old new → KeepsMemory journal old new
 keeps_memory None old new keeps before memory = (keeps, memory.1)
@@ -150,9 +152,9 @@ put_of_rewrite journal after old new rewrites = record {
   ];
 }
 
-beside_next : (journal : Option Journal) (after : Checkpoint) (change : Change) → IsCheckpoint after → IsDue journal after → IsNext journal after change (started journal after)
+beside_next : (journal : Option Journal) (after : Checkpoint) (change : Change) → IsCheckpoint newest after → IsDue journal after → IsNext journal after change (started journal after)
 beside_next journal after change lawful due = record {
-  short = record { file = written_is_slot journal; base = checkpoint_short after lawful };
+  short = record { file = written_is_slot journal; base = checkpoint_short newest after lawful };
   sequence = started_sequence journal after;
   anew = λ _. refl;
   goes_on = λ own is not_due. absurd (not_due due);
@@ -164,10 +166,10 @@ pub record IsBeside (journal before : Option Journal) (after checkpoint : Checkp
   pub checkpoint_is : checkpoint ≡ after
 
 module _ {D : Type 0} {images : Images DiskFile D} (journal before : Option Journal) (after checkpoint : Checkpoint) (beside : IsBeside journal before after checkpoint) where
-  pub each_stands : {old : D} (settings : List ℕ) (taking : Taking) → EachLeft images old (IsSavable journal settings taking) → EachLeft images old (StandsIn before)
-  each_stands {old} settings taking savable =
+  pub each_stands : {old : D} (keeping : Keeping) → EachLeft images old (IsSavable journal keeping) → EachLeft images old (StandsIn before)
+  each_stands {old} keeping savable =
       subst (λ (j : Option Journal). EachLeft images old (StandsIn j)) (sym beside.before_is)
-      (record { each = λ image left. stands_in journal settings taking image (savable.each image left) })
+      (record { each = λ image left. stands_in journal keeping image (savable.each image left) })
 
   pub beside_crash : {old new : D} → Passes images (Rewrites before checkpoint) old new → Passes images (Puts journal after) old new
   beside_crash passes = passes_weaker passes (λ first second step.
@@ -182,7 +184,7 @@ module _ {D : Type 0} {images : Images DiskFile D} (journal before : Option Jour
   pub beside_put : {new : D} → EachLeft images new (EndsWith (started before checkpoint) checkpoint) → EachLeft images new (EndsWith (started before checkpoint) after)
   beside_put {new} ends = subst (λ (c : Checkpoint). EachLeft images new (EndsWith (started before checkpoint) c)) beside.checkpoint_is ends
 
-pub beside_is_next : (journal before : Option Journal) (after checkpoint : Checkpoint) (change : Change) → IsBeside journal before after checkpoint → IsCheckpoint after → IsDue journal after → IsNext journal after change (started before checkpoint)
+pub beside_is_next : (journal before : Option Journal) (after checkpoint : Checkpoint) (change : Change) → IsBeside journal before after checkpoint → IsCheckpoint newest after → IsDue journal after → IsNext journal after change (started before checkpoint)
 beside_is_next journal before after checkpoint change beside lawful due =
     subst (λ (c : Checkpoint). IsNext journal after change (started before c)) (sym beside.checkpoint_is)
     (subst (λ (j : Option Journal). IsNext journal after change (started j after)) (sym beside.before_is) (beside_next journal after change lawful due))
@@ -203,7 +205,7 @@ costs_none most (Some before) (Some after) same = let equal : after ≡ before =
 -- nothing was written
 pub costs_nothing : (journal : Option Journal) (after : Checkpoint) (rows : List Row) (before spent : Option ℕ) → spent ≡ before → Costs journal after rows before spent
 costs_nothing journal after rows before spent same = record {
-  anew = λ _. costs_none (length (checkpoint_spelling after) + 18) before spent same;
+  anew = λ _. costs_none (length (checkpoint_spelling newest after) + 18) before spent same;
   goes_on = λ _. costs_none (cost_of_rows rows) before spent same;
 }
 

@@ -10,16 +10,19 @@ use Rattle.outside.specs.declared.disk.DiskFile.{DiskFile}
 use Rattle.outside.specs.declared.disk.DiskFile.TheVariants.{Output}
 use Rattle.poll_core.proofs.DifferLemmas.{not_same, one_place}
 use Rattle.poll_core.proofs.ImageLemmas.{no_journal}
+use Rattle.poll_core.proofs.EraLemmas.{last_is}
+use Rattle.poll_core.proofs.RuleLemmas.{OneSet}
 use Rattle.poll_core.specs.Differs.{DiffersAt}
 use Rattle.poll_core.specs.Found.{IsFound}
 use Rattle.poll_core.specs.IsSession.{IsSession}
-use Rattle.poll_core.specs.MadeOf.{HasRules}
+use Rattle.poll_core.specs.MadeOf.{EndsWithRules, HasRules}
 use Rattle.poll_core.specs.OpenFaults.{IsOfText, HasOtherSettings, IsLeastForeign, HasForeignState, HasShortOutput, IsRefused, no_reading, other_settings, foreign_state, short_output}
 use Rattle.poll_core.specs.Remembers.{HasMemory, GoesOnFrom}
-use Rattle.poll_core.specs.SessionParts.{checkpoint_of_session, rules_of_session, journal_of_session}
+use Rattle.poll_core.specs.SessionParts.{checkpoint_of_session, rules_of_session, settings_of_session, journal_of_session, last_text}
 use Rattle.poll_core.specs.declared.fault.OpenFault.{OpenFault}
 use Rattle.poll_core.specs.declared.fault.OpenFault.TheVariants.{CheckpointBad, SettingsChanged, OutputShort}
 use Rattle.poll_core.specs.declared.session.Session.{Session}
+use Rattle.standing.specs.Eras.{Eras, last_era}
 use Rattle.standing.specs.Rows.{Checkpoint, Row, IsRowAt, KeepStates}
 use Rattle.standing.specs.Rules.{Rules}
 use Rattle.standing.specs.Standing.{Found, nothing, damaged, found, Sound}
@@ -46,11 +49,8 @@ not_bad image at saved bad has = bad_no_journal image at has.0 saved bad has.1
 
 not_other : (text : List ℕ) (image : Image DiskFile) (at : ℕ) (saved : Checkpoint) → HasOtherSettings text image at → IsOfText text image saved → ⊥
 not_other text image at saved other of_text =
-    not_same other.checkpoint.settings text at other.differ
-    (ap (λ (c : Checkpoint). c.settings) (same_saved image saved other.checkpoint of_text.has other.has) ∙ of_text.settings)
-
-abbrev pub OneSet : Type 0
-OneSet = (text : List ℕ) (one other : Rules) → HasRules text one → HasRules text other → one ≡ other
+    not_same (last_text other.checkpoint.eras) text at other.differ
+    (ap (λ (c : Checkpoint). last_text c.eras) (same_saved image saved other.checkpoint of_text.has other.has) ∙ of_text.settings)
 
 module _ (one_set : OneSet) (text : List ℕ) (image : Image DiskFile) where
   -- by the rules of the text all rows of its checkpoint are fine, or not
@@ -71,7 +71,7 @@ module _ (one_set : OneSet) (text : List ℕ) (image : Image DiskFile) where
   both_other : (at place : ℕ) → HasOtherSettings text image at → HasOtherSettings text image place → at ≡ place
   both_other at place first second =
       let same = same_saved image first.checkpoint second.checkpoint first.has second.has in
-      one_place first.checkpoint.settings text at place first.differ (subst (λ (c : Checkpoint). DiffersAt c.settings text place) same second.differ)
+      one_place (last_text first.checkpoint.eras) text at place first.differ (subst (λ (c : Checkpoint). DiffersAt (last_text c.eras) text place) same second.differ)
 
   short_foreign : (kept size id : ℕ) → HasShortOutput text image kept size → HasForeignState text image id → ⊥
   short_foreign kept size id short foreign = not_foreign short.rules short.checkpoint id short.rules_are short.of_text.has short.states foreign
@@ -116,38 +116,38 @@ module _ (one_set : OneSet) (text : List ℕ) (image : Image DiskFile) where
   none_refused fault none (foreign_state id foreign) = no_journal image foreign.of_text.has.0 foreign.checkpoint none foreign.of_text.has.1
   none_refused fault none (short_output kept size short) = no_journal image short.of_text.has.0 short.checkpoint none short.of_text.has.1
 
-  going_on : (rules : Rules) (journal : Option Journal) (saved : Checkpoint) (fault : OpenFault) → HasMemory journal saved image → saved.settings ≡ text → HasRules text rules → KeepStates rules saved.rows → saved.output_length ≤ length (image Output) → IsRefused text image fault → ⊥
+  going_on : (rules : Rules) (journal : Option Journal) (saved : Checkpoint) (fault : OpenFault) → HasMemory journal saved image → last_text saved.eras ≡ text → HasRules text rules → KeepStates rules saved.rows → saved.output_length ≤ length (image Output) → IsRefused text image fault → ⊥
   going_on rules None saved fault memory settings rules_are fine enough refused = none_refused fault memory.0 refused
   going_on rules (Some journal) saved fault memory settings rules_are fine enough refused =
       never_refused rules saved fault rules_are (record { has = (journal, memory); settings = settings }) fine enough refused
 
-pub not_refused : (one_set : OneSet) (text : List ℕ) (image : Image DiskFile) (session : Session) (fault : OpenFault) → IsSession session → session.settings ≡ text → GoesOnFrom session image → IsRefused text image fault → ⊥
+pub not_refused : (one_set : OneSet) (text : List ℕ) (image : Image DiskFile) (session : Session) (fault : OpenFault) → IsSession session → settings_of_session session ≡ text → GoesOnFrom session image → IsRefused text image fault → ⊥
 not_refused one_set text image session fault is settings goes_on refused =
-    let own : HasRules session.settings (rules_of_session session) = (session.pipeline, is.made, refl) in
+    let own : HasRules (settings_of_session session) (rules_of_session session) = (session.pipeline, is.made, refl) in
     going_on one_set text image (rules_of_session session) (journal_of_session session) (checkpoint_of_session session) fault goes_on.memory settings
     (subst (λ (t : List ℕ). HasRules t (rules_of_session session)) settings own) is.states goes_on.long_enough refused
 
 -- it is refused only where other settings are given
 changed_only : (one_set : OneSet) (own text : List ℕ) (rules : Rules) (image : Image DiskFile) (saved : Checkpoint) (fault : OpenFault)
-    → HasRules own rules → HasCheckpoint (Some saved) image → saved.settings ≡ own → KeepStates rules saved.rows → saved.output_length ≤ length (image Output)
+    → HasRules own rules → HasCheckpoint (Some saved) image → last_text saved.eras ≡ own → KeepStates rules saved.rows → saved.output_length ≤ length (image Output)
     → IsRefused text image fault → (at : ℕ) × (fault ≡ SettingsChanged at) × DiffersAt own text at
 changed_only one_set own text rules image saved fault own_rules has settings fine enough (no_reading at bad) = absurd (not_bad image at saved bad has)
 changed_only one_set own text rules image saved fault own_rules has settings fine enough (other_settings at differ) =
-    let own_is : differ.checkpoint.settings ≡ own = ap (λ (c : Checkpoint). c.settings) (same_saved image saved differ.checkpoint has differ.has) ∙ settings in
+    let own_is : last_text differ.checkpoint.eras ≡ own = ap (λ (c : Checkpoint). last_text c.eras) (same_saved image saved differ.checkpoint has differ.has) ∙ settings in
     (at, refl, subst (λ (t : List ℕ). DiffersAt t text at) own_is differ.differ)
 changed_only one_set own text rules image saved fault own_rules has settings fine enough (foreign_state id foreign) =
-    let own_is : own ≡ text = sym settings ∙ ap (λ (c : Checkpoint). c.settings) (sym (same_saved image saved foreign.checkpoint has foreign.of_text.has)) ∙ foreign.of_text.settings in
+    let own_is : own ≡ text = sym settings ∙ ap (λ (c : Checkpoint). last_text c.eras) (sym (same_saved image saved foreign.checkpoint has foreign.of_text.has)) ∙ foreign.of_text.settings in
     let text_rules : HasRules text rules = subst (λ (t : List ℕ). HasRules t rules) own_is own_rules in
     absurd (not_foreign one_set text image rules saved id text_rules has fine foreign)
 changed_only one_set own text rules image saved fault own_rules has settings fine enough (short_output kept size short) =
     absurd (omega (arith, enough, short.short, short.kept_is, short.size_is, ap (λ (c : Checkpoint). c.output_length) (same_saved image saved short.checkpoint has short.of_text.has)))
 
--- what refuses an image that is sound by the rules of its own settings
-pub only_changed : (one_set : OneSet) (own text : List ℕ) (rules : Rules) (image : Image DiskFile) (there : Found) (fault : OpenFault)
-    → HasRules own rules → IsFound image there → Sound rules there (image Output) → IsRefused text image fault
-    → (at : ℕ) × (fault ≡ SettingsChanged at) × DiffersAt own text at
-only_changed one_set own text rules image nothing fault own_rules has sound refused = absurd (none_refused one_set text image fault has refused)
-only_changed one_set own text rules image damaged fault own_rules has sound refused = absurd sound
-only_changed one_set own text rules image (found checkpoint) fault own_rules has sound refused =
-    let settings : checkpoint.settings ≡ own = sound.settings ∙ ap (λ (r : Rules). r.settings) own_rules.2 in
-    changed_only one_set own text rules image checkpoint fault own_rules has settings sound.states sound.long_enough refused
+-- what refuses an image that is sound by its own eras
+pub only_changed : (one_set : OneSet) (eras : Eras) (text : List ℕ) (image : Image DiskFile) (there : Found) (fault : OpenFault)
+    → EndsWithRules eras → IsFound image there → Sound eras there (image Output) → IsRefused text image fault
+    → (at : ℕ) × (fault ≡ SettingsChanged at) × DiffersAt (last_era eras).settings text at
+only_changed one_set eras text image nothing fault ends has sound refused = absurd (none_refused one_set text image fault has refused)
+only_changed one_set eras text image damaged fault ends has sound refused = absurd sound
+only_changed one_set eras text image (found checkpoint) fault ends has sound refused =
+    let settings : last_text checkpoint.eras ≡ (last_era eras).settings = ap last_text sound.texts ∙ last_is eras in
+    changed_only one_set (last_era eras).settings text (last_era eras) image checkpoint fault ends has settings sound.states sound.long_enough refused

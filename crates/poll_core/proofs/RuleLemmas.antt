@@ -1,11 +1,13 @@
 -- What is made of one text is one.
-use Rattle.std.proofs.Common.{◌≡◌, ℕ, zero, suc, None, List, [], ◌∷◌, Bool, map, refl, sym, ap, ◌∙◌, subst, arith}
+use Rattle.std.proofs.Common.{◌≡◌, ℕ, zero, suc, List, [], ◌∷◌, Bool, false, map, refl, sym, ap, ◌∙◌, subst, arith}
 use Rattle.std.specs.Str.{chars}
 use Rattle.glob_match.specs.GlobText.{IsGlobText}
 use Rattle.glob_match.specs.Pattern.{Pattern}
 use Rattle.pipeline.proofs.Building.{one_network}
 use Rattle.entry_model.specs.LogRecord.{LogRecord}
-use Rattle.graph_core.specs.Traces.{Network, start_states}
+use Rattle.graph_core.specs.Traces.{Network, start_states, outputs, closings}
+use Rattle.idle_flush.specs.Rests.{rest_cuts}
+use Rattle.line_splitter.specs.Cuts.{texts}
 use Rattle.op_kinds.specs.Kept.{Kept, keeps_groups}
 use Rattle.op_kinds.specs.StateTexts.{states_in, state_text, is_state_text}
 use Rattle.op_kinds.specs.States.{states_spelling, kinds_of}
@@ -22,20 +24,24 @@ use Rattle.poll_core.specs.MadeOf.{IsMadeOf, HasRules}
 use Rattle.settings_text.specs.declared.settings.Settings.{Settings}
 use Rattle.standing.specs.Rules.{Rules}
 
+-- a text says one set of rules at most
+abbrev pub OneSet : Type 0
+OneSet = (text : List ℕ) (one other : Rules) → HasRules text one → HasRules text other → one ≡ other
+
 -- a text spells one pattern at most
 abbrev pub SpellOne : Type 0
 SpellOne = (text : List ℕ) (pattern other : Pattern) → IsGlobText text pattern → IsGlobText text other → pattern ≡ other
 
 module _ (spell_one : SpellOne) where
-  same_patterns : (texts : List (List ℕ)) (one other : List Pattern) → ArePatterns texts one → ArePatterns texts other → one ≡ other
+  same_patterns : (globs : List (List ℕ)) (one other : List Pattern) → ArePatterns globs one → ArePatterns globs other → one ≡ other
   same_patterns [] [] [] first second = refl
   same_patterns [] [] (other ∷ others) first second = absurd (omega (arith, second.many))
   same_patterns [] (one ∷ ones) others first second = absurd (omega (arith, first.many))
-  same_patterns (text ∷ texts) [] others first second = absurd (omega (arith, first.many))
-  same_patterns (text ∷ texts) (one ∷ ones) [] first second = absurd (omega (arith, second.many))
-  same_patterns (text ∷ texts) (one ∷ ones) (other ∷ others) first second =
+  same_patterns (text ∷ globs) [] others first second = absurd (omega (arith, first.many))
+  same_patterns (text ∷ globs) (one ∷ ones) [] first second = absurd (omega (arith, second.many))
+  same_patterns (text ∷ globs) (one ∷ ones) (other ∷ others) first second =
       let head : one ≡ other = spell_one (chars text) one other (first.each zero text one refl refl) (second.each zero text other refl refl) in
-      let tail : ones ≡ others = same_patterns texts ones others
+      let tail : ones ≡ others = same_patterns globs ones others
       (record { many = omega (arith, first.many); each = λ place. first.each (suc place) })
       (record { many = omega (arith, second.many); each = λ place. second.each (suc place) }) in
       cc
@@ -47,14 +53,18 @@ module _ (spell_one : SpellOne) where
     cuts = cuts_of said;
     made = λ path before state tokens. given_from said made_of path before (states_in kinds state) tokens;
     state_after = λ path before state tokens. state_text (kept_from said made_of path before (states_in kinds state) tokens);
+    rest = λ bytes. texts (rest_cuts said.max_log_size bytes);
+    closed = λ state. outputs made_of (states_in kinds state) (closings made_of);
     fresh = states_spelling (start_states made_of);
     is_state = is_state_text kinds;
-    line = λ mark. output_line mark.id mark.number None mark.entry;
+    line = λ mark. output_line mark.id mark.number mark.observed mark.entry;
     fits = fits;
     include = include;
     exclude = exclude;
     front_size = said.fingerprint_size;
     from_end = begins_at_end said.start_at;
+    stamps = said.include_observed_time;
+    flush_after = 0;
   }
 
   pub one_rules : (text : List ℕ) (one other : Pipeline) → IsMadeOf text one → IsMadeOf text other → rules_of text one ≡ rules_of text other

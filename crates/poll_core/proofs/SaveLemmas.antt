@@ -1,16 +1,19 @@
 -- What a sync of the output, and a checkpoint that is put after it, make of a disk.
-use Rattle.std.proofs.Common.{◌≡◌, ◌≢◌, ℕ, ◌+◌, Option, Some, None, refl, sym, ap, ◌∙◌, subst, arith}
+use Rattle.std.proofs.Common.{◌≡◌, ◌≢◌, ℕ, ◌+◌, List, Option, Some, None, refl, sym, ap, ◌∙◌, subst, arith, inl, inr}
+use Rattle.std.specs.Option.{unwrap_or}
 use Rattle.std.specs.Prelude.{option_map}
 use Rattle.checkpoint_journal.specs.declared.journal.Journal.{Journal}
-use Rattle.outside.proofs.Passing.{passes_after_same}
+use Rattle.checkpoint_store.specs.declared.Checkpoint.{Checkpoint}
+use Rattle.outside.proofs.Passing.{passes_after_same, passes_by}
 use Rattle.outside.specs.Crash.{Passes, IsDurable}
 use Rattle.outside.specs.Image.{Image, Same}
 use Rattle.outside.specs.Images.{Images}
 use Rattle.outside.specs.declared.disk.DiskFile.{DiskFile}
 use Rattle.outside.specs.declared.disk.DiskFile.TheVariants.{Settings, Output, SlotA, SlotB}
-use Rattle.poll_core.specs.Next.{DifferInOutput, KeepsMemory}
+use Rattle.poll_core.specs.Next.{DifferInOutput, KeepsMemory, Puts, Saves}
 use Rattle.slot_store.specs.Committed.{LeavesOne}
 use Rattle.slot_store.specs.Counted.{DoneFewer}
+use Rattle.standing.specs.Pass.{time_of}
 
 -- ---- one image after another
 
@@ -18,6 +21,11 @@ pub keeps_same : (journal : Option Journal) (old new : Image DiskFile) → new �
 keeps_same journal old new same =
     let P : Image DiskFile → Type 0 = λ image. KeepsMemory journal old image in
     subst P (sym same) (λ before memory. memory)
+
+-- the time of a poll, or else the one before
+pub time_is : (stamp : Option ℕ) (before : ℕ) → unwrap_or stamp before ≡ time_of stamp before
+time_is None before = refl
+time_is (Some time) before = refl
 
 -- ---- over all images
 
@@ -47,6 +55,23 @@ module _ {D : Type 0} {images : Images DiskFile D} {old mid : D} where
 
 pub early_after_same : {D : Type 0} {images : Images DiskFile D} {old mid new : D} (journal : Option Journal) → Passes images Same old mid → Passes images (KeepsMemory journal) mid new → Passes images (KeepsMemory journal) old new
 early_after_same journal first second = passes_after_same first second (λ image before memory. memory)
+
+-- a checkpoint that is put after a sync of the output is put beside the output that was read
+saves_of_puts : (journal : Option Journal) (after : Checkpoint) (output : List ℕ) (old new : Image DiskFile) → old Output ≡ output → Puts journal after old new → Saves journal after output old new
+saves_of_puts journal after output old new is puts = record {
+  files = puts.files;
+  choice = elim puts.choice [ inl keeps ↦ inl keeps | inr next ↦ inr (next, is) ];
+}
+
+saves_same : (journal : Option Journal) (after : Checkpoint) (output : List ℕ) (image : Image DiskFile) → Saves journal after output image image
+saves_same journal after output image = record { files = record { settings = refl; output = refl }; choice = inl (λ before memory. memory) }
+
+pub saves_after : {D : Type 0} {images : Images DiskFile D} {old mid new : D} (journal : Option Journal) (after : Checkpoint) → IsSynced images old mid → Passes images (Puts journal after) mid new → Passes images (Saves journal after (images.seen old Output)) old new
+saves_after {D} {images} {old} {mid} {new} journal after synced puts =
+    let output : List ℕ = images.seen old Output in
+    let saves : Passes images (Saves journal after output) mid new = passes_by puts (λ first second left step.
+    saves_of_puts journal after output first second (synced.durable first left ∙ ap (λ (image : Image DiskFile). image Output) synced.seen) step) in
+    passes_after_same synced.crash saves (saves_same journal after output)
 
 -- ---- counts
 

@@ -1,22 +1,25 @@
 -- The rows of what was taken, one after another, and how long they are.
-use Rattle.std.proofs.Common.{◌≡◌, ℕ, suc, ◌+◌, ◌^◌, ◌≤◌, Bool, true, false, List, [], ◌++◌, ◌∷◌, length, take, Some, refl, ap, ◌∙◌, arith, length-append, add-one, subst, zero}
+use Rattle.std.proofs.Common.{◌≡◌, ℕ, suc, ◌+◌, ◌*◌, ◌^◌, ◌≤◌, Bool, true, false, List, [], ◌++◌, ◌∷◌, length, take, Some, refl, ap, ◌∙◌, arith, length-append, add-one, subst, zero}
 use Rattle.std.proofs.lemmas.List.{append-nil, take_more}
 use Rattle.std.proofs.lemmas.List.Concat.{flat_map-append, length-flat_map}
 use Rattle.std.proofs.lemmas.List.Folds.{length-flat_map-take}
 use Rattle.std.proofs.lemmas.List.Sums.{sum_by-cons}
 use Rattle.std.proofs.lemmas.Option.{slice_get_within, get_or_from_slice_get}
-use Rattle.std.specs.Int.{w32, w64, to_be_bytes}
+use Rattle.std.specs.Int.{w32, to_be_bytes}
 use Rattle.std.specs.List.{flat_map}
 use Rattle.std.specs.Prelude.{slice_get, sum_by}
-use Rattle.checkpoint_journal.proofs.CostLemmas.{change_long}
-use Rattle.checkpoint_journal.proofs.ShortLemmas.{checkpoint_short}
-use Rattle.checkpoint_store.specs.Rules.{IsCheckpoint, KeepsRules, KeepRules}
-use Rattle.checkpoint_store.specs.Spelling.{row_spelling, rows_spelling, change_spelling, checkpoint_spelling}
+use Rattle.checkpoint_journal.proofs.CostLemmas.{change_long, checkpoint_long}
+use Rattle.checkpoint_journal.proofs.ShortLemmas.{checkpoint_short, row_long, told_long}
+use Rattle.checkpoint_store.specs.Limits.{newest}
+use Rattle.checkpoint_store.specs.Rules.{IsCheckpoint, KeepsRules, KeepRules, past_of}
+use Rattle.checkpoint_store.specs.Spelling.{row_spelling, change_spelling, checkpoint_spelling}
 use Rattle.checkpoint_store.specs.declared.Checkpoint.{Checkpoint}
+use Rattle.checkpoint_store.specs.declared.beside.Beside.{Beside}
 use Rattle.file_pass.specs.declared.taking.Taking.{Taking}
 use Rattle.file_tracker.specs.declared.row.Row.{Row}
 use Rattle.poll_core.specs.Taken.{flagged, taken_change, taken_checkpoint}
-use Rattle.state_codec.proofs.Numbers.{wide32, wide64}
+use Rattle.poll_core.specs.declared.heading.Heading.{Heading}
+use Rattle.state_codec.proofs.Numbers.{wide32}
 use Rattle.state_codec.specs.Spelling.{bytes_spelling}
 
 -- ---- one more row
@@ -59,63 +62,72 @@ flagged_less flags rows place flag not_set flag_is = rw add-one (flagged_without
 bytes_long : (bytes : List ℕ) → length (bytes_spelling bytes) ≡ 4 + length bytes
 bytes_long bytes = omega (arith, length-append (to_be_bytes w32 (length bytes)) bytes, wide32.size (length bytes))
 
-pub checkpoint_long : (checkpoint : Checkpoint) → length (checkpoint_spelling checkpoint) ≡ 21 + length checkpoint.settings + length (flat_map row_spelling checkpoint.rows)
-checkpoint_long checkpoint =
-    let rows = rows_spelling checkpoint.rows in
-    let next = to_be_bytes w32 checkpoint.next_id ++ rows in
-    let output = to_be_bytes w64 checkpoint.output_length ++ next in
-    omega (
-      arith,
-      length-append (bytes_spelling checkpoint.settings) output,
-      bytes_long checkpoint.settings,
-      length-append (to_be_bytes w64 checkpoint.output_length) next,
-      wide64.size checkpoint.output_length,
-      length-append (to_be_bytes w32 checkpoint.next_id) rows,
-      wide32.size checkpoint.next_id,
-      length-append (to_be_bytes w32 (length checkpoint.rows)) (flat_map row_spelling checkpoint.rows),
-      wide32.size (length checkpoint.rows),
-    )
+-- how long the spelling of some texts is, and of some rows
+abbrev pub texts_size : List (List ℕ) → ℕ
+texts_size eras = length (flat_map bytes_spelling eras)
 
-pub length_next : (rows : List Row) (place : ℕ) (row : Row) → slice_get rows place ≡ Some row
-    → length (flat_map row_spelling (take (place + 1) rows)) ≡ length (flat_map row_spelling (take place rows)) + length (row_spelling row)
-length_next rows place row is =
-    let front = flat_map row_spelling (take place rows) in
-    ap (λ (l : List Row). length (flat_map row_spelling l)) (take_next rows place row is)
-    ∙ ap (λ (l : List ℕ). length l) (flat_map-append row_spelling (take place rows) (row ∷ []))
-    ∙ length-append front (row_spelling row ++ [])
-    ∙ ap (λ (l : List ℕ). length front + length l) (append-nil (row_spelling row))
+abbrev pub rows_size : List Row → ℕ
+rows_size rows = length (flat_map (row_spelling newest) rows)
 
-pub row_within : (rows : List Row) (place : ℕ) (row : Row) → slice_get rows place ≡ Some row
-    → length (flat_map row_spelling (take place rows)) + length (row_spelling row) ≤ length (flat_map row_spelling rows)
-row_within rows place row is =
-    subst (λ (r : Row). length (flat_map row_spelling (take place rows)) + length (row_spelling r) ≤ length (flat_map row_spelling rows)) (get_or_from_slice_get rows place row row is)
-    (length-flat_map-take row_spelling rows place row (slice_get_within rows place row is))
+pub whole_long : (checkpoint : Checkpoint) → length (checkpoint_spelling newest checkpoint) ≡ 29 + texts_size checkpoint.eras + rows_size checkpoint.rows
+whole_long checkpoint =
+    omega (arith, checkpoint_long newest checkpoint, length-flat_map bytes_spelling checkpoint.eras, length-flat_map (row_spelling newest) checkpoint.rows)
 
-pub row_kept : (output first : ℕ) (rows : List Row) (place : ℕ) (row : Row) → KeepRules output first rows → slice_get rows place ≡ Some row → KeepsRules output row
-row_kept output first [] place row keep is = absurd (cc)
-row_kept output first (one ∷ rows) zero row keep is = let same : one ≡ row = cc in subst (λ (r : Row). KeepsRules output r) same keep.1.0
-row_kept output first (one ∷ rows) (suc place) row keep is = row_kept output (first + 1) rows place row keep.1.1 is
+length_more : {X : Type 0} (spelled : X → List ℕ) (xs : List X) (place : ℕ) (x : X) → slice_get xs place ≡ Some x
+    → length (flat_map spelled (take (place + 1) xs)) ≡ length (flat_map spelled (take place xs)) + length (spelled x)
+length_more {X} spelled xs place x is =
+    let front = flat_map spelled (take place xs) in
+    ap (λ (l : List X). length (flat_map spelled l)) (take_next xs place x is)
+    ∙ ap (λ (l : List ℕ). length l) (flat_map-append spelled (take place xs) (x ∷ []))
+    ∙ length-append front (spelled x ++ [])
+    ∙ ap (λ (l : List ℕ). length front + length l) (append-nil (spelled x))
+
+length_within : {X : Type 0} (spelled : X → List ℕ) (xs : List X) (place : ℕ) (x : X) → slice_get xs place ≡ Some x
+    → length (flat_map spelled (take place xs)) + length (spelled x) ≤ length (flat_map spelled xs)
+length_within {X} spelled xs place x is =
+    subst (λ (y : X). length (flat_map spelled (take place xs)) + length (spelled y) ≤ length (flat_map spelled xs)) (get_or_from_slice_get xs place x x is)
+    (length-flat_map-take spelled xs place x (slice_get_within xs place x is))
+
+pub text_next : (eras : List (List ℕ)) (place : ℕ) (text : List ℕ) → slice_get eras place ≡ Some text → texts_size (take (place + 1) eras) ≡ texts_size (take place eras) + (4 + length text)
+text_next eras place text is = omega (arith, length_more bytes_spelling eras place text is, bytes_long text)
+
+pub text_within : (eras : List (List ℕ)) (place : ℕ) (text : List ℕ) → slice_get eras place ≡ Some text → texts_size (take place eras) + (4 + length text) ≤ texts_size eras
+text_within eras place text is = omega (arith, length_within bytes_spelling eras place text is, bytes_long text)
+
+pub row_next : (rows : List Row) (place : ℕ) (row : Row) → slice_get rows place ≡ Some row → rows_size (take (place + 1) rows) ≡ rows_size (take place rows) + length (row_spelling newest row)
+row_next rows place row is = length_more (row_spelling newest) rows place row is
+
+pub row_within : (rows : List Row) (place : ℕ) (row : Row) → slice_get rows place ≡ Some row → rows_size (take place rows) + length (row_spelling newest row) ≤ rows_size rows
+row_within rows place row is = length_within (row_spelling newest) rows place row is
+
+pub row_kept : (beside : Beside) (first : ℕ) (rows : List Row) (place : ℕ) (row : Row) → KeepRules beside first rows → slice_get rows place ≡ Some row → KeepsRules beside row
+row_kept beside first [] place row keep is = absurd (cc)
+row_kept beside first (one ∷ rows) zero row keep is = let same : one ≡ row = cc in subst (λ (r : Row). KeepsRules beside r) same keep.1.0
+row_kept beside first (one ∷ rows) (suc place) row keep is = row_kept beside (first + 1) rows place row keep.1.1 is
+
+-- in the newest version all is told of a row
+pub newest_long : (row : Row) → length (row_spelling newest row) ≡ 68 + length row.path + length row.front + length row.state + 24 * length row.ends
+newest_long row = omega (arith, row_long newest row, told_long (past_of row))
 
 -- ---- the change is no longer than the checkpoint
 
-flagged_sum : (flags : List Bool) (rows : List Row) → sum_by (λ row. length (row_spelling row)) (flagged flags rows) ≤ sum_by (λ row. length (row_spelling row)) rows
+flagged_sum : (flags : List Bool) (rows : List Row) → sum_by (λ row. length (row_spelling newest row)) (flagged flags rows) ≤ sum_by (λ row. length (row_spelling newest row)) rows
 flagged_sum [] rows = omega arith
 flagged_sum (true ∷ flags) [] = omega arith
 flagged_sum (false ∷ flags) [] = omega arith
 flagged_sum (true ∷ flags) (row ∷ rows) =
     let rest = flagged_sum flags rows in
-    omega (arith, sum_by-cons (λ (row : Row). length (row_spelling row)) row rows, sum_by-cons (λ (row : Row). length (row_spelling row)) row (flagged flags rows))
+    omega (arith, sum_by-cons (λ (row : Row). length (row_spelling newest row)) row rows, sum_by-cons (λ (row : Row). length (row_spelling newest row)) row (flagged flags rows))
 flagged_sum (false ∷ flags) (row ∷ rows) =
     let rest = flagged_sum flags rows in
-    omega (arith, sum_by-cons (λ (row : Row). length (row_spelling row)) row rows)
+    omega (arith, sum_by-cons (λ (row : Row). length (row_spelling newest row)) row rows)
 
-pub change_within : (settings : List ℕ) (taking : Taking) → IsCheckpoint (taken_checkpoint settings taking) → length (change_spelling (taken_change taking)) ≤ 2 ^ 52
-change_within settings taking lawful =
+pub change_within : (heading : Heading) (taking : Taking) → IsCheckpoint newest (taken_checkpoint heading taking) → length (change_spelling newest (taken_change heading taking)) ≤ 2 ^ 52
+change_within heading taking lawful =
     omega (
       arith,
-      change_long (taken_change taking),
+      change_long newest (taken_change heading taking),
       flagged_sum taking.changed.items taking.tracker,
-      length-flat_map row_spelling taking.tracker,
-      checkpoint_long (taken_checkpoint settings taking),
-      checkpoint_short (taken_checkpoint settings taking) lawful,
+      checkpoint_long newest (taken_checkpoint heading taking),
+      checkpoint_short newest (taken_checkpoint heading taking) lawful,
     )

@@ -1,5 +1,5 @@
 -- What keeping a pass makes of a disk.
-use Rattle.std.specs.Prelude.{◌≡◌, ◌⊎◌, ℕ, List, Option, Some}
+use Rattle.std.specs.Prelude.{◌≡◌, ◌⊎◌, ℕ, Option, Some}
 use Rattle.checkpoint_journal.specs.Written.{IsWorn}
 use Rattle.checkpoint_journal.specs.declared.journal.Journal.{Journal}
 use Rattle.file_pass.specs.declared.taking.Taking.{Taking}
@@ -8,15 +8,21 @@ use Rattle.outside.specs.declared.disk.DiskFile.{DiskFile}
 use Rattle.outside.specs.declared.disk.DiskFile.TheVariants.{Output}
 use Rattle.poll_core.specs.Begun.{IsQuiet}
 use Rattle.poll_core.specs.Next.{IsNext, IsSavedIn}
-use Rattle.poll_core.specs.Taken.{taken_change, taken_checkpoint}
+use Rattle.poll_core.specs.Taken.{Keeping}
+use Rattle.standing.specs.Pass.{time_of}
 use Rattle.slot_store.specs.Committed.{LeavesOne}
 use Rattle.slot_store.specs.Synced.{EachLeft}
 
+-- The greatest time that is kept once this was taken: the poll's, where something is to be kept, and else as before.
+abbrev pub KeepsTime : Option Journal → ℕ → Taking → Option ℕ → ℕ → ℕ → Type 0
+KeepsTime journal kept taking stamp before after =
+    (IsQuiet journal kept taking × (after ≡ before)) ⊎ ((IsQuiet journal kept taking → ⊥) × (after ≡ time_of stamp before))
+
 -- The checkpoint of what was taken was written, and a crash leaves it beside the output that was read, and nothing else.
-pub record IsSaved {D : Type 0} (images : Images DiskFile D) (settings : List ℕ) (taking : Taking) (journal : Option Journal) (next : Journal) (old new : D) : Type 0 where
-  pub each : EachLeft images new (IsSavedIn next (taken_checkpoint settings taking) (images.seen old Output))
+pub record IsSaved {D : Type 0} (images : Images DiskFile D) (keeping : Keeping) (journal : Option Journal) (next : Journal) (old new : D) : Type 0 where
+  pub each : EachLeft images new (IsSavedIn next keeping.after (images.seen old Output))
   pub one : LeavesOne images new
-  pub next_is : IsNext journal (taken_checkpoint settings taking) (taken_change taking) next
+  pub next_is : IsNext journal keeping.after keeping.change next
   pub not_worn : IsWorn journal → ⊥
 
 -- There was nothing to write, and nothing was.
@@ -25,6 +31,6 @@ pub record IsLeft {D : Type 0} (journal after : Option Journal) (kept : ℕ) (ta
   pub same : after ≡ journal
   pub still : new ≡ old
 
-abbrev pub Keeps : {D : Type 0} → Images DiskFile D → List ℕ → Taking → ℕ → Option Journal → Option Journal → D → D → Type 0
-Keeps images settings taking kept journal after old new = IsLeft journal after kept taking old new
-    ⊎ ((next : Journal) × (after ≡ Some next) × IsSaved images settings taking journal next old new × (IsQuiet journal kept taking → ⊥))
+abbrev pub Keeps : {D : Type 0} → Images DiskFile D → Keeping → Taking → ℕ → Option Journal → Option Journal → D → D → Type 0
+Keeps images keeping taking kept journal after old new = IsLeft journal after kept taking old new
+    ⊎ ((next : Journal) × (after ≡ Some next) × IsSaved images keeping journal next old new × (IsQuiet journal kept taking → ⊥))

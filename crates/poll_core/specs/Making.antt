@@ -5,7 +5,7 @@ use Rattle.checkpoint_store.specs.declared.Checkpoint.{Checkpoint}
 use Rattle.poll_core.specs.Differs.{DiffersAt}
 use Rattle.poll_core.specs.OpenFaults.{IsLeastForeign}
 use Rattle.poll_core.specs.Remembers.{IsEmpty}
-use Rattle.poll_core.specs.SessionParts.{checkpoint_of_session, journal_of_session}
+use Rattle.poll_core.specs.SessionParts.{last_text, checkpoint_of_session, journal_of_session}
 use Rattle.poll_core.specs.declared.fault.OpenFault.{OpenFault}
 use Rattle.poll_core.specs.declared.fault.OpenFault.TheVariants.{Settings, Build, Disk, CheckpointBad, SettingsChanged, OutputShort, Memory}
 use Rattle.poll_core.specs.declared.session.Session.{Session}
@@ -21,8 +21,8 @@ abbrev pub IsUnfit : List ℕ → Rules → Checkpoint → OpenFault → Type 0
 IsUnfit text rules checkpoint (Settings _) = ⊥
 IsUnfit text rules checkpoint (Build _) = ⊥
 IsUnfit text rules checkpoint Disk = ⊥
-IsUnfit text rules checkpoint (CheckpointBad id) = (checkpoint.settings ≡ text) × IsLeastForeign rules checkpoint.rows id
-IsUnfit text rules checkpoint (SettingsChanged at) = DiffersAt checkpoint.settings text at
+IsUnfit text rules checkpoint (CheckpointBad id) = (last_text checkpoint.eras ≡ text) × IsLeastForeign rules checkpoint.rows id
+IsUnfit text rules checkpoint (SettingsChanged at) = DiffersAt (last_text checkpoint.eras) text at
 IsUnfit text rules checkpoint (OutputShort _ _) = ⊥
 IsUnfit text rules checkpoint Memory = ⊤
 

@@ -3,27 +3,26 @@ use Rattle.std.specs.Prelude.{◌≡◌, ◌≢◌, ◌⊎◌, ℕ, ◌+◌, ◌
 use Rattle.checkpoint_journal.specs.JournalOf.{HasJournal, EndsWith}
 use Rattle.checkpoint_journal.specs.Written.{appended, started}
 use Rattle.checkpoint_journal.specs.declared.journal.Journal.{Journal}
-use Rattle.checkpoint_journal.specs.declared.journal.TheConstants.{NEWEST_VERSION}
 use Rattle.checkpoint_store.specs.Changed.{changed}
 use Rattle.checkpoint_store.specs.Fits.{Fits}
+use Rattle.checkpoint_store.specs.Limits.{newest}
 use Rattle.checkpoint_store.specs.Spelling.{row_spelling, checkpoint_spelling}
 use Rattle.checkpoint_store.specs.declared.Change.{Change}
 use Rattle.checkpoint_store.specs.declared.Checkpoint.{Checkpoint}
-use Rattle.file_pass.specs.declared.taking.Taking.{Taking}
 use Rattle.file_tracker.specs.declared.row.Row.{Row}
 use Rattle.outside.specs.Image.{Image}
 use Rattle.outside.specs.declared.disk.DiskFile.{DiskFile}
 use Rattle.outside.specs.declared.disk.DiskFile.TheVariants.{Settings, Output}
 use Rattle.poll_core.specs.IsSession.{IsShort}
 use Rattle.poll_core.specs.Remembers.{HasMemory, EndsWithMemory}
-use Rattle.poll_core.specs.Taken.{taken_checkpoint, taken_change}
+use Rattle.poll_core.specs.Taken.{Keeping}
 
 -- The image has what stood before the pass and ends with it, and what the pass changed makes of it what was taken.
-pub record IsSavable (journal : Option Journal) (settings : List ℕ) (taking : Taking) (image : Image DiskFile) : Type 0 where
+pub record IsSavable (journal : Option Journal) (keeping : Keeping) (image : Image DiskFile) : Type 0 where
   pub before : Checkpoint
   pub ends : EndsWithMemory journal before image
-  pub fits : Fits before (taken_change taking)
-  pub makes : taken_checkpoint settings taking ≡ changed before (taken_change taking)
+  pub fits : Fits newest before keeping.change
+  pub makes : keeping.after ≡ changed before keeping.change
 
 -- The images differ in the output alone, the settings file aside.
 pub record DifferInOutput (one other : Image DiskFile) : Type 0 where
@@ -70,16 +69,16 @@ WrittenAtMost most (Some _) None = ⊥
 WrittenAtMost most (Some before) (Some after) = after ≤ before + most
 
 abbrev pub cost_of_rows : List Row → ℕ
-cost_of_rows rows = 64 + sum_by (λ row. 16 + length (row_spelling row)) rows
+cost_of_rows rows = 64 + sum_by (λ row. 16 + length (row_spelling newest row)) rows
 
 -- The records behind the base are longer than twice the whole checkpoint and 64 KiB. Before the base stand 17 bytes.
 abbrev pub IsTooLong : Journal → Checkpoint → Type 0
-IsTooLong journal after = 2 * length (checkpoint_spelling after) + 65536 < journal.end - (17 + journal.slot.length)
+IsTooLong journal after = 2 * length (checkpoint_spelling newest after) + 65536 < journal.end - (17 + journal.slot.length)
 
 -- a whole checkpoint is due
 abbrev pub IsDue : Option Journal → Checkpoint → Type 0
 IsDue None after = ⊤
-IsDue (Some journal) after = (journal.version ≢ NEWEST_VERSION) ⊎ IsTooLong journal after
+IsDue (Some journal) after = (journal.version ≢ newest) ⊎ IsTooLong journal after
 
 -- The journal has the next sequence number. Where that is due it begins anew in the other slot, with the whole checkpoint;
 -- else it goes on with the change.
@@ -91,5 +90,5 @@ pub record IsNext (before : Option Journal) (after : Checkpoint) (change : Chang
 
 -- Where it was due, the whole checkpoint was written, and else the rows that changed.
 pub record Costs (journal : Option Journal) (after : Checkpoint) (rows : List Row) (before spent : Option ℕ) : Type 0 where
-  pub anew : IsDue journal after → WrittenAtMost (length (checkpoint_spelling after) + 18) before spent
+  pub anew : IsDue journal after → WrittenAtMost (length (checkpoint_spelling newest after) + 18) before spent
   pub goes_on : (IsDue journal after → ⊥) → WrittenAtMost (cost_of_rows rows) before spent

@@ -10,6 +10,7 @@ use Rattle.pipeline.specs.declared.fault.BuildFault.{BuildFault}
 use Rattle.pipeline.specs.declared.fault.BuildFault.TheVariants as build
 use Rattle.poll_core.specs.Differs.{DiffersAt}
 use Rattle.poll_core.specs.MadeOf.{HasRules}
+use Rattle.poll_core.specs.SessionParts.{last_text}
 use Rattle.poll_core.specs.declared.fault.OpenFault.{OpenFault}
 use Rattle.poll_core.specs.declared.fault.OpenFault.TheVariants.{Settings as RefusesSettings, Build, CheckpointBad, SettingsChanged, OutputShort, Memory}
 use Rattle.settings_text.specs.Grammar.{settings}
@@ -38,13 +39,13 @@ IsSettingsRefusal text fault = (rules : Rules) × HasRules text rules
 -- the image's checkpoint is of the settings of this text
 pub record IsOfText (text : List ℕ) (image : Image DiskFile) (checkpoint : Checkpoint) : Type 0 where
   pub has : HasCheckpoint (Some checkpoint) image
-  pub settings : checkpoint.settings ≡ text
+  pub settings : last_text checkpoint.eras ≡ text
 
 -- the image's checkpoint is of another text, and this is the first place at which they differ
 pub record HasOtherSettings (text : List ℕ) (image : Image DiskFile) (at : ℕ) : Type 0 where
   pub checkpoint : Checkpoint
   pub has : HasCheckpoint (Some checkpoint) image
-  pub differ : DiffersAt checkpoint.settings text at
+  pub differ : DiffersAt (last_text checkpoint.eras) text at
 
 -- the row with this id keeps no state of the operators, and no row with a lower id is so
 pub record IsLeastForeign (rules : Rules) (rows : List Row) (id : ℕ) : Type 0 where

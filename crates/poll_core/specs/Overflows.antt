@@ -3,8 +3,7 @@ use Rattle.std.specs.Prelude.{◌≡◌, ◌⊎◌, ℕ, ◌+◌, ◌<◌, ◌�
 use Rattle.file_pass.specs.Full.{lines_text}
 use Rattle.outside.specs.Seen.{looked, missed, left_unlisted}
 use Rattle.outside.specs.World.{World}
-use Rattle.poll_core.specs.Polled.{is_first}
-use Rattle.poll_core.specs.SessionParts.{checkpoint_of_session, rules_of_session, kept_of, limit_of}
+use Rattle.poll_core.specs.SessionParts.{checkpoint_of_session, poll_of_session, rules_of_session, kept_of, limit_of}
 use Rattle.poll_core.specs.declared.session.Session.{Session}
 use Rattle.standing.specs.Look.{Look, size}
 use Rattle.standing.specs.Looks.{Ascend, Come, ReadOn, progress_by}
@@ -32,7 +31,7 @@ pub record Overflows (session : Session) (full : ℕ) (old new : World) : Type 0
   pub all_unlisteds : left_unlisted new.history ≡ unlisteds ++ left_unlisted old.history
   pub come : Come (rules_of_session session) (here ∷ earlier) old.history new.history
   pub ascend : Ascend (here ∷ earlier)
-  pub read_on : ReadOn (rules_of_session session) (is_first session) (here ∷ earlier) (start_at (checkpoint_of_session session))
+  pub read_on : ReadOn (poll_of_session session) (here ∷ earlier) (start_at (checkpoint_of_session session))
   pub whole : here.end ≡ size here
   pub fills : FirstPast (limit_of session) (kept_of session)
-      (progress_by (rules_of_session session) (is_first session) (here ∷ earlier) (start_at (checkpoint_of_session session))).added full
+      (progress_by (poll_of_session session) (here ∷ earlier) (start_at (checkpoint_of_session session))).added full

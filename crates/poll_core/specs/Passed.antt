@@ -1,7 +1,7 @@
 -- A walk, and a pass over the paths that it found.
 use Rattle.std.specs.Prelude.{◌≡◌, ℕ, List}
 use Rattle.file_pass.specs.AllTaken.{TakesAll}
-use Rattle.file_pass.specs.Fed.{rules_in}
+use Rattle.file_pass.specs.Fed.{poll_of, rules_in}
 use Rattle.file_pass.specs.Overflow.{AllFill}
 use Rattle.file_pass.specs.Sane.{IsSaneTaking}
 use Rattle.file_pass.specs.Unchanged.{FlagsChanges}
@@ -32,4 +32,4 @@ pub record PassFills {T : Type 0} (trees : TreeMeaning T) (setup : Setup) (rows 
   pub between : T
   pub walk : Walk
   pub finds : Finds trees (rules_in setup).include (rules_in setup).exclude walk tree between
-  pub fills : Told (AllFill (rules_in setup) setup.first setup.limit walk.paths.items rows kept full) (trees.world between) (trees.world tree_after)
+  pub fills : Told (AllFill (poll_of setup) setup.limit walk.paths.items rows kept full) (trees.world between) (trees.world tree_after)

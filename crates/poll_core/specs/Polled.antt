@@ -1,9 +1,9 @@
 -- What a poll is: a pass of the rules over the files, and what it makes of a disk.
-use Rattle.std.specs.Prelude.{◌≡◌, ◌≢◌, ◌⊎◌, ℕ, ◌+◌, ◌-◌, ◌≤◌, All, Bool, false, Contains, List, [], ◌++◌, length, Some, slice_get}
-use Rattle.std.specs.Option.{is_none}
+use Rattle.std.specs.Prelude.{◌≡◌, ◌≢◌, ◌⊎◌, ℕ, ◌+◌, ◌-◌, ◌≤◌, All, false, Contains, List, [], ◌++◌, length, Some, slice_get, ⊤}
 use Rattle.checkpoint_journal.specs.Written.{IsWorn}
 use Rattle.checkpoint_store.specs.Fits.{Ascend, HasId}
-use Rattle.checkpoint_store.specs.Rules.{IsCheckpoint}
+use Rattle.checkpoint_store.specs.Rules.{IsCheckpoint, beside_of}
+use Rattle.checkpoint_store.specs.Limits.{newest}
 use Rattle.checkpoint_journal.specs.declared.journal.Journal.{Journal}
 use Rattle.checkpoint_store.specs.declared.Change.{Change}
 use Rattle.checkpoint_store.specs.declared.Checkpoint.{Checkpoint}
@@ -19,28 +19,26 @@ use Rattle.outside.specs.World.{History, World, Told}
 use Rattle.outside.specs.declared.disk.DiskFile.{DiskFile}
 use Rattle.outside.specs.declared.disk.DiskFile.TheVariants.{Settings, Output}
 use Rattle.poll_core.specs.Found.{IsFound}
+use Rattle.poll_core.specs.MadeOf.{AreErasOf, EndsWithRules}
 use Rattle.poll_core.specs.Next.{HasNext, Costs, IsNext}
 use Rattle.poll_core.specs.Remembers.{HasMemory}
-use Rattle.poll_core.specs.SessionParts.{checkpoint_of_session, rules_of_session, journal_of_session, kept_of, limit_of}
+use Rattle.poll_core.specs.SessionParts.{checkpoint_of_session, is_first, poll_of_session, rules_of_session, journal_of_session, kept_of, limit_of, time_of_session}
 use Rattle.poll_core.specs.StandsOn.{StandsOn}
 use Rattle.poll_core.specs.Summed.{IsDeep, HasDeepFolder, sums_of}
 use Rattle.poll_core.specs.declared.session.Session.{Session}
 use Rattle.poll_core.specs.declared.summary.Summary.{Summary}
+use Rattle.standing.specs.Eras.{Eras}
 use Rattle.standing.specs.Look.{Look}
 use Rattle.standing.specs.Marks.{Mark}
 use Rattle.standing.specs.Moments.{NamesThroughout}
 use Rattle.standing.specs.Pass.{Pass, Stretch, IsReachable, WasHidden, start_at}
 use Rattle.standing.specs.Rows.{KeepStates}
-use Rattle.standing.specs.Rules.{Rules, Includes}
-use Rattle.standing.specs.Standing.{Found, Sound, Standing}
+use Rattle.standing.specs.Rules.{Includes}
+use Rattle.standing.specs.Standing.{Found, nothing, damaged, found, Sound, Standing}
 use Rattle.standing.specs.Sums.{AreSums, capped}
 use Rattle.tree_walk.specs.Walked.{Ascends}
 
 -- ---- the pass
-
--- no checkpoint stood
-abbrev pub is_first : Session → Bool
-is_first session = is_none (journal_of_session session)
 
 abbrev pub stretch_of : History → History → ℕ → ℕ → Stretch
 stretch_of old new before after = record { old = old; new = new; faults_before = before; faults_after = after }
@@ -56,22 +54,22 @@ counts_of trees tree = record { faults = trees.faults tree; taken = trees.taken 
 
 -- Reads gave no more bytes than the front of each file looked at, and what is read on of it.
 abbrev pub ReadsAtMost : Session → List Look → TreeCounts → TreeCounts → Type 0
-ReadsAtMost session looks before after = after.taken ≤ before.taken + cost_of (rules_of_session session) (is_first session) looks (start_at (checkpoint_of_session session))
+ReadsAtMost session looks before after = after.taken ≤ before.taken + cost_of (poll_of_session session) looks (start_at (checkpoint_of_session session))
 
 -- There are looks with which the checkpoint became this one, and added these lines.
 pub record IsPass (session : Session) (after : Checkpoint) (added : List Mark) (counts counts_after : TreeCounts) (old new : World) : Type 0 where
   pub looks : List Look
-  pub pass : Pass (rules_of_session session) (is_first session) (stretch_of old.history new.history counts.faults counts_after.faults) looks
+  pub pass : Pass (poll_of_session session) (stretch_of old.history new.history counts.faults counts_after.faults) looks
       (checkpoint_of_session session) after added
   pub read : ReadsAtMost session looks counts counts_after
 
 -- Besides, the numbers of the summary are theirs, and `deep` counts the folders that were met and lie too deep.
 pub record IsSummed (session : Session) (after : Checkpoint) (added : List Mark) (summary : Summary) (counts counts_after : TreeCounts) (old new : World) : Type 0 where
   pub looks : List Look
-  pub pass : Pass (rules_of_session session) (is_first session) (stretch_of old.history new.history counts.faults counts_after.faults) looks
+  pub pass : Pass (poll_of_session session) (stretch_of old.history new.history counts.faults counts_after.faults) looks
       (checkpoint_of_session session) after added
   pub read : ReadsAtMost session looks counts counts_after
-  pub sums : AreSums (rules_of_session session) (is_first session) (stretch_of old.history new.history counts.faults counts_after.faults) looks
+  pub sums : AreSums (poll_of_session session) (stretch_of old.history new.history counts.faults counts_after.faults) looks
       (checkpoint_of_session session) after added pass (sums_of summary)
   pub deep : List (List ℕ)
   pub deep_once : Ascends deep
@@ -100,10 +98,10 @@ Steps session after added old new = Stays session old new ⊎ Gains session afte
 
 -- The checkpoint is of the same settings, fits behind the session's with these lines, and is within the limits.
 pub record ComesAfter (session : Session) (after : Checkpoint) (added : List Mark) : Type 0 where
-  pub settings : after.settings ≡ session.settings
+  pub eras : after.eras ≡ session.eras
   pub output_length : after.output_length ≡ kept_of session + length (lines_text added)
   pub within : added ≢ [] → after.output_length ≤ limit_of session
-  pub lawful : IsCheckpoint after
+  pub lawful : IsCheckpoint newest after
   pub states : KeepStates (rules_of_session session) after.rows
 
 -- A checkpoint stood, and nothing of it changed.
@@ -113,7 +111,7 @@ pub record ChangesNothing (session : Session) (after : Checkpoint) : Type 0 wher
 
 -- These are exactly the rows that the next checkpoint has and the session hadn't, by ascending id.
 pub record AreChanged (session : Session) (after : Checkpoint) (rows : List Row) : Type 0 where
-  pub ascend : Ascend after.output_length 1 (after.next_id - 1) rows
+  pub ascend : Ascend (beside_of newest after.eras after.output_length) 1 (after.next_id - 1) rows
   pub each : All (λ (row : Row). slice_get after.rows (row.id - 1) ≡ Some row) rows
   pub differ : All (λ (row : Row). slice_get (checkpoint_of_session session).rows (row.id - 1) ≢ Some row) rows
   pub no_other : (place : ℕ) (row : Row) → slice_get after.rows place ≡ Some row → slice_get (checkpoint_of_session session).rows place ≢ Some row → HasId rows row.id
@@ -126,7 +124,7 @@ pub record HasCost {D : Type 0} (meaning : DiskMeaning D) (session : Session) (a
 
 -- the change to this checkpoint by these rows
 abbrev pub change_to : Checkpoint → List Row → Change
-change_to after rows = record { output_length = after.output_length; next_id = after.next_id; rows = rows }
+change_to after rows = record { output_length = after.output_length; observed = after.observed; next_id = after.next_id; rows = rows }
 
 -- The session that goes on has the journal that comes next.
 abbrev pub HasNextJournal : Session → Session → List Row → Type 0
@@ -159,6 +157,7 @@ pub record RoseBy {T : Type 0} (trees : TreeMeaning T) (failed : ℕ) (tree tree
 pub record Polled {T D : Type 0} (trees : TreeMeaning T) (disks : DiskMeaning D) (session next : Session) (summary : Summary) (tree tree_after : T) (disk disk_after : D) : Type 0 where
   pub rules : rules_of_session next ≡ rules_of_session session
   pub limit : limit_of next ≡ limit_of session
+  pub time : time_of_session next ≡ time_of_session session
   pub not_first : is_first next ≡ false
   pub added : List Mark
   pub comes : ComesAfter session (checkpoint_of_session next) added
@@ -184,14 +183,30 @@ pub record HasToKeep {T : Type 0} (trees : TreeMeaning T) (session : Session) (t
 
 -- ---- what stands
 
--- The image is sound by these rules, whatever was read.
-pub record IsSoundIn (rules : Rules) (image : Image DiskFile) : Type 0 where
-  pub there : Found
-  pub found : IsFound image there
-  pub sound : Sound rules there (image Output)
+-- The last of the eras has the rules of its settings, if there is a checkpoint.
+abbrev pub EndWithRulesIn : Found → Eras → Type 0
+EndWithRulesIn nothing eras = ⊤
+EndWithRulesIn damaged eras = ⊤
+EndWithRulesIn (found checkpoint) eras = EndsWithRules eras
 
--- The image stands for this history by these rules.
-pub record IsStanding (rules : Rules) (history : History) (image : Image DiskFile) : Type 0 where
+-- The image is sound by the eras that it has itself, whatever was read.
+pub record IsSoundImage (image : Image DiskFile) : Type 0 where
   pub there : Found
   pub found : IsFound image there
-  pub stands : Standing rules history there (image Output)
+  pub eras : Eras
+  pub last : EndWithRulesIn there eras
+  pub sound : Sound eras there (image Output)
+
+-- The eras are those of the checkpoint that was found, if there is one.
+abbrev pub AreErasIn : Found → Eras → Type 0
+AreErasIn nothing eras = ⊤
+AreErasIn damaged eras = ⊤
+AreErasIn (found checkpoint) eras = AreErasOf checkpoint.eras eras
+
+-- The image stands for this history by the eras that it has itself.
+pub record IsStanding (history : History) (image : Image DiskFile) : Type 0 where
+  pub there : Found
+  pub found : IsFound image there
+  pub eras : Eras
+  pub are : AreErasIn there eras
+  pub stands : Standing eras history there (image Output)

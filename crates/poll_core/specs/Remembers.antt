@@ -10,10 +10,11 @@ use Rattle.poll_core.specs.SessionParts.{checkpoint_of_session, journal_of_sessi
 use Rattle.poll_core.specs.declared.session.Session.{Session}
 use Rattle.slot_store.specs.ChosenSlot.{chosen_slot}
 
--- a checkpoint without files, which keeps nothing of the output
+-- a checkpoint without files, which keeps nothing of the output and no time
 pub record IsEmpty (checkpoint : Checkpoint) : Type 0 where
   pub rows : checkpoint.rows ≡ []
   pub output : checkpoint.output_length ≡ 0
+  pub observed : checkpoint.observed ≡ 0
 
 -- The image has this journal, and it makes this checkpoint. Where there is no journal no slot is open.
 abbrev pub HasMemory : Option Journal → Checkpoint → Image DiskFile → Type 0

@@ -1,13 +1,20 @@
 -- What a pass leaves, as a checkpoint and as a change.
-use Rattle.std.specs.Prelude.{ℕ, ◌+◌, List, [], ◌∷◌, length, Bool, true, false}
+use Rattle.std.specs.Prelude.{◌+◌, List, [], ◌∷◌, length, Bool, true, false}
 use Rattle.checkpoint_store.specs.declared.Change.{Change}
 use Rattle.checkpoint_store.specs.declared.Checkpoint.{Checkpoint}
 use Rattle.file_pass.specs.declared.taking.Taking.{Taking}
 use Rattle.file_tracker.specs.declared.row.Row.{Row}
+use Rattle.poll_core.specs.declared.heading.Heading.{Heading}
 
 -- ids count from 1
-abbrev pub taken_checkpoint : List ℕ → Taking → Checkpoint
-taken_checkpoint settings taking = record { settings = settings; output_length = taking.end; next_id = length taking.tracker + 1; rows = taking.tracker }
+abbrev pub taken_checkpoint : Heading → Taking → Checkpoint
+taken_checkpoint heading taking = record {
+  eras = heading.eras.now;
+  output_length = taking.end;
+  observed = heading.observed;
+  next_id = length taking.tracker + 1;
+  rows = taking.tracker;
+}
 
 -- the rows whose flag is set
 abbrev pub flagged : List Bool → List Row → List Row
@@ -16,5 +23,13 @@ flagged (flag ∷ flags) [] = []
 flagged (true ∷ flags) (row ∷ rows) = row ∷ flagged flags rows
 flagged (false ∷ flags) (row ∷ rows) = flagged flags rows
 
-abbrev pub taken_change : Taking → Change
-taken_change taking = record { output_length = taking.end; next_id = length taking.tracker + 1; rows = flagged taking.changed.items taking.tracker }
+abbrev pub taken_change : Heading → Taking → Change
+taken_change heading taking = record { output_length = taking.end; observed = heading.observed; next_id = length taking.tracker + 1; rows = flagged taking.changed.items taking.tracker }
+
+-- what is to be kept: the next checkpoint, and the change to it
+pub record Keeping : Type 0 where
+  pub after : Checkpoint
+  pub change : Change
+
+abbrev pub keeping_of : Heading → Taking → Keeping
+keeping_of heading taking = record { after = taken_checkpoint heading taking; change = taken_change heading taking }

@@ -13,13 +13,13 @@ ghost use Rattle.pipeline.specs.declared.Pipeline.{Pipeline};
 ghost use Rattle.poll_core.specs.Differs.{DiffersAt};
 ghost use Rattle.poll_core.specs.Found.{IsFound};
 ghost use Rattle.poll_core.specs.IsSession.{IsSession};
-ghost use Rattle.poll_core.specs.MadeOf.{IsMadeOf, HasRules};
+ghost use Rattle.poll_core.specs.MadeOf.{AreErasOf, EndsWithRules, IsMadeOf, HasRules};
 ghost use Rattle.poll_core.specs.OpenFaults.{IsRefused};
-ghost use Rattle.poll_core.specs.Polled.{ComesAfter, Gains, IsSoundIn, IsSummed, Stays, Steps, TreeCounts};
+ghost use Rattle.poll_core.specs.Polled.{ComesAfter, Gains, IsSoundImage, IsSummed, Stays, Steps, TreeCounts};
 ghost use Rattle.poll_core.specs.Remembers.{GoesOnFrom, IsLeftBy};
 ghost use Rattle.poll_core.specs.Reopens.{Reopens};
 ghost use Rattle.poll_core.specs.Sequence.{HasSequence};
-ghost use Rattle.poll_core.specs.SessionParts.{checkpoint_of_session, rules_of_session, kept_of, journal_of_session};
+ghost use Rattle.poll_core.specs.SessionParts.{checkpoint_of_session, rules_of_session, settings_of_session, kept_of, journal_of_session, stamp_of_session};
 ghost use Rattle.poll_core.specs.Summed.{TellsAll};
 ghost use Rattle.poll_core.specs.declared.fault.OpenFault.{OpenFault};
 ghost use Rattle.poll_core.specs.declared.fault.OpenFault.TheVariants.{SettingsChanged};
@@ -27,6 +27,7 @@ ghost use Rattle.poll_core.specs.declared.session.Session.{Session};
 ghost use Rattle.poll_core.specs.declared.summary.Summary.{Summary};
 ghost use Rattle.standing.specs.Apart.{Apart};
 ghost use Rattle.standing.specs.AreRules.{AreRules};
+ghost use Rattle.standing.specs.Eras.{Eras, last_era, texts_of};
 ghost use Rattle.standing.specs.Look.{Look, size};
 ghost use Rattle.standing.specs.Marks.{Mark};
 ghost use Rattle.standing.specs.Moments.{IsLater, IsNamed, KeepsNames};
@@ -34,6 +35,7 @@ ghost use Rattle.standing.specs.Rules.{Includes, Rules};
 ghost use Rattle.standing.specs.Standing.{Found, nothing, Sound, Standing, kept, checkpoint_of};
 ghost use Rattle.standing.specs.Stands.{IsSound, Stands};
 ghost use Rattle.standing.specs.Sums.{IsReached};
+ghost use Rattle.standing.specs.Times.{AreBefore};
 
 use crate::Session;
 use glob_match::laws::text_spells_one_pattern;
@@ -69,11 +71,11 @@ pub fn an_image_has_one_thing()
 /// and all that is kept of the output is there. Its sequence number stays.
 pub fn opening_keeps_what_stands()
     ensures found { (old new : Image DiskFile) (there : Found) → Reopens old new → IsFound old there → IsFound new there }
-    ensures sound { (rules : Rules) (old new : Image DiskFile) (there : Found) → Reopens old new → IsFound old there
-        → Sound rules there (old DiskFile.Output) → Sound rules there (new DiskFile.Output) }
-    ensures standing { (rules : Rules) (history : History) (old new : Image DiskFile) (there : Found) → Reopens old new
-        → IsFound old there → Standing rules history there (old DiskFile.Output)
-        → Standing rules history there (new DiskFile.Output) }
+    ensures sound { (eras : Eras) (old new : Image DiskFile) (there : Found) → Reopens old new → IsFound old there
+        → Sound eras there (old DiskFile.Output) → Sound eras there (new DiskFile.Output) }
+    ensures standing { (eras : Eras) (history : History) (old new : Image DiskFile) (there : Found) → Reopens old new
+        → IsFound old there → Standing eras history there (old DiskFile.Output)
+        → Standing eras history there (new DiskFile.Output) }
     ensures kept { (old new : Image DiskFile) (there : Found) → Reopens old new → IsFound old there
         → kept there (new DiskFile.Output) ≡ kept there (old DiskFile.Output) }
     ensures journal { (old new : Image DiskFile) (journal : Journal) (checkpoint : Checkpoint) → Reopens old new
@@ -90,16 +92,16 @@ pub fn opening_has_one_answer()
     ensures refusal { (text : List ℕ) (image : Image DiskFile) (one other : OpenFault) → IsRefused text image one
         → IsRefused text image other → one ≡ other }
     ensures session { (text : List ℕ) (image : Image DiskFile) (session : Session) (fault : OpenFault)
-        → IsSession session → session.settings ≡ text → GoesOnFrom session image → IsRefused text image fault → ⊥ }
+        → IsSession session → settings_of_session session ≡ text → GoesOnFrom session image → IsRefused text image fault → ⊥ }
 {
     settings_give_one_set_of_rules();
 }
 
-/// An image that is sound by the rules of its own settings is refused only where other settings are given.
+/// An image that is sound by its own eras is refused only where other settings than the last are given.
 pub fn a_sound_image_is_opened()
-    ensures { (own text : List ℕ) (rules : Rules) (image : Image DiskFile) (there : Found) (fault : OpenFault)
-        → HasRules own rules → IsFound image there → Sound rules there (image DiskFile.Output)
-        → IsRefused text image fault → (at : ℕ) × (fault ≡ SettingsChanged at) × DiffersAt own text at }
+    ensures { (eras : Eras) (text : List ℕ) (image : Image DiskFile) (there : Found) (fault : OpenFault)
+        → EndsWithRules eras → IsFound image there → Sound eras there (image DiskFile.Output)
+        → IsRefused text image fault → (at : ℕ) × (fault ≡ SettingsChanged at) × DiffersAt (last_era eras).settings text at }
 {
     settings_give_one_set_of_rules();
 }
@@ -107,7 +109,8 @@ pub fn a_sound_image_is_opened()
 /// What a session stands on is sound, and is found again with the session's checkpoint.
 pub fn a_session_is_sound()
     ensures sound { (session : Session) (file : List ℕ) → IsSession session → kept_of session ≤ length file
-        → IsSound (rules_of_session session) (checkpoint_of_session session) file }
+        → (eras : Eras) → session.eras ≡ texts_of eras → last_era eras ≡ rules_of_session session
+        → IsSound eras (checkpoint_of_session session) file }
     ensures goes_on { (session : Session) (image : Image DiskFile) → IsLeftBy session image → GoesOnFrom session image }
 {}
 
@@ -115,7 +118,8 @@ pub fn a_session_is_sound()
 /// nothing.
 pub fn a_session_begins_with_what_was_found()
     ensures checkpoint { (session : Session) (image : Image DiskFile) (there : Found) → GoesOnFrom session image
-        → IsFound image there → checkpoint_of (rules_of_session session) there ≡ checkpoint_of_session session }
+        → IsFound image there → (eras : Eras) → session.eras ≡ texts_of eras
+        → checkpoint_of eras there ≡ checkpoint_of_session session }
     ensures first { (session : Session) (image : Image DiskFile) (there : Found) → GoesOnFrom session image
         → IsFound image there → (journal_of_session session ≡ None) ↔ (there ≡ nothing) }
 {}
@@ -124,10 +128,10 @@ pub fn a_session_begins_with_what_was_found()
 /// step that only stays keeps it, and one that gains keeps it and the lines behind it.
 pub fn polling_keeps_what_is_kept()
     ensures stays { (session : Session) (old new : Image DiskFile) → IsSession session → IsLeftBy session old
-        → Stays session old new → IsSoundIn (rules_of_session session) new }
+        → Stays session old new → IsSoundImage new }
     ensures sound { (session : Session) (next : Checkpoint) (added : List Mark) (old new : Image DiskFile)
         → IsSession session → ComesAfter session next added → IsLeftBy session old → Steps session next added old new
-        → IsSoundIn (rules_of_session session) new }
+        → IsSoundImage new }
     ensures kept { (session : Session) (old new : Image DiskFile) (there after : Found) → IsLeftBy session old
         → Stays session old new → IsFound old there → IsFound new after
         → kept after (new DiskFile.Output) ≡ kept there (old DiskFile.Output) }
@@ -142,12 +146,16 @@ pub fn polling_keeps_what_is_kept()
 pub fn a_complete_poll_reaches_all()
     ensures { (session : Session) (next : Checkpoint) (added : List Mark) (summary : Summary) (count count_after : TreeCounts)
         (old new : World) (summed : IsSummed session next added summary count count_after old new)
-        → TellsAll summary → (output path : List ℕ) (file : ℕ) → AreRules (rules_of_session session)
+        → TellsAll summary → (output path : List ℕ) (file : ℕ) (eras : Eras) → IsSession session
+        → AreErasOf session.eras eras
         → IsLater old.history new.history → Apart (rules_of_session session).front_size new.history
         → IsLawful new.history → KeepsNames old.history new.history
-        → Stands (rules_of_session session) old.history (checkpoint_of_session session).rows
-        (checkpoint_of_session session).next_id output
+        → (stands : Stands eras old.history (checkpoint_of_session session).rows
+        (checkpoint_of_session session).next_id output)
+        → AreBefore (stamp_of_session session) stands.marks
         → Includes (rules_of_session session) path → IsNamed new.history path file
         → (here : Look) × Contains summed.looks here × (here.file ≡ file)
-        × (0 < size here → IsReached (rules_of_session session) new.history next.rows here) }
-{}
+        × (0 < size here → IsReached eras new.history next.rows here) }
+{
+    settings_give_one_set_of_rules();
+}

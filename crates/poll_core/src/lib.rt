@@ -15,6 +15,7 @@
 
 mod cutting;
 mod fault;
+mod heading;
 pub mod laws;
 mod making;
 mod opening;

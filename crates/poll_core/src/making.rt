@@ -1,7 +1,7 @@
 // A session of a checkpoint that was found.
-ghost use Rattle.std.specs.Prelude.{◌≡◌, ℕ, ◌≤◌, List, length, IfOk, IfErr, IfSome, IfNone, OnOk};
+ghost use Rattle.std.specs.Prelude.{◌≡◌, ℕ, ◌≤◌, List, [], ◌∷◌, length, IfOk, IfErr, IfSome, IfNone, OnOk};
 ghost use Rattle.checkpoint_store.specs.Rules.{IsCheckpoint};
-ghost use Rattle.checkpoint_store.specs.Limits.{output_limit};
+ghost use Rattle.checkpoint_store.specs.Limits.{newest, output_limit};
 ghost use Rattle.file_tracker.specs.Limits.{row_limit};
 ghost use Rattle.pipeline.specs.AsRules.{rules_of};
 ghost use Rattle.poll_core.specs.Differs.{DiffersAt};
@@ -9,11 +9,13 @@ ghost use Rattle.poll_core.specs.IsSession.{IsSession, IsShort};
 ghost use Rattle.poll_core.specs.MadeOf.{IsMadeOf};
 ghost use Rattle.poll_core.specs.OpenFaults.{IsLeastForeign};
 ghost use Rattle.poll_core.specs.Making.{IsOfFound, IsUnfit, IsRejected};
+ghost use Rattle.poll_core.specs.SessionParts.{checkpoint_of_session, last_text, settings_of_session, time_of_session};
 ghost use Rattle.standing.specs.Rows.{KeepStates, AreInOrder};
 
+use crate::session::last_text;
 use crate::{OpenFault, Session};
 use checkpoint_journal::Journal;
-use checkpoint_store::{Checkpoint, Rows};
+use checkpoint_store::{Checkpoint, Eras, Rows};
 use file_tracker::{AdmitFault, Bytes, Row, Tracker};
 use pipeline::Pipeline;
 use pipeline::laws::a_row_tells_its_state;
@@ -31,22 +33,24 @@ impl Session {
     ) -> Result<Session, OpenFault>
         requires made { IsMadeOf settings.now pipeline }
         requires limit { limit ≤ output_limit }
-        requires lawful { IfSome found (λ found. IsCheckpoint found.1) }
+        requires lawful { IfSome found (λ found. IsCheckpoint newest found.1) }
         requires short { IfSome found (λ found. IsShort found.0) }
         ensures session { IfOk result IsSession }
-        ensures settings { IfOk result (λ session. session.settings ≡ settings.now) }
+        ensures settings { IfOk result (λ session. settings_of_session session ≡ settings.now) }
         ensures limit { IfOk result (λ session. session.limit ≡ limit) }
+        ensures time { IfOk result (λ session. time_of_session session ≡ (checkpoint_of_session session).observed) }
         ensures found { IfOk result (IsOfFound found) }
         ensures rejected { IfErr result (IsRejected settings.now (rules_of settings.now pipeline) found) }
     {
-        let text = Bytes::from_slice(alloc, settings)?;
         match found {
             None => Ok(Session {
                 pipeline,
-                settings: text,
+                eras: one_era(alloc, settings)?,
                 limit,
                 journal: None,
                 kept: 0,
+                observed: 0,
+                time: 0,
                 tracker: Tracker::new(alloc),
             }),
             Some((journal, checkpoint)) => {
@@ -54,15 +58,26 @@ impl Session {
                 let tracker = tracker_of(alloc, checkpoint.rows)?;
                 Ok(Session {
                     pipeline,
-                    settings: text,
+                    eras: checkpoint.eras,
                     limit,
                     journal: Some(journal),
                     kept: checkpoint.output_length,
+                    observed: checkpoint.observed,
+                    time: checkpoint.observed,
                     tracker,
                 })
             }
         }
     }
+}
+
+// These settings alone.
+fn one_era(alloc: Global, settings: &[u8]) -> Result<Eras, AllocError>
+    ensures { IfOk result (λ eras. eras ≡ settings.now ∷ []) }
+{
+    let mut texts = Vec::new(alloc);
+    texts.push(Bytes::from_slice(alloc, settings)?)?;
+    Ok(Eras::new(texts))
 }
 
 // The checkpoint is of this text, and these operators can go on from its rows.
@@ -72,12 +87,12 @@ fn check(
     settings: &[u8],
     checkpoint: &Checkpoint,
 ) -> Result<(), OpenFault>
-    requires { IsCheckpoint checkpoint.now }
-    ensures text { OnOk result (checkpoint.now.settings ≡ settings.now) }
+    requires { IsCheckpoint newest checkpoint.now }
+    ensures text { OnOk result (last_text checkpoint.now.eras ≡ settings.now) }
     ensures states { OnOk result (KeepStates (rules_of settings.now pipeline.now) checkpoint.now.rows) }
     ensures unfit { IfErr result (IsUnfit settings.now (rules_of settings.now pipeline.now) checkpoint.now) }
 {
-    if let Some(at) = first_difference(checkpoint.settings.as_slice(), settings) {
+    if let Some(at) = first_difference(last_text(&checkpoint.eras), settings) {
         return Err(OpenFault::SettingsChanged { at });
     }
     let foreign = first_foreign(alloc, pipeline, checkpoint.rows.as_slice())?;

@@ -11,6 +11,7 @@ ghost use Rattle.poll_core.specs.OpenCause.{HasOpenCause, IsOfSettings, IsOfCont
 ghost use Rattle.poll_core.specs.OpenFaults.{IsSettingsRefusal, IsRefused};
 ghost use Rattle.poll_core.specs.Remembers.{GoesOnFrom};
 ghost use Rattle.poll_core.specs.Reopens.{Reopens};
+ghost use Rattle.poll_core.specs.SessionParts.{checkpoint_of_session, settings_of_session, time_of_session};
 ghost use Rattle.poll_core.specs.Settled.{IsSettled};
 ghost use Rattle.poll_core.specs.StandsOn.{StandsOn};
 
@@ -37,8 +38,9 @@ impl Session {
     ) -> Result<Session, OpenFault>
         requires { limit ≤ output_limit }
         ensures session { IfOk result IsSession }
-        ensures settings { IfOk result (λ session. session.settings ≡ settings.now) }
+        ensures settings { IfOk result (λ session. settings_of_session session ≡ settings.now) }
         ensures limit { IfOk result (λ session. session.limit ≡ limit) }
+        ensures time { IfOk result (λ session. time_of_session session ≡ (checkpoint_of_session session).observed) }
         ensures goes_on { IfOk result (λ session. IsTrue (D.meaning.images.tells disk.old)
             → GoesOnFrom session (D.meaning.images.seen disk.old)) }
         ensures stands { IfOk result (λ session. StandsOn D.meaning.images session disk.new) }
@@ -73,8 +75,9 @@ impl Session {
         requires made { IsMadeOf settings.now pipeline }
         requires limit { limit ≤ output_limit }
         ensures session { IfOk result IsSession }
-        ensures settings { IfOk result (λ session. session.settings ≡ settings.now) }
+        ensures settings { IfOk result (λ session. settings_of_session session ≡ settings.now) }
         ensures limit { IfOk result (λ session. session.limit ≡ limit) }
+        ensures time { IfOk result (λ session. time_of_session session ≡ (checkpoint_of_session session).observed) }
         ensures goes_on { IfOk result (λ session. IsTrue (D.meaning.images.tells disk.old)
             → GoesOnFrom session (D.meaning.images.seen disk.old)) }
         ensures settled { OnOk result (IsSettled D.meaning.images disk.new) }

@@ -2,7 +2,7 @@
 ghost use Rattle.std.specs.Prelude.{◌≡◌, ◌⊎◌, ℕ, ◌≤◌, ◌^◌, List, length, Contains, Err, IsTrue, IfOk, OnOk};
 ghost use Rattle.checkpoint_journal.specs.Written.{IsWorn};
 ghost use Rattle.file_pass.specs.DiskTerms.{KeepsDisk};
-ghost use Rattle.file_pass.specs.Fed.{rules_in};
+ghost use Rattle.file_pass.specs.Fed.{poll_of};
 ghost use Rattle.file_pass.specs.PassCause.{HasPassCause};
 ghost use Rattle.file_pass.specs.Sane.{AreSaneRows};
 ghost use Rattle.file_tracker.specs.Limits.{row_limit};
@@ -17,7 +17,7 @@ ghost use Rattle.poll_core.specs.Overflows.{Overflows};
 ghost use Rattle.poll_core.specs.Passed.{Passed, PassFills};
 ghost use Rattle.poll_core.specs.PollCause.{HasPollCause};
 ghost use Rattle.poll_core.specs.Polled.{HasToKeep, MayGain, Polled, Stays};
-ghost use Rattle.poll_core.specs.SessionParts.{journal_of_session, rules_of_session};
+ghost use Rattle.poll_core.specs.SessionParts.{journal_of_session, rules_of_session, stamp_at};
 ghost use Rattle.poll_core.specs.Since.{KeepsStandingSince};
 ghost use Rattle.poll_core.specs.StandsOn.{StandsOn};
 ghost use Rattle.settings_text.specs.Limits.{KeepsLimits};
@@ -27,12 +27,16 @@ ghost use Rattle.slot_store.specs.OnlyRead.{KeepsTerms};
 ghost use Rattle.standing.specs.AreRules.{AreRules};
 ghost use Rattle.state_codec.specs.Rules.{IsShortText};
 
-use crate::saving::keep;
+use crate::heading::Heading;
+use crate::laws::settings_give_one_set_of_rules;
+use crate::saving::{keep, kept_time};
+use crate::session::last_text;
 use crate::{PollFault, Session, Summary};
 use entry_model::Text;
 use file_pass::{Counts, PassFault, Setup, Taking, take_all};
 use file_tracker::Tracker;
 use outside::{Disk, Tree};
+use pipeline::Pipeline;
 use pipeline::laws::a_pipeline_is_rules;
 use settings_text::laws::settings_keep_limits;
 use std::alloc::{AllocError, Global};
@@ -57,7 +61,7 @@ impl Session {
         ensures ok { IfOk result (λ done. Polled T.meaning D.meaning self done.0 done.1 tree.old tree.new disk.old disk.new) }
         ensures crash { Passes D.meaning.images (Stays self) disk.old disk.new ⊎ MayGain T.meaning D.meaning self tree.old tree.new disk.old disk.new }
         ensures early { DoneFewer 4 (D.meaning.done disk.old) (D.meaning.done disk.new) → Passes D.meaning.images (Stays self) disk.old disk.new }
-        ensures standing { Told (KeepsStandingSince D.meaning.images (rules_of_session self) disk.old disk.new) (T.meaning.world tree.old) (T.meaning.world tree.new) }
+        ensures standing { Told (KeepsStandingSince D.meaning.images (rules_of_session self).front_size disk.old disk.new) (T.meaning.world tree.old) (T.meaning.world tree.new) }
         ensures full { (size : ℕ) → result ≡ Err (PollFault.OutputFull size) → Told (Overflows self size) (T.meaning.world tree.old) (T.meaning.world tree.new) }
         ensures worn { (sequence : ℕ) → result ≡ Err (PollFault.Worn sequence)
             → (sequence ≡ last_number) × IsWorn (journal_of_session self) × HasToKeep T.meaning self tree.old tree.new }
@@ -65,6 +69,7 @@ impl Session {
         ensures cause { HasPollCause result (D.meaning.faults disk.old) (D.meaning.faults disk.new) }
         ensures terms { KeepsTerms D.meaning disk.old disk.new }
     {
+        settings_give_one_set_of_rules();
         settings_keep_limits();
         a_pipeline_is_rules(&self.pipeline);
         self.poll_once(alloc, tree, disk)
@@ -93,32 +98,51 @@ impl Session {
     {
         let Session {
             pipeline,
-            settings,
+            eras,
             limit,
             journal,
             kept,
+            observed,
+            time,
             tracker,
         } = self;
+        let stamp = stamp_of(&pipeline, time);
         let setup = Setup {
             pipeline: &pipeline,
-            settings: settings.as_slice(),
+            settings: last_text(&eras),
+            era: eras.as_slice().len() as u32,
+            observed: stamp,
             first: journal.is_none(),
             limit: limit.max(kept),
         };
         let (walk, taking) = pass(alloc, tree, disk, &setup, tracker, kept)?;
         let summary = Summary::of(&walk, &taking);
-        let journal = keep(alloc, disk, journal, settings.as_slice(), kept, &taking)?;
+        let heading = Heading {
+            eras: &eras,
+            observed: kept_time(&journal, kept, &taking, stamp, observed),
+        };
+        let observed = heading.observed;
+        let journal = keep(alloc, disk, journal, &heading, kept, &taking)?;
         let Taking { tracker, end, .. } = taking;
         let next = Session {
             pipeline,
-            settings,
+            eras,
             limit,
             journal,
             kept: end,
+            observed,
+            time,
             tracker,
         };
         Ok((next, summary))
     }
+}
+
+// The time of lines that are made now, where they have one.
+fn stamp_of(pipeline: &Pipeline, time: u64) -> Option<u64>
+    ensures { result ≡ stamp_at (settings_of pipeline.now).include_observed_time time }
+{
+    if pipeline.stamps() { Some(time) } else { None }
 }
 
 // Walks the tree and takes the paths that it finds.
@@ -131,7 +155,8 @@ fn pass<T: Tree, D: Disk>(
     kept: u64,
 ) -> Result<(Walk, Taking), PassFault>
     requires setup { KeepsLimits (settings_of setup.now.pipeline.now) × (setup.now.limit ≤ 2 ^ 40) }
-    requires rows { AreSaneRows (rules_in setup.now) kept rows }
+    requires era { 1 ≤ setup.now.era }
+    requires rows { AreSaneRows (poll_of setup.now) kept rows }
     requires few { length rows ≤ row_limit }
     requires within { kept ≤ setup.now.limit }
     requires ends { IsTrue (D.meaning.images.tells disk.old) → length (D.meaning.images.seen disk.old DiskFile.Output) ≡ kept }

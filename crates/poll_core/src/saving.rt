@@ -3,17 +3,17 @@ ghost use Rattle.std.specs.Prelude.{◌≡◌, ℕ, ◌+◌, ◌^◌, ◌<◌, �
 ghost use Rattle.checkpoint_journal.specs.JournalOf.{EndsWith};
 ghost use Rattle.checkpoint_journal.specs.Written.{IsWorn};
 ghost use Rattle.checkpoint_store.specs.Rules.{IsCheckpoint};
-ghost use Rattle.checkpoint_store.specs.Limits.{front_limit};
+ghost use Rattle.checkpoint_store.specs.Limits.{front_limit, newest};
 ghost use Rattle.checkpoint_store.specs.Spelling.{checkpoint_spelling, row_spelling};
 ghost use Rattle.outside.specs.Crash.{Passes};
 ghost use Rattle.outside.specs.Image.{Image};
 ghost use Rattle.outside.specs.declared.disk.DiskFile.{DiskFile};
 ghost use Rattle.poll_core.specs.Begun.{IsQuiet};
 ghost use Rattle.poll_core.specs.IsSession.{IsShort};
-ghost use Rattle.poll_core.specs.Kept.{Keeps};
+ghost use Rattle.poll_core.specs.Kept.{Keeps, KeepsTime};
 ghost use Rattle.poll_core.specs.Next.{Costs, DifferInOutput, IsDue, IsNext, IsSavable, IsSavedIn, KeepsMemory, Puts, Saves, WrittenAtMost, cost_of_rows};
 ghost use Rattle.poll_core.specs.PollCause.{HasPollCause};
-ghost use Rattle.poll_core.specs.Taken.{taken_change, taken_checkpoint};
+ghost use Rattle.poll_core.specs.Taken.{keeping_of, taken_change, taken_checkpoint};
 ghost use Rattle.slot_store.specs.CommitCause.{HasCommitCause};
 ghost use Rattle.slot_store.specs.Committed.{LeavesOne};
 ghost use Rattle.slot_store.specs.Counted.{DoneFewer};
@@ -23,9 +23,10 @@ ghost use Rattle.slot_store.specs.Synced.{EachLeft};
 ghost use Rattle.state_codec.specs.Rules.{IsShortText};
 
 use crate::PollFault;
+use crate::heading::Heading;
 use checkpoint_journal::laws::spellings_are_short;
-use checkpoint_journal::{Journal, NEWEST_VERSION, rewrite};
-use checkpoint_store::{Change, Checkpoint, Rows};
+use checkpoint_journal::{Journal, rewrite};
+use checkpoint_store::{Change, Checkpoint, Eras, NEWEST_VERSION, Rows};
 use file_pass::Taking;
 use file_tracker::{Bytes, Row};
 use outside::{Disk, DiskFile};
@@ -41,29 +42,29 @@ pub(crate) fn keep<D: Disk>(
     alloc: Global,
     disk: &mut D,
     journal: Option<Journal>,
-    settings: &[u8],
+    heading: &Heading<'_>,
     kept: u64,
     taking: &Taking,
 ) -> Result<Option<Journal>, PollFault>
-    requires lawful { IsCheckpoint (taken_checkpoint settings.now taking.now) }
+    requires lawful { IsCheckpoint newest (taken_checkpoint heading.now taking.now) }
     requires flags { length taking.now.changed.items ≡ length taking.now.tracker }
     requires short { IfSome journal IsShort }
-    requires savable { EachLeft D.meaning.images disk.old (IsSavable journal settings.now taking.now) }
+    requires savable { EachLeft D.meaning.images disk.old (IsSavable journal (keeping_of heading.now taking.now)) }
     requires slots { (one other : Image DiskFile) → D.meaning.images.may_leave disk.old one → D.meaning.images.may_leave disk.old other → DifferInOutput one other }
-    ensures kept { IfOk result (λ after. Keeps D.meaning.images settings.now taking.now kept journal after disk.old disk.new) }
-    ensures crash { Passes D.meaning.images (Saves journal (taken_checkpoint settings.now taking.now) (D.meaning.images.seen disk.old DiskFile.Output)) disk.old disk.new }
+    ensures kept { IfOk result (λ after. Keeps D.meaning.images (keeping_of heading.now taking.now) taking.now kept journal after disk.old disk.new) }
+    ensures crash { Passes D.meaning.images (Saves journal (taken_checkpoint heading.now taking.now) (D.meaning.images.seen disk.old DiskFile.Output)) disk.old disk.new }
     ensures early { DoneFewer 4 (D.meaning.done disk.old) (D.meaning.done disk.new) → Passes D.meaning.images (KeepsMemory journal) disk.old disk.new }
     ensures worn { (sequence : ℕ) → result ≡ Err (PollFault.Worn sequence)
         → (sequence ≡ last_number) × IsWorn journal × (IsQuiet journal kept taking.now → ⊥) }
     ensures not_full { (size : ℕ) → result ≡ Err (PollFault.OutputFull size) → ⊥ }
-    ensures costs { Costs journal (taken_checkpoint settings.now taking.now) (taken_change taking.now).rows (D.meaning.written disk.old) (D.meaning.written disk.new) }
+    ensures costs { Costs journal (taken_checkpoint heading.now taking.now) (taken_change heading.now taking.now).rows (D.meaning.written disk.old) (D.meaning.written disk.new) }
     ensures cause { HasPollCause result (D.meaning.faults disk.old) (D.meaning.faults disk.new) }
     ensures terms { KeepsTerms D.meaning disk.old disk.new }
 {
     if is_quiet(&journal, kept, taking) {
         return Ok(journal);
     }
-    let next = save(alloc, disk, journal, settings, taking)?;
+    let next = save(alloc, disk, journal, heading, taking)?;
     Ok(Some(next))
 }
 
@@ -75,33 +76,50 @@ fn is_quiet(journal: &Option<Journal>, kept: u64, taking: &Taking) -> bool
     journal.is_some() && taking.end == kept && !taking.changed.iter().any(|changed| *changed)
 }
 
+/// The greatest time that is kept once this was taken: the poll's, where something is to be kept, and else as before.
+pub(crate) fn kept_time(
+    journal: &Option<Journal>,
+    kept: u64,
+    taking: &Taking,
+    stamp: Option<u64>,
+    observed: u64,
+) -> u64
+    ensures { KeepsTime journal.now kept taking.now stamp observed result }
+{
+    if is_quiet(journal, kept, taking) {
+        observed
+    } else {
+        stamp.unwrap_or(observed)
+    }
+}
+
 // Syncs the output, and then puts the checkpoint of what was taken.
 fn save<D: Disk>(
     alloc: Global,
     disk: &mut D,
     journal: Option<Journal>,
-    settings: &[u8],
+    heading: &Heading<'_>,
     taking: &Taking,
 ) -> Result<Journal, PollFault>
-    requires lawful { IsCheckpoint (taken_checkpoint settings.now taking.now) }
+    requires lawful { IsCheckpoint newest (taken_checkpoint heading.now taking.now) }
     requires flags { length taking.now.changed.items ≡ length taking.now.tracker }
     requires short { IfSome journal IsShort }
-    requires savable { EachLeft D.meaning.images disk.old (IsSavable journal settings.now taking.now) }
+    requires savable { EachLeft D.meaning.images disk.old (IsSavable journal (keeping_of heading.now taking.now)) }
     requires slots { (one other : Image DiskFile) → D.meaning.images.may_leave disk.old one → D.meaning.images.may_leave disk.old other → DifferInOutput one other }
-    ensures saved { IfOk result (λ next. EachLeft D.meaning.images disk.new (IsSavedIn next (taken_checkpoint settings.now taking.now) (D.meaning.images.seen disk.old DiskFile.Output))) }
+    ensures saved { IfOk result (λ next. EachLeft D.meaning.images disk.new (IsSavedIn next (taken_checkpoint heading.now taking.now) (D.meaning.images.seen disk.old DiskFile.Output))) }
     ensures one { OnOk result (LeavesOne D.meaning.images disk.new) }
-    ensures next { IfOk result (IsNext journal (taken_checkpoint settings.now taking.now) (taken_change taking.now)) }
+    ensures next { IfOk result (IsNext journal (taken_checkpoint heading.now taking.now) (taken_change heading.now taking.now)) }
     ensures not_worn { OnOk result (IsWorn journal → ⊥) }
-    ensures crash { Passes D.meaning.images (Saves journal (taken_checkpoint settings.now taking.now) (D.meaning.images.seen disk.old DiskFile.Output)) disk.old disk.new }
+    ensures crash { Passes D.meaning.images (Saves journal (taken_checkpoint heading.now taking.now) (D.meaning.images.seen disk.old DiskFile.Output)) disk.old disk.new }
     ensures early { DoneFewer 4 (D.meaning.done disk.old) (D.meaning.done disk.new) → Passes D.meaning.images (KeepsMemory journal) disk.old disk.new }
     ensures worn { (sequence : ℕ) → result ≡ Err (PollFault.Worn sequence) → (sequence ≡ last_number) × IsWorn journal }
     ensures not_full { (size : ℕ) → result ≡ Err (PollFault.OutputFull size) → ⊥ }
-    ensures costs { Costs journal (taken_checkpoint settings.now taking.now) (taken_change taking.now).rows (D.meaning.written disk.old) (D.meaning.written disk.new) }
+    ensures costs { Costs journal (taken_checkpoint heading.now taking.now) (taken_change heading.now taking.now).rows (D.meaning.written disk.old) (D.meaning.written disk.new) }
     ensures cause { HasPollCause result (D.meaning.faults disk.old) (D.meaning.faults disk.new) }
     ensures terms { KeepsTerms D.meaning disk.old disk.new }
 {
     disk.sync(alloc, DiskFile::Output)?;
-    let next = put(alloc, disk, journal, settings, taking)?;
+    let next = put(alloc, disk, journal, heading, taking)?;
     Ok(next)
 }
 
@@ -110,33 +128,33 @@ fn put<D: Disk>(
     alloc: Global,
     disk: &mut D,
     journal: Option<Journal>,
-    settings: &[u8],
+    heading: &Heading<'_>,
     taking: &Taking,
 ) -> Result<Journal, CommitFault>
-    requires lawful { IsCheckpoint (taken_checkpoint settings.now taking.now) }
+    requires lawful { IsCheckpoint newest (taken_checkpoint heading.now taking.now) }
     requires flags { length taking.now.changed.items ≡ length taking.now.tracker }
     requires short { IfSome journal IsShort }
-    requires savable { EachLeft D.meaning.images disk.old (IsSavable journal settings.now taking.now) }
-    ensures put { IfOk result (λ next. EachLeft D.meaning.images disk.new (EndsWith next (taken_checkpoint settings.now taking.now))) }
+    requires savable { EachLeft D.meaning.images disk.old (IsSavable journal (keeping_of heading.now taking.now)) }
+    ensures put { IfOk result (λ next. EachLeft D.meaning.images disk.new (EndsWith next (taken_checkpoint heading.now taking.now))) }
     ensures one { OnOk result (LeavesOne D.meaning.images disk.old → LeavesOne D.meaning.images disk.new) }
-    ensures next { IfOk result (IsNext journal (taken_checkpoint settings.now taking.now) (taken_change taking.now)) }
+    ensures next { IfOk result (IsNext journal (taken_checkpoint heading.now taking.now) (taken_change heading.now taking.now)) }
     ensures not_worn { OnOk result (IsWorn journal → ⊥) }
-    ensures crash { Passes D.meaning.images (Puts journal (taken_checkpoint settings.now taking.now)) disk.old disk.new }
+    ensures crash { Passes D.meaning.images (Puts journal (taken_checkpoint heading.now taking.now)) disk.old disk.new }
     ensures early { DoneFewer 4 (D.meaning.done disk.old) (D.meaning.done disk.new) → Passes D.meaning.images (KeepsMemory journal) disk.old disk.new }
     ensures worn { (sequence : ℕ) → result ≡ Err (CommitFault.Worn sequence) → (sequence ≡ last_number) × IsWorn journal }
-    ensures costs { Costs journal (taken_checkpoint settings.now taking.now) (taken_change taking.now).rows (D.meaning.written disk.old) (D.meaning.written disk.new) }
+    ensures costs { Costs journal (taken_checkpoint heading.now taking.now) (taken_change heading.now taking.now).rows (D.meaning.written disk.old) (D.meaning.written disk.new) }
     ensures cause { HasCommitCause result (D.meaning.faults disk.old) (D.meaning.faults disk.new) }
     ensures terms { KeepsTerms D.meaning disk.old disk.new }
 {
     match journal {
         Some(behind) => {
-            if needs_rewrite(behind, settings, taking) {
-                put_beside(alloc, disk, journal, settings, taking)
+            if needs_rewrite(behind, heading, taking) {
+                put_beside(alloc, disk, journal, heading, taking)
             } else {
-                put_behind(alloc, disk, behind, settings, taking)
+                put_behind(alloc, disk, behind, heading, taking)
             }
         }
-        None => put_beside(alloc, disk, None, settings, taking),
+        None => put_beside(alloc, disk, None, heading, taking),
     }
 }
 
@@ -145,28 +163,28 @@ fn put_behind<D: Disk>(
     alloc: Global,
     disk: &mut D,
     journal: Journal,
-    settings: &[u8],
+    heading: &Heading<'_>,
     taking: &Taking,
 ) -> Result<Journal, CommitFault>
-    requires lawful { IsCheckpoint (taken_checkpoint settings.now taking.now) }
+    requires lawful { IsCheckpoint newest (taken_checkpoint heading.now taking.now) }
     requires flags { length taking.now.changed.items ≡ length taking.now.tracker }
     requires short { IsShort journal }
-    requires newest { journal.version ≡ NEWEST_VERSION }
+    requires newest { journal.version ≡ newest }
     requires ends { journal.end ≤ 2 ^ 55 }
-    requires not_due { IsDue (Some journal) (taken_checkpoint settings.now taking.now) → ⊥ }
-    requires savable { EachLeft D.meaning.images disk.old (IsSavable (Some journal) settings.now taking.now) }
-    ensures put { IfOk result (λ next. EachLeft D.meaning.images disk.new (EndsWith next (taken_checkpoint settings.now taking.now))) }
+    requires not_due { IsDue (Some journal) (taken_checkpoint heading.now taking.now) → ⊥ }
+    requires savable { EachLeft D.meaning.images disk.old (IsSavable (Some journal) (keeping_of heading.now taking.now)) }
+    ensures put { IfOk result (λ next. EachLeft D.meaning.images disk.new (EndsWith next (taken_checkpoint heading.now taking.now))) }
     ensures one { OnOk result (LeavesOne D.meaning.images disk.old → LeavesOne D.meaning.images disk.new) }
-    ensures next { IfOk result (IsNext (Some journal) (taken_checkpoint settings.now taking.now) (taken_change taking.now)) }
+    ensures next { IfOk result (IsNext (Some journal) (taken_checkpoint heading.now taking.now) (taken_change heading.now taking.now)) }
     ensures not_worn { OnOk result (IsWorn (Some journal) → ⊥) }
-    ensures crash { Passes D.meaning.images (Puts (Some journal) (taken_checkpoint settings.now taking.now)) disk.old disk.new }
+    ensures crash { Passes D.meaning.images (Puts (Some journal) (taken_checkpoint heading.now taking.now)) disk.old disk.new }
     ensures early { DoneFewer 4 (D.meaning.done disk.old) (D.meaning.done disk.new) → Passes D.meaning.images (KeepsMemory (Some journal)) disk.old disk.new }
     ensures worn { (sequence : ℕ) → result ≡ Err (CommitFault.Worn sequence) → (sequence ≡ last_number) × IsWorn (Some journal) }
-    ensures costs { WrittenAtMost (cost_of_rows (taken_change taking.now).rows) (D.meaning.written disk.old) (D.meaning.written disk.new) }
+    ensures costs { WrittenAtMost (cost_of_rows (taken_change heading.now taking.now).rows) (D.meaning.written disk.old) (D.meaning.written disk.new) }
     ensures cause { HasCommitCause result (D.meaning.faults disk.old) (D.meaning.faults disk.new) }
     ensures terms { KeepsTerms D.meaning disk.old disk.new }
 {
-    let change = change_of(alloc, taking)?;
+    let change = change_of(alloc, heading, taking)?;
     journal.append(alloc, disk, &change)
 }
 
@@ -175,52 +193,55 @@ fn put_beside<D: Disk>(
     alloc: Global,
     disk: &mut D,
     journal: Option<Journal>,
-    settings: &[u8],
+    heading: &Heading<'_>,
     taking: &Taking,
 ) -> Result<Journal, CommitFault>
-    requires lawful { IsCheckpoint (taken_checkpoint settings.now taking.now) }
-    requires savable { EachLeft D.meaning.images disk.old (IsSavable journal settings.now taking.now) }
-    requires due { IsDue journal (taken_checkpoint settings.now taking.now) }
-    ensures put { IfOk result (λ next. EachLeft D.meaning.images disk.new (EndsWith next (taken_checkpoint settings.now taking.now))) }
+    requires lawful { IsCheckpoint newest (taken_checkpoint heading.now taking.now) }
+    requires savable { EachLeft D.meaning.images disk.old (IsSavable journal (keeping_of heading.now taking.now)) }
+    requires due { IsDue journal (taken_checkpoint heading.now taking.now) }
+    ensures put { IfOk result (λ next. EachLeft D.meaning.images disk.new (EndsWith next (taken_checkpoint heading.now taking.now))) }
     ensures one { OnOk result (LeavesOne D.meaning.images disk.old → LeavesOne D.meaning.images disk.new) }
-    ensures next { IfOk result (IsNext journal (taken_checkpoint settings.now taking.now) (taken_change taking.now)) }
+    ensures next { IfOk result (IsNext journal (taken_checkpoint heading.now taking.now) (taken_change heading.now taking.now)) }
     ensures not_worn { OnOk result (IsWorn journal → ⊥) }
-    ensures crash { Passes D.meaning.images (Puts journal (taken_checkpoint settings.now taking.now)) disk.old disk.new }
+    ensures crash { Passes D.meaning.images (Puts journal (taken_checkpoint heading.now taking.now)) disk.old disk.new }
     ensures early { DoneFewer 4 (D.meaning.done disk.old) (D.meaning.done disk.new) → Passes D.meaning.images (KeepsMemory journal) disk.old disk.new }
     ensures worn { (sequence : ℕ) → result ≡ Err (CommitFault.Worn sequence) → (sequence ≡ last_number) × IsWorn journal }
-    ensures costs { WrittenAtMost (length (checkpoint_spelling (taken_checkpoint settings.now taking.now)) + 18) (D.meaning.written disk.old) (D.meaning.written disk.new) }
+    ensures costs { WrittenAtMost (length (checkpoint_spelling newest (taken_checkpoint heading.now taking.now)) + 18) (D.meaning.written disk.old) (D.meaning.written disk.new) }
     ensures cause { HasCommitCause result (D.meaning.faults disk.old) (D.meaning.faults disk.new) }
     ensures terms { KeepsTerms D.meaning disk.old disk.new }
 {
-    let checkpoint = checkpoint_of(alloc, settings, taking)?;
+    let checkpoint = checkpoint_of(alloc, heading, taking)?;
     rewrite(alloc, journal.as_ref(), disk, &checkpoint)
 }
 
 // Whether the whole checkpoint is to be written: its version is an older one, or the changes behind it have become longer
 // than twice what it would be now.
-fn needs_rewrite(journal: Journal, settings: &[u8], taking: &Taking) -> bool
-    requires lawful { IsCheckpoint (taken_checkpoint settings.now taking.now) }
+fn needs_rewrite(journal: Journal, heading: &Heading<'_>, taking: &Taking) -> bool
+    requires lawful { IsCheckpoint newest (taken_checkpoint heading.now taking.now) }
     requires short { IsShort journal }
-    ensures due { IsTrue result → IsDue (Some journal) (taken_checkpoint settings.now taking.now) }
-    ensures not_due { IsDue (Some journal) (taken_checkpoint settings.now taking.now) → IsTrue result }
-    ensures newest { result ≡ false → journal.version ≡ NEWEST_VERSION }
+    ensures due { IsTrue result → IsDue (Some journal) (taken_checkpoint heading.now taking.now) }
+    ensures not_due { IsDue (Some journal) (taken_checkpoint heading.now taking.now) → IsTrue result }
+    ensures newest { result ≡ false → journal.version ≡ newest }
     ensures ends { result ≡ false → journal.end ≤ 2 ^ 55 }
 {
     if journal.version != NEWEST_VERSION {
         return true;
     }
     let changes = journal.end.saturating_sub(17 + journal.slot.length);
-    changes > 2 * spelled_size(settings, taking) + SPARE
+    changes > 2 * spelled_size(heading, taking) + SPARE
 }
 
 // How many bytes the whole checkpoint takes.
-fn spelled_size(settings: &[u8], taking: &Taking) -> u64
-    requires { IsCheckpoint (taken_checkpoint settings.now taking.now) }
-    ensures is { result ≡ length (checkpoint_spelling (taken_checkpoint settings.now taking.now)) }
+fn spelled_size(heading: &Heading<'_>, taking: &Taking) -> u64
+    requires { IsCheckpoint newest (taken_checkpoint heading.now taking.now) }
+    ensures is { result ≡ length (checkpoint_spelling newest (taken_checkpoint heading.now taking.now)) }
     ensures short { result ≤ 2 ^ 52 }
 {
     spellings_are_short();
-    let mut size = 21 + settings.len() as u64;
+    let mut size = 29;
+    for text in heading.eras.as_slice() {
+        size += 4 + text.as_slice().len() as u64;
+    }
     for place in 0..taking.tracker.len() {
         size += row_size(taking.tracker.row(place));
     }
@@ -232,33 +253,50 @@ fn row_size(row: &Row) -> u64
     requires path { IsShortText row.now.path }
     requires front { length row.now.front ≤ front_limit }
     requires state { length row.now.state < 2 ^ 32 }
-    ensures { result ≡ length (row_spelling row.now) }
+    ensures { result ≡ length (row_spelling newest row.now) }
 {
     let texts = row.path.len() + row.front.as_slice().len() + row.state.as_slice().len();
-    48 + texts as u64
+    let ends = 24 * row.ends.as_slice().len();
+    68 + (texts + ends) as u64
 }
 
 // The checkpoint of what was taken.
-fn checkpoint_of(alloc: Global, settings: &[u8], taking: &Taking) -> Result<Checkpoint, AllocError>
-    requires { IsCheckpoint (taken_checkpoint settings.now taking.now) }
-    ensures { IfOk result (λ checkpoint. checkpoint ≡ taken_checkpoint settings.now taking.now) }
+fn checkpoint_of(
+    alloc: Global,
+    heading: &Heading<'_>,
+    taking: &Taking,
+) -> Result<Checkpoint, AllocError>
+    requires { IsCheckpoint newest (taken_checkpoint heading.now taking.now) }
+    ensures { IfOk result (λ checkpoint. checkpoint ≡ taken_checkpoint heading.now taking.now) }
 {
     let mut rows = Vec::new(alloc);
     for place in 0..taking.tracker.len() {
         rows.push(taking.tracker.row(place).copy(alloc)?)?;
     }
     Ok(Checkpoint {
-        settings: Bytes::from_slice(alloc, settings)?,
+        eras: copy_eras(alloc, heading.eras)?,
         output_length: taking.end,
+        observed: heading.observed,
         next_id: taking.tracker.len() as u32 + 1,
         rows: Rows::new(rows),
     })
 }
 
+// The same texts.
+fn copy_eras(alloc: Global, eras: &Eras) -> Result<Eras, AllocError>
+    ensures { IfOk result (λ copy. copy ≡ eras.now) }
+{
+    let mut texts = Vec::new(alloc);
+    for text in eras.as_slice() {
+        texts.push(Bytes::from_slice(alloc, text.as_slice())?)?;
+    }
+    Ok(Eras::new(texts))
+}
+
 // What changed by what was taken.
-fn change_of(alloc: Global, taking: &Taking) -> Result<Change, AllocError>
+fn change_of(alloc: Global, heading: &Heading<'_>, taking: &Taking) -> Result<Change, AllocError>
     requires { length taking.now.changed.items ≡ length taking.now.tracker }
-    ensures { IfOk result (λ change. change ≡ taken_change taking.now) }
+    ensures { IfOk result (λ change. change ≡ taken_change heading.now taking.now) }
 {
     let mut rows = Vec::new(alloc);
     for place in 0..taking.tracker.len() {
@@ -268,6 +306,7 @@ fn change_of(alloc: Global, taking: &Taking) -> Result<Change, AllocError>
     }
     Ok(Change {
         output_length: taking.end,
+        observed: heading.observed,
         next_id: taking.tracker.len() as u32 + 1,
         rows: Rows::new(rows),
     })

@@ -20,7 +20,7 @@ pub struct Summary {
     pub compressed: u32,
     /// Files that are shorter than they were.
     pub shrunk: u32,
-    /// New files that were passed over since 1,024 are known.
+    /// New files that were passed over since 65,536 are known.
     pub full: u32,
     /// Folders that weren't listed since they lie too deep.
     pub deep: u32,

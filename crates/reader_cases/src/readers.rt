@@ -71,6 +71,7 @@ impl Readers {
             "admit" => trackers::admit(alloc, &mut self.tracker, input),
             "grow" => trackers::grow(alloc, &mut self.tracker, words, input),
             "advance" => trackers::advance(alloc, &mut self.tracker, words, input),
+            "note" => trackers::note(alloc, &mut self.tracker, words),
             _ => {
                 let bytes = bytes_of(alloc, words, input, &self.bytes)?;
                 told(alloc, call, words, &bytes)
@@ -105,6 +106,7 @@ impl Answers for Readers {
             "command" => commands::command(alloc, text.as_str()),
             "spell_entry" => spellings::spell_entry(alloc, text.as_str()),
             "offsets" => checkpoints::offsets(alloc, case.words, text.as_str()),
+            "spell_change" => checkpoints::spell_change(alloc, case.words, text.as_str()),
             _ => self.kept(alloc, case.call, case.words, &input),
         }
     }

@@ -1,5 +1,5 @@
 // Spellings of entries, and what reads bytes.
-use crate::checkpoints::{change, checkpoint};
+use crate::checkpoints::{Base, change, checkpoint};
 use crate::entries::{entry_of, entry_text};
 use crate::texts::{from_hexadecimal, hexadecimal, number};
 use crate::values::json;
@@ -41,7 +41,9 @@ pub fn told(alloc: Global, call: &str, words: &str, bytes: &[u8]) -> Result<Stri
             Err(fault) => format!(in alloc; "{fault}"),
         },
         "read_checkpoint" => checkpoint(alloc, bytes),
-        "read_change" => change(alloc, bytes),
+        "read_change" => change(alloc, Base::First, bytes),
+        "read_change_2" => change(alloc, Base::Second, bytes),
+        "read_change_3" => change(alloc, Base::Third, bytes),
         _ => String::from_str(alloc, "no such call"),
     }
 }

@@ -1,7 +1,7 @@
 // What knows files by their fronts.
 use crate::texts::number;
 use entry_model::Text;
-use file_tracker::{AdmitFault, Bytes, Row, Tracker};
+use file_tracker::{AdmitFault, Bytes, Ends, Row, Tracker};
 use std::alloc::{AllocError, Global};
 
 fn row_of(alloc: Global, id: u32, front: &[u8]) -> Result<Row, AllocError> {
@@ -14,6 +14,10 @@ fn row_of(alloc: Global, id: u32, front: &[u8]) -> Result<Row, AllocError> {
         records: 0,
         lines: 0,
         state: Bytes::new(Vec::new(alloc)),
+        born: 1,
+        ends: Ends::none(alloc),
+        seen: 0,
+        quiet: 0,
     })
 }
 
@@ -88,7 +92,7 @@ pub fn advance(
         return String::from_str(alloc, "not further than before");
     }
     let before = tracker.row(place).copy(alloc)?;
-    let same = before == *tracker.row(place);
+    let same = are_equal(&before, tracker.row(place));
     let state = Vec::from_slice(alloc, state)?;
     tracker.advance(place, offset, before.records, before.lines, state);
     match row_at(tracker, place) {
@@ -104,6 +108,35 @@ fn advanced(
     row: &Row,
     rows: usize,
 ) -> Result<String, AllocError> {
-    let changed = before != row;
+    let changed = !are_equal(before, row);
     format!(in alloc; "copied {same}, changed {changed}, {rows} rows, {row:?}")
+}
+
+fn are_equal(one: &Row, other: &Row) -> bool {
+    one.id == other.id
+        && one.path == other.path
+        && one.front == other.front
+        && one.start == other.start
+        && one.offset == other.offset
+        && one.records == other.records
+        && one.lines == other.lines
+        && one.state == other.state
+        && one.born == other.born
+        && one.ends.as_slice() == other.ends.as_slice()
+        && one.seen == other.seen
+        && one.quiet == other.quiet
+}
+
+/// Notes the length at which the file of a row was seen, and for how many looks. Answers the row.
+pub fn note(alloc: Global, tracker: &mut Tracker, words: &str) -> Result<String, AllocError> {
+    let place = usize::try_from(number(words, 0)).unwrap_or(usize::MAX);
+    if place >= tracker.len() {
+        return String::from_str(alloc, "no row");
+    }
+    let quiet = u32::try_from(number(words, 2)).unwrap_or(u32::MAX);
+    tracker.note(place, number(words, 1), quiet);
+    match row_at(tracker, place) {
+        Some(row) => format!(in alloc; "{row:?}"),
+        None => String::from_str(alloc, "no row"),
+    }
 }

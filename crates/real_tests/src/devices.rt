@@ -1,6 +1,6 @@
 // Each adapter once.
-use outside::{Disk, DiskFile, Kind, Listed, Opened, Sink, Source, Tree};
-use real_world::{RealDisk, RealSink, RealSource, RealTree};
+use outside::{Clock, Disk, DiskFile, Kind, Listed, Opened, Sink, Source, Tree};
+use real_world::{RealClock, RealDisk, RealSink, RealSource, RealTree};
 use std::fs;
 use std::test::Fail;
 
@@ -56,5 +56,20 @@ fn disk_writes_cuts_and_syncs(rt: HostRuntime) -> Result<(), Fail> {
 fn streams_take_and_give(rt: HostRuntime) -> Result<(), Fail> {
     RealSink::new(&rt).write(rt.alloc(), b"reported\n")?;
     assert_eq!(rt; RealSource::new(&rt).read(&mut [])?, 0);
+    Ok(())
+}
+
+#[test]
+fn clock_tells_this_century(rt: HostRuntime) -> Result<(), Fail> {
+    // The begin of 2020 and that of 2100, and an hour, in nanoseconds.
+    const FROM: u64 = 1_577_836_800_000_000_000;
+    const TO: u64 = 4_102_444_800_000_000_000;
+    const HOUR: u64 = 3_600_000_000_000;
+    let mut clock = RealClock::new(&rt);
+    let first = clock.now();
+    let second = clock.now();
+    assert!(rt; (FROM..TO).contains(&first));
+    assert!(rt; (FROM..TO).contains(&second));
+    assert!(rt; first.abs_diff(second) < HOUR);
     Ok(())
 }

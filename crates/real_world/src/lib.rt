@@ -1,4 +1,4 @@
-//! The real outside: the machine's folders and files, standard input and standard output.
+//! The real outside: the machine's folders and files, standard input and standard output, and its clock.
 //!
 //! These adapters are the trusted edge of the product. They tell nothing of contents, so what is proved of them is that
 //! a fault comes only where the count of faults rose. `real_tests` tries each of them on the machine's own files.
@@ -7,11 +7,13 @@
 ghost use Rattle.std.specs.Prelude.{◌≡◌, ◌≤◌, Ok, IfOk};
 ghost use Rattle.outside.specs.Count.{HasCause, HasOneCause};
 
+mod clock;
 mod control;
 mod disk;
 mod report;
 mod tree;
 
+pub use clock::RealClock;
 pub use control::RealSource;
 pub use disk::RealDisk;
 use outside::{CallFault, Failed};

@@ -90,8 +90,8 @@ fn show_named(
     Ok(())
 }
 
-/// The includes, and a line for each further key that isn't at its default, or for each key where the whole is asked for; behind
-/// them a line for each operator.
+/// The includes, and a line for each further key that isn't at its default, or for each key where the whole is asked for, in the
+/// order of the table; each operator has a line of its own, also where the whole is asked for.
 pub fn show_settings(alloc: Global, whole: bool, said: &Settings) -> Result<String, AllocError> {
     let mut out = format!(in alloc; "include {:?}", said.include.as_slice())?;
     show_texts("exclude", whole, &said.exclude, &mut out)?;
@@ -118,5 +118,7 @@ pub fn show_settings(alloc: Global, whole: bool, said: &Settings) -> Result<Stri
         out.push_str("\noperator ")?;
         show_operator(operator, &mut out)?;
     }
+    let observed = said.include_observed_time;
+    show_flag("include_observed_time", whole, false, observed, &mut out)?;
     Ok(out)
 }

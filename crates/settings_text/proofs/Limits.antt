@@ -504,7 +504,8 @@ keys_say d said e =
     let attributes = binds (may [] (codes "attributes") fields datum.no_members d) _ said flags.2 in
     let resource = binds (may [] (codes "resource") fields datum.no_members d) _ said attributes.2 in
     let operators = binds (may [] (codes "operators") op.operators [] d) _ said resource.2 in
-    subst (KeysSay d) (same_value _ said operators.2) (record { include = include.1; front = fingerprint.1; max = max.1; operators = operators.1 })
+    let observed_time = binds (may [] (codes "include_observed_time") flag false d) _ said operators.2 in
+    subst (KeysSay d) (same_value _ said observed_time.2) (record { include = include.1; front = fingerprint.1; max = max.1; operators = operators.1 })
 
 settings_of_keep : (d : Data) (said : Settings) → settings_of d ≡ Ok said → KeepsLimits said
 settings_of_keep d said e =

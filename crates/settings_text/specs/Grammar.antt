@@ -27,6 +27,7 @@ is_top_key name =
     || bytes_eq name (codes "preserve_leading_whitespaces") || bytes_eq name (codes "preserve_trailing_whitespaces")
     || bytes_eq name (codes "include_file_name") || bytes_eq name (codes "include_file_path") || bytes_eq name (codes "include_file_record_number")
     || bytes_eq name (codes "attributes") || bytes_eq name (codes "resource") || bytes_eq name (codes "operators")
+    || bytes_eq name (codes "include_observed_time")
 
 -- Each line has a key, its kind and its default.
 unfoldable pub flags_of : Data → Result Flags SettingsFault
@@ -58,6 +59,7 @@ settings_of d = do
   attributes ← may [] (codes "attributes") fields no_members d
   resource ← may [] (codes "resource") fields no_members d
   operators ← may [] (codes "operators") operators.operators [] d
+  include_observed_time ← may [] (codes "include_observed_time") flag false d
   Ok (record {
     include = include;
     exclude = exclude;
@@ -73,6 +75,7 @@ settings_of d = do
     attributes = attributes;
     resource = resource;
     operators = operators;
+    include_observed_time = include_observed_time;
   })
 
 -- the JSON value of a text in UTF-8

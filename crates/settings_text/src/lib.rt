@@ -94,6 +94,7 @@ impl Words for TopKeys {
             "attributes",
             "resource",
             "operators",
+            "include_observed_time",
         ];
         is_one_of(name, &words)
     }
@@ -150,6 +151,7 @@ fn settings_of(alloc: Global, object: &Value) -> Result<Settings, SettingsFault>
     let attributes = fields(alloc, object, "", "attributes")?;
     let resource = fields(alloc, object, "", "resource")?;
     let operators = operators(alloc, object)?;
+    let include_observed_time = flag(alloc, object, "", "include_observed_time", false)?;
     Ok(Settings {
         include,
         exclude,
@@ -165,6 +167,7 @@ fn settings_of(alloc: Global, object: &Value) -> Result<Settings, SettingsFault>
         attributes,
         resource,
         operators,
+        include_observed_time,
     })
 }
 

@@ -52,6 +52,8 @@ pub struct Settings {
     pub resource: NamedTexts,
     /// At most 64.
     pub operators: Operators,
+    /// Whether each line of the output has the time at which its entry was taken.
+    pub include_observed_time: bool,
 }
 
 // By hand, so that what drops one goes by this call, and not by what each field may hold.
@@ -72,6 +74,7 @@ impl Drop for Settings {
             attributes: _attributes,
             resource: _resource,
             operators: _operators,
+            include_observed_time: _,
         } = self;
     }
 }

@@ -1,15 +1,16 @@
 -- The worked history stands.
-use Rattle.std.proofs.Common.{◌≡◌, ℕ, zero, suc, ◌+◌, List, [], ◌∷◌, ◌++◌, get_or, IsTrue, refl, sym, ap, subst, inl, arith}
-use Rattle.std.specs.Prelude.{None, Some, codes}
+use Rattle.std.proofs.Common.{◌≡◌, ℕ, zero, suc, ◌+◌, ◌≤◌, List, [], ◌∷◌, ◌++◌, get_or, IsTrue, refl, sym, ap, subst, inl, arith}
+use Rattle.std.specs.Prelude.{None, Some, IfSome, codes}
 use Rattle.std.proofs.lemmas.List.Elements.{All-nil, All-cons}
 use Rattle.line_splitter.specs.Cuts.{cut, cuts_within, cuts}
 use Rattle.line_splitter.specs.LineTokens.{line_end, first_cut}
 use Rattle.outside.specs.World.{create, append, rename, look}
 use Rattle.standing.proofs.GlobLemmas.{app_log_included}
-use Rattle.standing.specs.Example.{each_line, line_text, begun, rotated, polled_again, row_of, second_checkpoint, first_lines, second_lines, mark_of}
+use Rattle.standing.specs.Example.{each_line, one_era, line_text, begun, rotated, polled_again, row_of, second_checkpoint, first_lines, second_lines, mark_of}
 use Rattle.standing.specs.Marks.{Mark, of_id}
 use Rattle.standing.specs.Prefixes.{IsPrefix}
 use Rattle.standing.specs.Rows.{Row, IsRowAt, AreNumbered}
+use Rattle.standing.specs.Times.{IsNotBefore}
 use Rattle.standing.specs.Stands.{RowStands, AreFrontsApart, IsIdOf, CheckpointStands}
 
 abbrev renamed : Row
@@ -21,7 +22,11 @@ newer = row_of 2 (codes "three\n") 6 1
 abbrev all_lines : List Mark
 all_lines = first_lines ++ second_lines
 
-renamed_stands : RowStands each_line polled_again renamed (of_id 1 all_lines)
+-- beside a line without a time
+abbrev IsAnyTime : Mark → Type 0
+IsAnyTime mark = IsNotBefore None mark.observed
+
+renamed_stands : RowStands one_era polled_again renamed (of_id 1 all_lines)
 unfolding cuts cuts_within first_cut line_end
 renamed_stands = record {
   file = 1;
@@ -33,9 +38,14 @@ renamed_stands = record {
     named_at = begun;
     named = record { later = look 1 ∷ look 2 ∷ append 2 (codes "three\n") ∷ create 2 (codes "app.log") ∷ append 1 (codes "o\n") ∷ rename 1 (codes "app.log.1") ∷ []; split = refl };
     under = refl;
+    rules = each_line;
+    admitted = refl;
     included = app_log_included;
   };
   begins = inl refl;
+  earlier = [];
+  closed = refl;
+  parts = refl;
   tokens = codes "one" ∷ codes "two" ∷ [];
   taken = record {
     begins = omega arith;
@@ -46,9 +56,10 @@ renamed_stands = record {
     state = refl;
   };
   all_lines = refl;
+  times = record { have = (refl, (refl, tt)); never_fall = (All-cons IsAnyTime (mark_of 1 2 (codes "two")) [] tt (All-nil IsAnyTime), (All-nil IsAnyTime, tt)) };
 }
 
-newer_stands : RowStands each_line polled_again newer (of_id 2 all_lines)
+newer_stands : RowStands one_era polled_again newer (of_id 2 all_lines)
 unfolding cuts cuts_within first_cut line_end
 newer_stands = record {
   file = 2;
@@ -60,9 +71,14 @@ newer_stands = record {
     named_at = rotated;
     named = record { later = look 1 ∷ []; split = refl };
     under = refl;
+    rules = each_line;
+    admitted = refl;
     included = app_log_included;
   };
   begins = inl refl;
+  earlier = [];
+  closed = refl;
+  parts = refl;
   tokens = codes "three" ∷ [];
   taken = record {
     begins = omega arith;
@@ -73,6 +89,7 @@ newer_stands = record {
     state = refl;
   };
   all_lines = refl;
+  times = record { have = (refl, tt); never_fall = (All-nil IsAnyTime, tt) };
 }
 
 first_row : (row : Row) → Some renamed ≡ Some row → renamed ≡ row
@@ -89,9 +106,9 @@ ids zero row at = ap (λ (r : Row). r.id) (sym (first_row row at))
 ids (suc zero) row at = ap (λ (r : Row). r.id) (sym (second_row row at))
 ids (suc (suc k)) row at = absurd (no_row row at)
 
-rows_stand : (place : ℕ) (row : Row) → IsRowAt second_checkpoint.rows place row → RowStands each_line polled_again row (of_id row.id all_lines)
-rows_stand zero row at = subst (λ (r : Row). RowStands each_line polled_again r (of_id r.id all_lines)) (first_row row at) renamed_stands
-rows_stand (suc zero) row at = subst (λ (r : Row). RowStands each_line polled_again r (of_id r.id all_lines)) (second_row row at) newer_stands
+rows_stand : (place : ℕ) (row : Row) → IsRowAt second_checkpoint.rows place row → RowStands one_era polled_again row (of_id row.id all_lines)
+rows_stand zero row at = subst (λ (r : Row). RowStands one_era polled_again r (of_id r.id all_lines)) (first_row row at) renamed_stands
+rows_stand (suc zero) row at = subst (λ (r : Row). RowStands one_era polled_again r (of_id r.id all_lines)) (second_row row at) newer_stands
 rows_stand (suc (suc k)) row at = absurd (no_row row at)
 
 not_first : IsPrefix renamed.front newer.front → ⊥
@@ -114,16 +131,19 @@ fronts (suc (suc k)) j row other at other_at differs prefix = no_row row at
 abbrev HasRow : Mark → Type 0
 HasRow mark = IsIdOf second_checkpoint.rows mark.id
 
+abbrev HasNone : Mark → Type 0
+HasNone mark = IfSome mark.observed (λ t. t ≤ 0)
+
 abbrev HasState : Row → Type 0
 HasState row = IsTrue (each_line.is_state row.state)
 
-pub second_stands : CheckpointStands each_line polled_again second_checkpoint (codes "1 1 one\n2 1 three\n1 2 two\n")
+pub second_stands : CheckpointStands one_era polled_again second_checkpoint (codes "1 1 one\n2 1 three\n1 2 two\n")
 unfolding line_text
 second_stands =
     let numbered_rows : AreNumbered second_checkpoint.rows 3 = record { ids = ids; next = refl } in
     record {
       sound = record {
-        settings = refl;
+        texts = refl;
         states = All-cons HasState renamed (newer ∷ []) refl (All-cons HasState newer [] refl (All-nil HasState));
         ids = numbered_rows;
         long_enough = omega arith;
@@ -141,4 +161,5 @@ second_stands =
               (All-cons HasRow (mark_of 1 2 (codes "two")) [] (0, renamed, refl, refl) (All-nil HasRow)));
         };
       };
+      times = All-cons HasNone (mark_of 1 1 (codes "one")) second_lines tt (All-cons HasNone (mark_of 2 1 (codes "three")) (mark_of 1 2 (codes "two") ∷ []) tt (All-cons HasNone (mark_of 1 2 (codes "two")) [] tt (All-nil HasNone)));
     }

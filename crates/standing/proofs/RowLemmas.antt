@@ -1,22 +1,26 @@
 -- What a row has taken, while its file grows and pieces of it are fed.
-use Rattle.std.proofs.Common.{◌≡◌, ℕ, ◌+◌, ◌-◌, List, ◌++◌, length, drop, IsTrue, sym, ap, subst, ◌∙◌, inl, inr, arith, length-append, length-drop}
+use Rattle.std.proofs.Common.{[], ◌∷◌, ◌≡◌, ℕ, ◌+◌, ◌-◌, List, ◌++◌, length, drop, IsTrue, sym, ap, subst, ◌∙◌, inl, inr, arith, length-append, length-drop}
 use Rattle.std.proofs.lemmas.List.{drop-drop, drop-append-le}
 use Rattle.outside.specs.World.{History, bytes}
 use Rattle.standing.specs.AreRules.{AreRules}
+use Rattle.file_tracker.specs.declared.ends.End.{End}
+use Rattle.standing.specs.Closed.{Made, AreClosed}
+use Rattle.standing.specs.Eras.{Eras, AreEras, last_era}
 use Rattle.standing.specs.Look.{fed}
 use Rattle.standing.specs.Marks.{Mark}
 use Rattle.standing.specs.Moments.{IsLater}
 use Rattle.standing.specs.Owner.{IsOwner, MayBegin}
-use Rattle.standing.specs.Part.{Part, HasTaken, part_output}
+use Rattle.standing.specs.Part.{Part, HasTaken, part_output, first_point, last_part}
 use Rattle.standing.specs.Rows.{Row}
 use Rattle.standing.specs.Rules.{Rules}
 use Rattle.standing.specs.Stands.{RowStands}
 use Rattle.standing.specs.Tokens.{tokens_of, used, UpTo}
+use Rattle.standing.proofs.EraLemmas.{era_laws, last_laws}
 use Rattle.standing.proofs.MomentLemmas.{look_lasts, bytes_grow}
 use Rattle.standing.proofs.TokenLemmas.{up_to_lasts, up_to_piece}
 
-pub owner_lasts : (rules : Rules) (old new : History) (row : Row) (file : ℕ) → IsLater old new → IsOwner rules old row file → IsOwner rules new row file
-owner_lasts rules old new row file later owner = record {
+pub owner_lasts : (eras : Eras) (old new : History) (row : Row) (file : ℕ) → IsLater old new → IsOwner eras old row file → IsOwner eras new row file
+owner_lasts eras old new row file later owner = record {
   seen_at = owner.seen_at;
   seen = look_lasts old new file owner.seen_at later owner.seen;
   saw = owner.saw;
@@ -24,6 +28,8 @@ owner_lasts rules old new row file later owner = record {
   named_at = owner.named_at;
   named = look_lasts old new file owner.named_at later owner.named;
   under = owner.under;
+  rules = owner.rules;
+  admitted = owner.admitted;
   included = owner.included;
 }
 
@@ -81,15 +87,44 @@ module _ (rules : Rules) (laws : AreRules rules) where
         state = sym (state_goes_on part content tokens (tokens_of rules piece) row good taken);
       }
 
-  pub row_lasts : (old new : History) (row : Row) (lines : List Mark) → IsLater old new → RowStands rules old row lines → RowStands rules new row lines
-  row_lasts old new row lines later stands =
-      let grown = bytes_grow old new stands.file later in
+-- ---- parts
+
+closed_lasts : (eras : Eras) → AreEras eras → (content more path : List ℕ) (era : ℕ) (from : End) (ends : List End) (made : List Made)
+    → AreClosed eras content path era from ends made → AreClosed eras (content ++ more) path era from ends made
+closed_lasts eras laws content more path era from [] made closed = closed
+closed_lasts eras laws content more path era from (end ∷ ends) made closed =
+    let part = closed.0 in
+    let same : drop from.offset (content ++ more) ≡ drop from.offset content ++ more = drop-append-le from.offset content more (omega (arith, part.begins, part.within)) in
+    let P : List ℕ → Type 0 = λ b. UpTo part.rules b (end.offset - from.offset) part.tokens in (
       record {
-        file = stands.file;
-        owner = owner_lasts rules old new row stands.file later stands.owner;
-        begins = begin_lasts rules old new stands.file row.start later stands.begins;
-        tokens = stands.tokens;
-        taken = let P : List ℕ → Type 0 = λ b. HasTaken rules (record { start = row.start; records = 0; lines = 0; state = rules.fresh }) b stands.tokens row in
-            subst P (sym grown.1) (taken_lasts (record { start = row.start; records = 0; lines = 0; state = rules.fresh }) (bytes old stands.file) grown.0 stands.tokens row stands.taken);
-        all_lines = stands.all_lines;
-      }
+        rules = part.rules;
+        there = part.there;
+        begins = part.begins;
+        within = omega (arith, part.within, length-append content more);
+        tokens = part.tokens;
+        bound = subst P (sym same) (up_to_lasts part.rules (era_laws eras laws era part.rules part.there).tokens (drop from.offset content) more (end.offset - from.offset) part.tokens part.bound);
+        records = part.records;
+        lines = part.lines;
+      },
+      closed.1,
+      closed.2,
+      closed_lasts eras laws content more path (era + 1) end ends closed.1 closed.3,
+    )
+
+pub row_lasts : (eras : Eras) → AreEras eras → (old new : History) (row : Row) (lines : List Mark) → IsLater old new → RowStands eras old row lines → RowStands eras new row lines
+row_lasts eras laws old new row lines later stands =
+    let grown = bytes_grow old new stands.file later in
+    let P : List ℕ → Type 0 = λ b. HasTaken (last_era eras) (last_part (last_era eras) row) b stands.tokens row in
+    let Q : List ℕ → Type 0 = λ b. AreClosed eras b row.path row.born (first_point row) row.ends stands.earlier in
+    record {
+      file = stands.file;
+      owner = owner_lasts eras old new row stands.file later stands.owner;
+      begins = begin_lasts eras.first old new stands.file row.start later stands.begins;
+      earlier = stands.earlier;
+      closed = subst Q (sym grown.1) (closed_lasts eras laws (bytes old stands.file) grown.0 row.path row.born (first_point row) row.ends stands.earlier stands.closed);
+      parts = stands.parts;
+      tokens = stands.tokens;
+      taken = subst P (sym grown.1) (taken_lasts (last_era eras) (last_laws eras laws) (last_part (last_era eras) row) (bytes old stands.file) grown.0 stands.tokens row stands.taken);
+      all_lines = stands.all_lines;
+      times = stands.times;
+    }

@@ -1,5 +1,5 @@
 -- What outputs and bounds tell.
-use Rattle.std.proofs.Common.{◌≡◌, ℕ, ◌+◌, ◌-◌, ◌≤◌, List, [], ◌∷◌, ◌++◌, length, take, drop, IsTrue, refl, sym, ap, subst, ◌∙◌, arith, length-append}
+use Rattle.std.proofs.Common.{◌≡◌, ℕ, ◌+◌, ◌-◌, ◌≤◌, List, [], ◌∷◌, ◌++◌, length, take, drop, IsTrue, refl, sym, ap, subst, ◌∙◌, arith, length-append, None}
 use Rattle.std.specs.List.{All}
 use Rattle.std.proofs.lemmas.List.{take-append-drop}
 use Rattle.std.proofs.lemmas.List.Elements.{All-head, All-tail}
@@ -8,13 +8,18 @@ use Rattle.entry_model.specs.LogRecord.{LogRecord}
 use Rattle.line_splitter.specs.Cuts.{Cut}
 use Rattle.outside.specs.World.{History, bytes}
 use Rattle.standing.specs.AreRules.{AreRules}
-use Rattle.standing.specs.Marks.{Mark, numbered}
+use Rattle.standing.specs.Closed.{entries_in, all_made}
+use Rattle.standing.specs.Eras.{Eras, AreEras, last_era}
+use Rattle.standing.specs.Marks.{Mark, numbered, untimed}
+use Rattle.standing.specs.Part.{first_point, last_point}
 use Rattle.standing.specs.Reached.{Reached}
 use Rattle.standing.specs.Rows.{Row}
-use Rattle.standing.specs.Rules.{Rules, output_text, entries_of}
+use Rattle.standing.specs.Rules.{Rules, output_text}
 use Rattle.standing.specs.Stands.{RowStands}
 use Rattle.standing.specs.Tokens.{used_by, texts, tokens_of, used, UpTo}
+use Rattle.standing.proofs.EraLemmas.{last_laws}
 use Rattle.standing.proofs.MarkLemmas.{numbered-append}
+use Rattle.standing.proofs.PartLemmas.{entries_go_on}
 use Rattle.standing.proofs.TokenLemmas.{texts-append, up_to_all, up_to_lasts}
 
 abbrev AllFit : Rules → List Mark → Type 0
@@ -54,32 +59,43 @@ module _ (rules : Rules) (laws : AreRules rules) where
   bound_tells_tokens content bound tokens others up also =
       up.are ∙ ap texts (same_taken (rules.cuts content) up.taken up.behind also.taken also.behind (laws.tokens.each_uses content) up.split also.split (up.uses ∙ sym also.uses)) ∙ sym also.are
 
+module _ (eras : Eras) (laws : AreEras eras) where
+  abbrev rules_now : Rules
+  rules_now = last_era eras
+
   -- the lines of a row are the first of those of all tokens of its file
-  pub lines_begin : (history : History) (row : Row) (lines : List Mark) (stands : RowStands rules history row lines)
-      → (rest : List Mark) × (numbered row.id 1 (entries_of rules row.path (tokens_of rules (drop row.start (bytes history stands.file)))) ≡ lines ++ rest)
+  pub lines_begin : (history : History) (row : Row) (lines : List Mark) (stands : RowStands eras history row lines)
+      → let point = last_point (first_point row) row.ends in
+      (rest : List Mark) × (numbered row.id 1 None (entries_in (all_made eras row stands.earlier (tokens_of (last_era eras) (drop point.offset (bytes history stands.file))))) ≡ untimed lines ++ rest)
   lines_begin history row lines stands =
-      let content : List ℕ = drop row.start (bytes history stands.file) in
+      let of_rules = last_laws eras laws in
+      let point = last_point (first_point row) row.ends in
+      let content : List ℕ = drop point.offset (bytes history stands.file) in
       let up = stands.taken.bound in
       let more : List (List ℕ) = texts up.behind in
-      let tokens : tokens_of rules content ≡ stands.tokens ++ more = ap texts up.split ∙ texts-append up.taken up.behind ∙ ap (λ (ts : List (List ℕ)). ts ++ more) (sym up.are) in
-      let made = laws.operators.made_in_parts row.path 0 rules.fresh stands.tokens more laws.operators.fresh_is_state in
-      let last : List LogRecord = rules.made row.path (0 + length stands.tokens) (rules.state_after row.path 0 rules.fresh stands.tokens) more in (
-        numbered row.id (1 + length (entries_of rules row.path stands.tokens)) last,
-        ap (λ (ts : List (List ℕ)). numbered row.id 1 (entries_of rules row.path ts)) tokens
-            ∙ ap (numbered row.id 1) made
-            ∙ numbered-append row.id 1 (entries_of rules row.path stands.tokens) last
-            ∙ ap (λ (ms : List Mark). ms ++ numbered row.id (1 + length (entries_of rules row.path stands.tokens)) last) (sym stands.all_lines),
+      let tokens : tokens_of rules_now content ≡ stands.tokens ++ more = ap texts up.split ∙ texts-append up.taken up.behind ∙ ap (λ (ts : List (List ℕ)). ts ++ more) (sym up.are) in
+      let goes = of_rules.operators.made_in_parts row.path point.records rules_now.fresh stands.tokens more of_rules.operators.fresh_is_state in
+      let last : List LogRecord = rules_now.made row.path (point.records + length stands.tokens) (rules_now.state_after row.path point.records rules_now.fresh stands.tokens) more in
+      let here : List LogRecord = entries_in (all_made eras row stands.earlier stands.tokens) in (
+        numbered row.id (1 + length here) None last,
+        ap (λ (ts : List (List ℕ)). numbered row.id 1 None (entries_in (all_made eras row stands.earlier ts))) tokens
+            ∙ ap (numbered row.id 1 None) (entries_go_on eras row stands.earlier stands.tokens more last goes)
+            ∙ numbered-append row.id 1 None here last
+            ∙ ap (λ (ms : List Mark). ms ++ numbered row.id (1 + length here) None last) (sym stands.all_lines),
       )
 
   -- those of a row that has reached a place are all that the bytes up to there have
-  pub reached_has_all : (history : History) (row : Row) (lines : List Mark) (place : ℕ) (stands : RowStands rules history row lines) → Reached rules (bytes history stands.file) row place
-      → lines ≡ numbered row.id 1 (entries_of rules row.path (tokens_of rules (take (place - row.start) (drop row.start (bytes history stands.file)))))
+  pub reached_has_all : (history : History) (row : Row) (lines : List Mark) (place : ℕ) (stands : RowStands eras history row lines) → Reached (last_era eras) (bytes history stands.file) row place
+      → let point = last_point (first_point row) row.ends in
+      untimed lines ≡ numbered row.id 1 None (entries_in (all_made eras row stands.earlier (tokens_of (last_era eras) (take (place - point.offset) (drop point.offset (bytes history stands.file))))))
   reached_has_all history row lines place stands reached =
-      let content : List ℕ = drop row.start (bytes history stands.file) in
-      let seen : List ℕ = take (place - row.start) content in
-      let whole_up = up_to_lasts rules laws.tokens seen (drop (place - row.start) content) (used rules seen) (tokens_of rules seen) (up_to_all rules laws.tokens seen) in
-      let P : List ℕ → Type 0 = λ b. UpTo rules b (used rules seen) (tokens_of rules seen) in
-      let Q : ℕ → Type 0 = λ n. UpTo rules content n (tokens_of rules seen) in
-      let far : used rules seen ≡ row.offset - row.start = omega (arith, reached) in
-      let up = subst Q far (subst P (take-append-drop (place - row.start) content) whole_up) in
-      stands.all_lines ∙ ap (λ (ts : List (List ℕ)). numbered row.id 1 (entries_of rules row.path ts)) (bound_tells_tokens content (row.offset - row.start) stands.tokens (tokens_of rules seen) stands.taken.bound up)
+      let of_rules = last_laws eras laws in
+      let point = last_point (first_point row) row.ends in
+      let content : List ℕ = drop point.offset (bytes history stands.file) in
+      let seen : List ℕ = take (place - point.offset) content in
+      let whole_up = up_to_lasts rules_now of_rules.tokens seen (drop (place - point.offset) content) (used rules_now seen) (tokens_of rules_now seen) (up_to_all rules_now of_rules.tokens seen) in
+      let P : List ℕ → Type 0 = λ b. UpTo rules_now b (used rules_now seen) (tokens_of rules_now seen) in
+      let Q : ℕ → Type 0 = λ n. UpTo rules_now content n (tokens_of rules_now seen) in
+      let far : used rules_now seen ≡ row.offset - point.offset = omega (arith, reached) in
+      let up = subst Q far (subst P (take-append-drop (place - point.offset) content) whole_up) in
+      stands.all_lines ∙ ap (λ (ts : List (List ℕ)). numbered row.id 1 None (entries_in (all_made eras row stands.earlier ts))) (bound_tells_tokens rules_now of_rules content (row.offset - point.offset) stands.tokens (tokens_of rules_now seen) stands.taken.bound up)

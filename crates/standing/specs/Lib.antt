@@ -8,6 +8,9 @@ pub mod Rows
 pub mod Apart
 pub mod Owner
 pub mod Part
+pub mod Eras
+pub mod Closed
+pub mod Times
 pub mod Stands
 pub mod Standing
 pub mod Reached
@@ -15,6 +18,8 @@ pub mod Limits
 pub mod Look
 pub mod Looks
 pub mod Pass
+pub mod Adopted
+pub mod Poll
 pub mod Sums
 pub mod Example
 pub mod OwnNames

@@ -1,19 +1,23 @@
 -- The file that a row stands for.
-use Rattle.std.specs.Prelude.{◌≡◌, ◌⊎◌, ℕ, ◌<◌, length, take, true}
+use Rattle.std.specs.Prelude.{◌≡◌, ◌⊎◌, ℕ, ◌<◌, length, take, true, Some}
 use Rattle.outside.specs.World.{History, bytes}
+use Rattle.standing.specs.Eras.{Eras, era_at}
 use Rattle.standing.specs.Moments.{LookAt, IsNamed}
 use Rattle.standing.specs.Rows.{Row}
 use Rattle.standing.specs.Rules.{Rules, Includes}
 
--- A look at the file saw exactly the row's front, which isn't empty; and a look found it under the row's path.
-pub record IsOwner (rules : Rules) (history : History) (row : Row) (file : ℕ) : Type 0 where
+-- A look at the file saw exactly the row's front, which isn't empty; and a look found it under the row's path, which was to be read
+-- in the era in which the row was made.
+pub record IsOwner (eras : Eras) (history : History) (row : Row) (file : ℕ) : Type 0 where
   pub seen_at : History
   pub seen : LookAt history file seen_at
-  pub saw : row.front ≡ take rules.front_size (bytes seen_at file)
+  pub saw : row.front ≡ take eras.first.front_size (bytes seen_at file)
   pub not_empty : 0 < length row.front
   pub named_at : History
   pub named : LookAt history file named_at
   pub under : IsNamed named_at row.path file
+  pub rules : Rules
+  pub admitted : era_at eras row.born ≡ Some rules
   pub included : Includes rules row.path
 
 -- files may begin at their end, and this was the file's length at one of its looks

@@ -1,5 +1,5 @@
 -- One poll, read on the stretch of the history in which it was made. Nothing here asks what the rows stand for.
-use Rattle.std.specs.Prelude.{◌≡◌, ◌≢◌, ◌⊎◌, ℕ, ◌+◌, ◌<◌, ◌≤◌, ◌==◌, nat_lt, if◌then◌else◌, List, [], ◌∷◌, ◌++◌, length, map, Bool, ◌||◌, Contains, IsTrue, count_by}
+use Rattle.std.specs.Prelude.{◌≡◌, ◌≢◌, ◌⊎◌, ℕ, ◌+◌, ◌<◌, ◌≤◌, ◌==◌, nat_lt, if◌then◌else◌, List, [], ◌∷◌, ◌++◌, length, map, Bool, false, ◌||◌, Option, None, Some, IfSome, Contains, IsTrue, count_by}
 use Rattle.outside.specs.Count.{last_count}
 use Rattle.outside.specs.Path.{slash, components, relative, is_below}
 use Rattle.outside.specs.Seen.{looked, missed, left_unlisted}
@@ -9,6 +9,7 @@ use Rattle.standing.specs.Look.{Look, Progress, size}
 use Rattle.standing.specs.Looks.{progress_by, Come, ReadOn, Ascend}
 use Rattle.standing.specs.Marks.{Mark}
 use Rattle.standing.specs.Moments.{NamesThroughout}
+use Rattle.standing.specs.Poll.{Poll}
 use Rattle.standing.specs.Rows.{Checkpoint}
 use Rattle.standing.specs.Rules.{Rules, output_text, Includes}
 
@@ -62,21 +63,37 @@ LeavesNoneOut rules stretch looks misses unlisteds =
 abbrev pub start_at : Checkpoint → Progress
 start_at checkpoint = record { rows = checkpoint.rows; next_id = checkpoint.next_id; added = [] }
 
--- the checkpoint after these looks, and the lines that they added
-pub record LeadsTo (rules : Rules) (first : Bool) (looks : List Look) (before after : Checkpoint) (added : List Mark) : Type 0 where
-  pub settings : after.settings ≡ rules.settings
-  pub rows : after.rows ≡ (progress_by rules first looks (start_at before)).rows
-  pub next_id : after.next_id ≡ (progress_by rules first looks (start_at before)).next_id
-  pub lines : added ≡ (progress_by rules first looks (start_at before)).added
-  pub output_length : after.output_length ≡ before.output_length + length (output_text rules added)
+-- nothing of the checkpoint is new but what a poll that found nothing has too
+abbrev pub IsQuiet : Poll → Checkpoint → Checkpoint → List Mark → Type 0
+IsQuiet poll before after added = (poll.first ≡ false) × (after.rows ≡ before.rows) × (added ≡ [])
 
--- `first` is so in a first poll; `before` is the checkpoint at its beginning, or what stands for one.
-pub record Pass (rules : Rules) (first : Bool) (stretch : Stretch) (looks : List Look) (before after : Checkpoint) (added : List Mark) : Type 0 where
+-- the time of a poll, where it has one
+abbrev pub time_of : Option ℕ → ℕ → ℕ
+time_of None before = before
+time_of (Some time) before = time
+
+-- The greatest time that was kept, which the poll's isn't less than: the poll's, where it has something to keep, and else as before.
+pub record IsObserved (poll : Poll) (before after : Checkpoint) (added : List Mark) : Type 0 where
+  pub later : IfSome poll.stamp (λ time. before.observed ≤ time)
+  pub is : (IsQuiet poll before after added × (after.observed ≡ before.observed))
+      ⊎ ((IsQuiet poll before after added → ⊥) × (after.observed ≡ time_of poll.stamp before.observed))
+
+-- the checkpoint after these looks, and the lines that they added
+pub record LeadsTo (poll : Poll) (looks : List Look) (before after : Checkpoint) (added : List Mark) : Type 0 where
+  pub eras : after.eras ≡ before.eras
+  pub rows : after.rows ≡ (progress_by poll looks (start_at before)).rows
+  pub next_id : after.next_id ≡ (progress_by poll looks (start_at before)).next_id
+  pub lines : added ≡ (progress_by poll looks (start_at before)).added
+  pub output_length : after.output_length ≡ before.output_length + length (output_text poll.rules added)
+  pub observed : IsObserved poll before after added
+
+-- `before` is the checkpoint at the poll's beginning, or what stands for one.
+pub record Pass (poll : Poll) (stretch : Stretch) (looks : List Look) (before after : Checkpoint) (added : List Mark) : Type 0 where
   pub misses : List (List ℕ)
   pub unlisteds : List (List ℕ)
   pub calls : OwnCalls stretch looks misses unlisteds
-  pub come : Come rules looks stretch.old stretch.new
+  pub come : Come poll.rules looks stretch.old stretch.new
   pub ascend : Ascend looks
-  pub leaves_none_out : LeavesNoneOut rules stretch looks misses unlisteds
-  pub read_on : ReadOn rules first looks (start_at before)
-  pub leads_to : LeadsTo rules first looks before after added
+  pub leaves_none_out : LeavesNoneOut poll.rules stretch looks misses unlisteds
+  pub read_on : ReadOn poll looks (start_at before)
+  pub leads_to : LeadsTo poll looks before after added

@@ -1,12 +1,12 @@
 -- What is kept of the files and of the output from one run to the next.
-use Rattle.std.specs.Prelude.{◌≡◌, ℕ, ◌+◌, All, IsTrue, List, [], length, Some, slice_get}
+use Rattle.std.specs.Prelude.{◌≡◌, ℕ, ◌+◌, All, IsTrue, List, [], ◌∷◌, length, Some, slice_get}
 pub use Rattle.checkpoint_store.specs.declared.Checkpoint.{Checkpoint}
 pub use Rattle.file_tracker.specs.declared.row.Row.{Row}
 use Rattle.standing.specs.Rules.{Rules}
 
 -- what stands for a checkpoint where there is none
-abbrev pub no_checkpoint : Rules → Checkpoint
-no_checkpoint rules = record { settings = rules.settings; output_length = 0; next_id = 1; rows = [] }
+abbrev pub no_checkpoint : List (List ℕ) → Checkpoint
+no_checkpoint texts = record { eras = texts; output_length = 0; observed = 0; next_id = 1; rows = [] }
 
 abbrev pub IsRowAt : List Row → ℕ → Row → Type 0
 IsRowAt rows place row = slice_get rows place ≡ Some row

@@ -16,6 +16,10 @@ pub record Rules : Type 0 where
   pub made : List ℕ → ℕ → List ℕ → List (List ℕ) → List LogRecord
   -- the state that those tokens leave
   pub state_after : List ℕ → ℕ → List ℕ → List (List ℕ) → List ℕ
+  -- the tokens of bytes behind which none are waited for
+  pub rest : List ℕ → List (List ℕ)
+  -- what the operators hold back in a state, which comes out when they are closed
+  pub closed : List ℕ → List LogRecord
   -- the state in which no group is open
   pub fresh : List ℕ
   -- the text spells a state of these operators
@@ -31,6 +35,10 @@ pub record Rules : Type 0 where
   pub front_size : ℕ
   -- a file that the first poll finds begins at its end
   pub from_end : Bool
+  -- lines have the time at which they were made
+  pub stamps : Bool
+  -- after how many looks that find a file as it was what waits of it is flushed, or 0 for never
+  pub flush_after : ℕ
 
 abbrev pub Includes : Rules → List ℕ → Type 0
 Includes rules path = IsIncluded rules.include rules.exclude path
@@ -38,7 +46,3 @@ Includes rules path = IsIncluded rules.include rules.exclude path
 -- the output that has these lines
 abbrev pub output_text : Rules → List Mark → List ℕ
 output_text rules marks = flat_map rules.line marks
-
--- what comes out for all tokens of a file from its start
-abbrev pub entries_of : Rules → List ℕ → List (List ℕ) → List LogRecord
-entries_of rules path tokens = rules.made path 0 rules.fresh tokens

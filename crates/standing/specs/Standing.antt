@@ -1,6 +1,7 @@
 -- What a crash leaves: a checkpoint or none, and an output file.
 use Rattle.std.specs.Prelude.{◌≡◌, ℕ, ◌≤◌, List, [], ◌++◌, length, take, ⊤}
 use Rattle.outside.specs.World.{History}
+use Rattle.standing.specs.Eras.{Eras, texts_of}
 use Rattle.standing.specs.Rows.{Checkpoint, no_checkpoint}
 use Rattle.standing.specs.Marks.{Mark}
 use Rattle.standing.specs.Rules.{Rules, output_text}
@@ -19,20 +20,20 @@ kept damaged file = []
 kept (found checkpoint) file = take checkpoint.output_length file
 
 -- what a poll begins with
-abbrev pub checkpoint_of : Rules → Found → Checkpoint
-checkpoint_of rules nothing = no_checkpoint rules
-checkpoint_of rules damaged = no_checkpoint rules
-checkpoint_of rules (found checkpoint) = checkpoint
+abbrev pub checkpoint_of : Eras → Found → Checkpoint
+checkpoint_of eras nothing = no_checkpoint (texts_of eras)
+checkpoint_of eras damaged = no_checkpoint (texts_of eras)
+checkpoint_of eras (found checkpoint) = checkpoint
 
-abbrev pub Sound : Rules → Found → List ℕ → Type 0
-Sound rules nothing file = ⊤
-Sound rules damaged file = ⊥
-Sound rules (found checkpoint) file = IsSound rules checkpoint file
+abbrev pub Sound : Eras → Found → List ℕ → Type 0
+Sound eras nothing file = ⊤
+Sound eras damaged file = ⊥
+Sound eras (found checkpoint) file = IsSound eras checkpoint file
 
-abbrev pub Standing : Rules → History → Found → List ℕ → Type 0
-Standing rules history nothing file = ⊤
-Standing rules history damaged file = ⊥
-Standing rules history (found checkpoint) file = CheckpointStands rules history checkpoint file
+abbrev pub Standing : Eras → History → Found → List ℕ → Type 0
+Standing eras history nothing file = ⊤
+Standing eras history damaged file = ⊥
+Standing eras history (found checkpoint) file = CheckpointStands eras history checkpoint file
 
 -- With this checkpoint the output file keeps what was kept before it, and then these lines.
 pub record Lengthens (rules : Rules) (before : List ℕ) (after : Checkpoint) (added : List Mark) (file : List ℕ) : Type 0 where

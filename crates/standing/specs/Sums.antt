@@ -7,10 +7,11 @@ use Rattle.standing.specs.Look.{Look, Outcome, skips, finds_nothing, finds_compr
 use Rattle.standing.specs.Looks.{count_of}
 use Rattle.standing.specs.Marks.{Mark}
 use Rattle.standing.specs.Owner.{IsOwner}
+use Rattle.standing.specs.Poll.{Poll}
 use Rattle.standing.specs.Pass.{Stretch, Pass, is_short, start_at}
 use Rattle.standing.specs.Reached.{Reached}
 use Rattle.standing.specs.Rows.{Row, Checkpoint, IsRowAt}
-use Rattle.standing.specs.Rules.{Rules}
+use Rattle.standing.specs.Eras.{Eras, last_era}
 
 -- a count of 32 bits, which stays at its greatest value
 abbrev pub capped : ℕ → ℕ
@@ -36,13 +37,13 @@ is_left_out here finds_new = false
 is_left_out here (finds_row place row) = false
 
 -- all of the file could be read, and more is there past the row's offset than is taken at once
-abbrev pub has_more : Rules → Bool → Look → Outcome → Bool
-has_more rules first here found =
-    option_map_or (λ offset. here.end == size here && nat_lt (offset + most_taken) (size here)) (offset_found rules first here found) false
+abbrev pub has_more : Poll → Look → Outcome → Bool
+has_more poll here found =
+    option_map_or (λ offset. here.end == size here && nat_lt (offset + most_taken) (size here)) (offset_found poll here found) false
 
 -- the file is shorter than its row's offset
-abbrev pub is_shrunk : Rules → Bool → Look → Outcome → Bool
-is_shrunk rules first here found = option_map_or (λ offset. nat_lt (size here) offset) (offset_found rules first here found) false
+abbrev pub is_shrunk : Poll → Look → Outcome → Bool
+is_shrunk poll here found = option_map_or (λ offset. nat_lt (size here) offset) (offset_found poll here found) false
 
 -- how often a name was taken from a file
 abbrev pub partings : History → ℕ
@@ -67,15 +68,15 @@ pub record Sums : Type 0 where
   pub output : ℕ
 
 -- How deep folders were is for the walk to tell.
-pub record AreSums (rules : Rules) (first : Bool) (stretch : Stretch) (looks : List Look) (before after : Checkpoint) (added : List Mark) (pass : Pass rules first stretch looks before after added) (sums : Sums) : Type 0 where
+pub record AreSums (poll : Poll) (stretch : Stretch) (looks : List Look) (before after : Checkpoint) (added : List Mark) (pass : Pass poll stretch looks before after added) (sums : Sums) : Type 0 where
   pub files : sums.files ≡ capped (count_by is_filled looks)
   pub lines : sums.lines ≡ length added
-  pub left : sums.left ≡ capped (count_of rules first (has_more rules first) looks (start_at before))
+  pub left : sums.left ≡ capped (count_of poll (has_more poll) looks (start_at before))
   pub gone : sums.gone + partings stretch.old ≤ partings stretch.new
   pub failed : sums.failed ≡ capped (count_by is_short looks + (length pass.misses + length pass.unlisteds))
-  pub compressed : sums.compressed ≡ capped (count_of rules first is_passed_as_compressed looks (start_at before))
-  pub shrunk : sums.shrunk ≡ capped (count_of rules first (is_shrunk rules first) looks (start_at before))
-  pub full : sums.full ≡ capped (count_of rules first is_left_out looks (start_at before))
+  pub compressed : sums.compressed ≡ capped (count_of poll is_passed_as_compressed looks (start_at before))
+  pub shrunk : sums.shrunk ≡ capped (count_of poll (is_shrunk poll) looks (start_at before))
+  pub full : sums.full ≡ capped (count_of poll is_left_out looks (start_at before))
   pub output : sums.output ≡ after.output_length
 
 -- no file was left unread, in part or as a whole
@@ -86,9 +87,9 @@ pub record TellNothingLeft (sums : Sums) : Type 0 where
   pub full : sums.full ≡ 0
 
 -- the row of the file that was looked at has taken all that can be taken of the bytes that were there then
-pub record IsReached (rules : Rules) (history : History) (rows : List Row) (here : Look) : Type 0 where
+pub record IsReached (eras : Eras) (history : History) (rows : List Row) (here : Look) : Type 0 where
   pub place : ℕ
   pub row : Row
   pub at : IsRowAt rows place row
-  pub owner : IsOwner rules history row here.file
-  pub reached : Reached rules (bytes history here.file) row (size here)
+  pub owner : IsOwner eras history row here.file
+  pub reached : Reached (last_era eras) (bytes history here.file) row (size here)

@@ -1,8 +1,9 @@
 //! What a look finds, and what it makes of a row, by what is known of the file and the rows.
 ghost use Rattle.std.specs.Prelude.{◌≡◌, ℕ, ◌<◌, ◌≤◌, List, [], None, Some, false, length, position, true};
 ghost use Rattle.standing.specs.Limits.{is_compressed, row_limit};
-ghost use Rattle.standing.specs.Look.{Look, fed, finds_compressed, finds_new, finds_no_room, finds_nothing, finds_row, front, lines_added, lines_of, outcome, piece, row_after, size, skips};
+ghost use Rattle.standing.specs.Look.{Look, all_taken, finds_compressed, finds_new, finds_no_room, finds_nothing, finds_row, front, lines_added, look_taken, looks_on, outcome, piece_taken, row_after, size, skips};
 ghost use Rattle.standing.specs.Prefixes.{begins};
+ghost use Rattle.standing.specs.Poll.{Poll};
 ghost use Rattle.standing.specs.Rows.{IsRowAt, Row};
 ghost use Rattle.standing.specs.Rules.{Rules};
 
@@ -33,16 +34,22 @@ pub fn files_are_known_by_their_fronts()
         → outcome rules rows here ≡ finds_no_room }
 {}
 
-/// The row of a file that isn't shorter than its offset takes the piece that begins there. That of a shorter one keeps all
-/// but its front.
+/// The row of a file that isn't shorter than its offset takes the piece that begins there; where the settings ask for a flush and
+/// the file's end was read up to, what waits is flushed once it has stood still for so many looks. The row of a shorter file keeps
+/// all but its front.
 pub fn rows_take_pieces()
-    ensures row { (rules : Rules) (here : Look) (row : Row) → row.offset ≤ size here
-        → row_after rules here row
-        ≡ fed rules (piece here row.offset) (record row { front = front rules here }) }
-    ensures lines { (rules : Rules) (here : Look) (row : Row) → row.offset ≤ size here
-        → lines_added rules here row ≡ lines_of rules (piece here row.offset) row }
-    ensures short_row { (rules : Rules) (here : Look) (row : Row) → size here < row.offset
-        → row_after rules here row ≡ record row { front = front rules here } }
-    ensures short_lines { (rules : Rules) (here : Look) (row : Row) → size here < row.offset
-        → lines_added rules here row ≡ [] }
+    ensures row { (poll : Poll) (here : Look) (row : Row) → row.offset ≤ size here
+        → row_after poll here row ≡ (all_taken poll here (record row { front = front poll.rules here })).row }
+    ensures lines { (poll : Poll) (here : Look) (row : Row) → row.offset ≤ size here
+        → lines_added poll here row ≡ (all_taken poll here row).lines }
+    ensures piece { (poll : Poll) (here : Look) (row : Row) → looks_on poll.rules here row.offset ≡ false
+        → all_taken poll here row ≡ piece_taken poll here row }
+    ensures no_flush { (poll : Poll) (here : Look) (row : Row) → poll.rules.flush_after ≡ 0
+        → all_taken poll here row ≡ piece_taken poll here row }
+    ensures look { (poll : Poll) (here : Look) (row : Row) → looks_on poll.rules here row.offset ≡ true
+        → all_taken poll here row ≡ look_taken poll here (piece_taken poll here row) }
+    ensures short_row { (poll : Poll) (here : Look) (row : Row) → size here < row.offset
+        → row_after poll here row ≡ record row { front = front poll.rules here } }
+    ensures short_lines { (poll : Poll) (here : Look) (row : Row) → size here < row.offset
+        → lines_added poll here row ≡ [] }
 {}

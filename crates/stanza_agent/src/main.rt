@@ -1,12 +1,12 @@
 //! A log collecting agent: it follows log files that grow and rotate, and appends what its operators make of each entry to
 //! `output.jsonl`, as one OTLP JSON line.
 //!
-//! [`run_agent`](agent_commands::run_agent) is the whole program over any tree of log files, disk, control input and report, and
-//! its contract is the product's promise. `main` hands it the real ones, which stand in `real_world`.
+//! [`run_agent`](agent_commands::run_agent) is the whole program over any tree of log files, disk, control input, report and clock,
+//! and its contract is the product's promise. `main` hands it the real ones, which stand in `real_world`.
 #![tactic(auto)]
 
 use agent_commands::run_agent;
-use real_world::{RealDisk, RealSink, RealSource, RealTree};
+use real_world::{RealClock, RealDisk, RealSink, RealSource, RealTree};
 use std::alloc::Global;
 use std::fs::File;
 use std::io::ErrorKind;
@@ -24,6 +24,7 @@ fn main(rt: HostRuntime) -> io::Result<ExitCode> {
         &mut RealDisk::new(&rt),
         &mut RealSource::new(&rt),
         &mut RealSink::new(&rt),
+        &mut RealClock::new(&rt),
     );
     Ok(ExitCode::from(status))
 }

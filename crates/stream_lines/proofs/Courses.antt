@@ -43,20 +43,20 @@ gives_same given rest mid new =
     (λ x y z so_far same. record { taken = so_far.taken ∙ ap (λ (l : List ℕ). given ++ l) (sym same); all = not_ended })
 
 -- the open lines so far are no more than may be printed
-pub prints_open : (pipeline : Pipeline) (given : List ℕ) (stream : Stream) (many : ℕ) (written now : Option (List ℕ)) → HasTaken pipeline given stream → IsSane pipeline stream many
-    → Told (Prints (lines_text (open_lines pipeline given))) written now → PrintsAll (open_lines pipeline given) written now
-prints_open pipeline given stream many written now taken sane told = record { within = omega (arith, taken.printed, sane.within); told = told }
+pub prints_open : (pipeline : Pipeline) (observed : Option ℕ) (given : List ℕ) (stream : Stream) (many : ℕ) (written now : Option (List ℕ)) → HasTaken pipeline observed given stream → IsSane pipeline stream many
+    → Told (Prints (lines_text (open_lines pipeline observed given))) written now → PrintsAll (open_lines pipeline observed given) written now
+prints_open pipeline observed given stream many written now taken sane told = record { within = omega (arith, taken.printed, sane.within); told = told }
 
-module _ (pipeline : Pipeline) (rest rest_after written written_after : Option (List ℕ)) (given : List ℕ) where
-  pub stops : (ended : Bool) (fault : StreamFault) → Told (Gives given ended) rest rest_after → length given ≤ most_taken → Tells (lines_of pipeline ended given) (Err fault) written written_after
-      → Streams pipeline rest rest_after written written_after (Err fault)
+module _ (pipeline : Pipeline) (observed : Option ℕ) (rest rest_after written written_after : Option (List ℕ)) (given : List ℕ) where
+  pub stops : (ended : Bool) (fault : StreamFault) → Told (Gives given ended) rest rest_after → length given ≤ most_taken → Tells (lines_of pipeline observed ended given) (Err fault) written written_after
+      → Streams pipeline observed rest rest_after written written_after (Err fault)
   stops ended Source gives few tells = absurd tells
   stops ended Long gives few tells = absurd tells
   stops ended (Full size) gives few tells = record { given = given; ended = ended; gives = gives; few = few; prints = tells }
   stops ended Report gives few tells = record { given = given; ended = ended; gives = gives; few = few; prints = tells }
   stops ended Memory gives few tells = record { given = given; ended = ended; gives = gives; few = few; prints = tells }
 
-  pub ends : (result : Result Unit StreamFault) → Told (Gives given true) rest rest_after → length given < most_taken → Tells (whole_lines pipeline given) result written written_after
-      → Streams pipeline rest rest_after written written_after result
+  pub ends : (result : Result Unit StreamFault) → Told (Gives given true) rest rest_after → length given < most_taken → Tells (whole_lines pipeline observed given) result written written_after
+      → Streams pipeline observed rest rest_after written written_after result
   ends (Ok _) gives fewer tells = record { given = given; gives = gives; fewer = fewer; prints = tells }
   ends (Err fault) gives fewer tells = stops true fault gives (omega (arith, fewer)) tells

@@ -2,7 +2,7 @@
 use Rattle.std.proofs.Common.{◌≡◌, ℕ, ◌+◌, ◌≤◌, List, [], ◌∷◌, ◌++◌, length, drop, sym, ap, subst, ◌∙◌, arith, append_assoc}
 use Rattle.std.proofs.lemmas.List.{append-nil, map-append, drop_all, drop-append-le, drop-drop}
 use Rattle.std.proofs.lemmas.List.Sums.{sum_by-append}
-use Rattle.std.specs.Prelude.{Option, None}
+use Rattle.std.specs.Prelude.{Option}
 use Rattle.entry_model.specs.LogRecord.{LogRecord}
 use Rattle.graph_core.specs.Traces.{closings, outputs, start_states}
 use Rattle.idle_flush.specs.Rests.{rest_cuts}
@@ -21,7 +21,7 @@ use Rattle.standing.specs.Marks.{Mark, numbered}
 use Rattle.standing.proofs.MarkLemmas.{numbered-append}
 use Rattle.file_pass.specs.Full.{lines_text}
 use Rattle.stream_lines.specs.HasTaken.{HasTaken}
-use Rattle.stream_lines.specs.StreamLines.{given_for, held_back, open_lines, open_records, stream_path, whole_lines}
+use Rattle.stream_lines.specs.StreamLines.{given_for, held_back, open_lines, open_records, stream_origin, stream_path, whole_lines}
 use Rattle.stream_lines.specs.declared.stream.Stream.{Stream}
 
 -- the laws of lines in a row, of cuts, and of tokens behind tokens, as the crates that make them state them
@@ -50,15 +50,15 @@ pub record OutputLaws (pipeline : Pipeline) : Type 0 where
       ++ given_from (settings_of pipeline) (network pipeline) path (before + length earlier) (kept_from (settings_of pipeline) (network pipeline) path before states earlier) later
 
 -- lines of records, as text and as marks
-pub lines_are : LineLaws → (id n : ℕ) (records : List LogRecord) → output_lines id n None records ≡ lines_text (numbered id n records)
-lines_are laws id n [] = laws.none id n None
-lines_are laws id n (first ∷ rest) = laws.more id n None first rest ∙ ap (λ (l : List ℕ). output_line id n None first ++ l) (lines_are laws id (n + 1) rest)
+pub lines_are : LineLaws → (observed : Option ℕ) (id n : ℕ) (records : List LogRecord) → output_lines id n observed records ≡ lines_text (numbered id n observed records)
+lines_are laws observed id n [] = laws.none id n observed
+lines_are laws observed id n (first ∷ rest) = laws.more id n observed first rest ∙ ap (λ (l : List ℕ). output_line id n observed first ++ l) (lines_are laws observed id (n + 1) rest)
 
 -- the lines of records and of more
-pub numbered_on : (front back : List LogRecord) → numbered 1 1 (front ++ back) ≡ numbered 1 1 front ++ numbered 1 (length front + 1) back
-numbered_on front back =
+pub numbered_on : (observed : Option ℕ) (front back : List LogRecord) → numbered 1 1 observed (front ++ back) ≡ numbered 1 1 observed front ++ numbered 1 (length front + 1) observed back
+numbered_on observed front back =
     let place : 1 + length front ≡ length front + 1 = omega arith in
-    numbered-append 1 1 front back ∙ ap (λ (n : ℕ). numbered 1 1 front ++ numbered 1 n back) place
+    numbered-append 1 1 observed front back ∙ ap (λ (n : ℕ). numbered 1 1 observed front ++ numbered 1 n observed back) place
 
 module _ (pipeline : Pipeline) (laws : CutLaws (first_cut_of (settings_of pipeline))) where
   abbrev first : List ℕ → Option Cut
@@ -107,7 +107,7 @@ module _ (pipeline : Pipeline) (laws : CutLaws (first_cut_of (settings_of pipeli
   pub nothing_taken : cuts first [] ≡ []
   nothing_taken = sym (ap (cuts first) (drop_all (used_of (settings_of pipeline) []) [] (omega arith))) ∙ idle []
 
-module _ (pipeline : Pipeline) (laws : CutLaws (first_cut_of (settings_of pipeline))) (out : OutputLaws pipeline) where
+module _ (pipeline : Pipeline) (laws : CutLaws (first_cut_of (settings_of pipeline))) (out : OutputLaws pipeline) (observed : Option ℕ) where
   abbrev starts : List Kept
   starts = start_states (network pipeline)
 
@@ -121,14 +121,14 @@ module _ (pipeline : Pipeline) (laws : CutLaws (first_cut_of (settings_of pipeli
   -- the lines of what comes out behind those of the bytes before
   pub open_on : (given piece : List ℕ) (made : List LogRecord)
       → given_for pipeline (tokens given ++ tokens (unused pipeline laws given ++ piece)) ≡ open_records pipeline given ++ made
-      → open_lines pipeline (given ++ piece) ≡ open_lines pipeline given ++ numbered 1 (length (open_records pipeline given) + 1) made
+      → open_lines pipeline observed (given ++ piece) ≡ open_lines pipeline observed given ++ numbered 1 (length (open_records pipeline given) + 1) observed made
   open_on given piece made past =
-      ap (numbered 1 1) (ap (given_for pipeline) (tokens_on pipeline laws given piece) ∙ past) ∙ numbered_on (open_records pipeline given) made
+      ap (numbered 1 1 observed) (ap (given_for pipeline) (tokens_on pipeline laws given piece) ∙ past) ∙ numbered_on observed (open_records pipeline given) made
 
-  pub open_grows : (given piece : List ℕ) → (more : List Mark) × (open_lines pipeline (given ++ piece) ≡ open_lines pipeline given ++ more)
+  pub open_grows : (given piece : List ℕ) → (more : List Mark) × (open_lines pipeline observed (given ++ piece) ≡ open_lines pipeline observed given ++ more)
   open_grows given piece =
       let made : List LogRecord = given_from (settings_of pipeline) (network pipeline) stream_path (0 + length (tokens given)) (kept_then given) (tokens (unused pipeline laws given ++ piece)) in
-      (numbered 1 (length (open_records pipeline given) + 1) made, open_on given piece made (out.given stream_path 0 starts (tokens given) (tokens (unused pipeline laws given ++ piece))))
+      (numbered 1 (length (open_records pipeline given) + 1) observed made, open_on given piece made (out.given stream_path 0 starts (tokens given) (tokens (unused pipeline laws given ++ piece))))
 
   -- what comes out of the last tokens, and what is held back till then
   abbrev last_made : List ℕ → List LogRecord
@@ -137,35 +137,35 @@ module _ (pipeline : Pipeline) (laws : CutLaws (first_cut_of (settings_of pipeli
   abbrev at_last : List ℕ → List LogRecord
   at_last given = last_made given ++ held_back pipeline (last_tokens (settings_of pipeline) given)
 
-  pub whole_on : (given : List ℕ) → whole_lines pipeline given ≡ open_lines pipeline given ++ numbered 1 (length (open_records pipeline given) + 1) (at_last given)
+  pub whole_on : (given : List ℕ) → whole_lines pipeline observed given ≡ open_lines pipeline observed given ++ numbered 1 (length (open_records pipeline given) + 1) observed (at_last given)
   whole_on given =
       let held : List LogRecord = held_back pipeline (last_tokens (settings_of pipeline) given) in
       let parts : given_for pipeline (last_tokens (settings_of pipeline) given) ≡ open_records pipeline given ++ last_made given =
       ap (given_for pipeline) (last_on pipeline laws given) ∙ out.given stream_path 0 starts (tokens given) (last_tokens (settings_of pipeline) (unused pipeline laws given)) in
-      ap (numbered 1 1) (ap (λ (r : List LogRecord). r ++ held) parts ∙ append_assoc (open_records pipeline given) (last_made given) held) ∙ numbered_on (open_records pipeline given) (at_last given)
+      ap (numbered 1 1 observed) (ap (λ (r : List LogRecord). r ++ held) parts ∙ append_assoc (open_records pipeline given) (last_made given) held) ∙ numbered_on observed (open_records pipeline given) (at_last given)
 
-  pub none_open : open_lines pipeline [] ≡ []
-  none_open = ap (λ (cs : List Cut). numbered 1 1 (given_for pipeline (texts cs))) (nothing_taken pipeline laws) ∙ ap (numbered 1 1) (out.nothing stream_path 0 starts)
+  pub none_open : open_lines pipeline observed [] ≡ []
+  none_open = ap (λ (cs : List Cut). numbered 1 1 observed (given_for pipeline (texts cs))) (nothing_taken pipeline laws) ∙ ap (numbered 1 1 observed) (out.nothing stream_path 0 starts)
 
-  module _ (lines : LineLaws) (given : List ℕ) (stream : Stream) (taken : HasTaken pipeline given stream) where
-    pub fed_text : (made : List LogRecord) (text : List ℕ) → text ≡ output_lines 1 (length (open_records pipeline given) + 1) None made
-        → text ≡ lines_text (numbered 1 (length (open_records pipeline given) + 1) made)
-    fed_text made text is = is ∙ lines_are lines 1 (length (open_records pipeline given) + 1) made
+  module _ (lines : LineLaws) (given : List ℕ) (stream : Stream) (taken : HasTaken pipeline observed given stream) where
+    pub fed_text : (made : List LogRecord) (text : List ℕ) → text ≡ output_lines 1 (length (open_records pipeline given) + 1) observed made
+        → text ≡ lines_text (numbered 1 (length (open_records pipeline given) + 1) observed made)
+    fed_text made text is = is ∙ lines_are lines observed 1 (length (open_records pipeline given) + 1) made
 
     -- the next bytes were fed behind those that waited
     module _ (piece bytes : List ℕ) (after : FileState) (old new : List ℕ) (behind : bytes ≡ stream.waiting.items ++ piece) (none : old ≡ [])
-        (goes_on : GoesOn (settings_of pipeline) (network pipeline) 1 stream_path (tokens given) (tokens bytes) after old new) where
+        (goes_on : GoesOn (settings_of pipeline) (network pipeline) (stream_origin observed) (tokens given) (tokens bytes) after old new) where
       bytes_are : bytes ≡ unused pipeline laws given ++ piece
       bytes_are = behind ∙ ap (λ (l : List ℕ). l ++ piece) taken.waits
 
       abbrev pub fed_marks : List Mark
-      fed_marks = numbered 1 (length (open_records pipeline given) + 1) goes_on.made
+      fed_marks = numbered 1 (length (open_records pipeline given) + 1) observed goes_on.made
 
-      pub fed_all : open_lines pipeline (given ++ piece) ≡ open_lines pipeline given ++ fed_marks
+      pub fed_all : open_lines pipeline observed (given ++ piece) ≡ open_lines pipeline observed given ++ fed_marks
       fed_all = open_on given piece goes_on.made (ap (λ (b : List ℕ). given_for pipeline (tokens given ++ tokens b)) (sym bytes_are) ∙ goes_on.past)
 
       pub fed_lines : new ≡ lines_text fed_marks
-      fed_lines = fed_text goes_on.made new (goes_on.written ∙ ap (λ (l : List ℕ). l ++ output_lines 1 (length (open_records pipeline given) + 1) None goes_on.made) none)
+      fed_lines = fed_text goes_on.made new (goes_on.written ∙ ap (λ (l : List ℕ). l ++ output_lines 1 (length (open_records pipeline given) + 1) observed goes_on.made) none)
 
       pub fed_stands : StandsFor (settings_of pipeline) (network pipeline) stream_path (tokens (given ++ piece)) after
       fed_stands =
@@ -178,8 +178,8 @@ module _ (pipeline : Pipeline) (laws : CutLaws (first_cut_of (settings_of pipeli
     records_are : stream.state.records ≡ 0 + length (tokens given)
     records_are = omega (arith, taken.stands.records)
 
-    pub finished_text : (after : FileState) (text : List ℕ) → Finished pipeline 1 stream_path stream.waiting.items (stream.state, []) (after, text)
-        → text ≡ lines_text (numbered 1 (length (open_records pipeline given) + 1) (at_last given))
+    pub finished_text : (after : FileState) (text : List ℕ) → Finished pipeline (stream_origin observed) stream.waiting.items (stream.state, []) (after, text)
+        → text ≡ lines_text (numbered 1 (length (open_records pipeline given) + 1) observed (at_last given))
     finished_text after text finished =
         let state : FileState = stream.state in
         let between : FileState = finished.between in
@@ -201,10 +201,10 @@ module _ (pipeline : Pipeline) (laws : CutLaws (first_cut_of (settings_of pipeli
         finished.closed.served.items ∙ ap (λ (kept : List Kept). outputs net kept (closings net)) kept_is in
         let n : ℕ = state.lines in
         let count_is : n ≡ length (open_records pipeline given) = taken.stands.lines in
-        let joined : text ≡ output_lines 1 (n + 1) None (finished.fed.made ++ finished.closed.made) =
-        finished.closed.written ∙ ap (λ (l : List ℕ). l ++ output_lines 1 (between.lines + 1) None finished.closed.made) finished.fed.written
-        ∙ ap (λ (k : ℕ). output_lines 1 (n + 1) None finished.fed.made ++ output_lines 1 k None finished.closed.made) (omega (arith, finished.fed.lines))
-        ∙ sym (lines.append 1 (n + 1) None finished.fed.made finished.closed.made) in
-        fed_text (at_last given) text (joined ∙ ap (λ (k : ℕ). output_lines 1 (k + 1) None (finished.fed.made ++ finished.closed.made)) count_is
-        ∙ ap (λ (r : List LogRecord). output_lines 1 (length (open_records pipeline given) + 1) None (r ++ finished.closed.made)) made_is
-        ∙ ap (λ (r : List LogRecord). output_lines 1 (length (open_records pipeline given) + 1) None (last_made given ++ r)) held_is)
+        let joined : text ≡ output_lines 1 (n + 1) observed (finished.fed.made ++ finished.closed.made) =
+        finished.closed.written ∙ ap (λ (l : List ℕ). l ++ output_lines 1 (between.lines + 1) observed finished.closed.made) finished.fed.written
+        ∙ ap (λ (k : ℕ). output_lines 1 (n + 1) observed finished.fed.made ++ output_lines 1 k observed finished.closed.made) (omega (arith, finished.fed.lines))
+        ∙ sym (lines.append 1 (n + 1) observed finished.fed.made finished.closed.made) in
+        fed_text (at_last given) text (joined ∙ ap (λ (k : ℕ). output_lines 1 (k + 1) observed (finished.fed.made ++ finished.closed.made)) count_is
+        ∙ ap (λ (r : List LogRecord). output_lines 1 (length (open_records pipeline given) + 1) observed (r ++ finished.closed.made)) made_is
+        ∙ ap (λ (r : List LogRecord). output_lines 1 (length (open_records pipeline given) + 1) observed (last_made given ++ r)) held_is)

@@ -1,5 +1,5 @@
 -- How far a stream was taken.
-use Rattle.std.specs.Prelude.{◌≡◌, ℕ, ◌+◌, ◌≤◌, List, length, drop}
+use Rattle.std.specs.Prelude.{◌≡◌, ℕ, ◌+◌, ◌≤◌, List, Option, length, drop}
 use Rattle.file_pass.specs.Full.{lines_text}
 use Rattle.pipeline.specs.GraphOutput.{StandsFor}
 use Rattle.pipeline.specs.Parts.{settings_of, network, HaveKinds}
@@ -10,10 +10,10 @@ use Rattle.stream_lines.specs.StreamLines.{open_lines, stream_path}
 use Rattle.stream_lines.specs.declared.stream.Stream.{Stream}
 
 -- These bytes were taken: their tokens went through the operators, what they left waits, and their lines were counted.
-pub record HasTaken (pipeline : Pipeline) (given : List ℕ) (stream : Stream) : Type 0 where
+pub record HasTaken (pipeline : Pipeline) (observed : Option ℕ) (given : List ℕ) (stream : Stream) : Type 0 where
   pub stands : StandsFor (settings_of pipeline) (network pipeline) stream_path (tokens_of (settings_of pipeline) given) stream.state
   pub waits : stream.waiting.items ≡ drop (used_of (settings_of pipeline) given) given
-  pub printed : stream.printed ≡ length (lines_text (open_lines pipeline given))
+  pub printed : stream.printed ≡ length (lines_text (open_lines pipeline observed given))
 
 -- The numbers keep to each other, where so many bytes were taken, and there is a state for each operator.
 pub record IsSane (pipeline : Pipeline) (stream : Stream) (many : ℕ) : Type 0 where

@@ -1,9 +1,10 @@
--- The lines of the bytes of a stream, which are those of file 1 with the path `stdin`.
-use Rattle.std.specs.Prelude.{ℕ, List, ◌++◌, Bool, if◌then◌else◌, codes}
+-- The lines of the bytes of a stream, which are those of file 1 with the path `stdin`. They all have one time, or none.
+use Rattle.std.specs.Prelude.{ℕ, List, ◌++◌, Option, Bool, if◌then◌else◌, codes}
 use Rattle.entry_model.specs.LogRecord.{LogRecord}
 use Rattle.graph_core.specs.Traces.{closings, outputs, start_states}
 use Rattle.pipeline.specs.Closed.{last_tokens}
 use Rattle.pipeline.specs.GraphOutput.{graph_output, kept_from}
+use Rattle.pipeline.specs.Origin.{Origin, origin_of}
 use Rattle.pipeline.specs.Parts.{settings_of, network}
 use Rattle.pipeline.specs.Tokens.{tokens_of}
 use Rattle.pipeline.specs.declared.Pipeline.{Pipeline}
@@ -11,6 +12,9 @@ use Rattle.standing.specs.Marks.{Mark, numbered}
 
 abbrev pub stream_path : List ℕ
 stream_path = codes "stdin"
+
+abbrev pub stream_origin : Option ℕ → Origin
+stream_origin observed = origin_of 1 stream_path observed
 
 -- what comes out for these tokens
 abbrev pub given_for : Pipeline → List (List ℕ) → List LogRecord
@@ -29,12 +33,12 @@ open_records pipeline given = given_for pipeline (tokens_of (settings_of pipelin
 abbrev pub whole_records : Pipeline → List ℕ → List LogRecord
 whole_records pipeline given = given_for pipeline (last_tokens (settings_of pipeline) given) ++ held_back pipeline (last_tokens (settings_of pipeline) given)
 
-abbrev pub open_lines : Pipeline → List ℕ → List Mark
-open_lines pipeline given = numbered 1 1 (open_records pipeline given)
+abbrev pub open_lines : Pipeline → Option ℕ → List ℕ → List Mark
+open_lines pipeline observed given = numbered 1 1 observed (open_records pipeline given)
 
-abbrev pub whole_lines : Pipeline → List ℕ → List Mark
-whole_lines pipeline given = numbered 1 1 (whole_records pipeline given)
+abbrev pub whole_lines : Pipeline → Option ℕ → List ℕ → List Mark
+whole_lines pipeline observed given = numbered 1 1 observed (whole_records pipeline given)
 
 -- the whole lines where the stream has ended, else the open ones
-abbrev pub lines_of : Pipeline → Bool → List ℕ → List Mark
-lines_of pipeline ended given = if ended then whole_lines pipeline given else open_lines pipeline given
+abbrev pub lines_of : Pipeline → Option ℕ → Bool → List ℕ → List Mark
+lines_of pipeline observed ended given = if ended then whole_lines pipeline observed given else open_lines pipeline observed given

@@ -31,6 +31,7 @@ const ID: u32 = 1;
 const PATH: &str = "stdin";
 
 /// Takes the source to its end, and prints the lines of its bytes. Each piece's lines are printed before the next piece is read.
+/// `observed` is the time of all of them in nanoseconds since 1970, where they have one.
 ///
 /// Source: a read failed. Report: a write failed, after a part of the lines. Long: 2^40 bytes were taken, and the end wasn't seen.
 /// Full: with the next line those that are printed would have more than 2^40 bytes. What is kept of the input is what no token has
@@ -38,10 +39,11 @@ const PATH: &str = "stdin";
 pub fn print_lines<S: Source, K: Sink>(
     alloc: Global,
     pipeline: &Pipeline,
+    observed: Option<u64>,
     source: &mut S,
     report: &mut K,
 ) -> Result<(), StreamFault>
-    ensures streams { Streams pipeline.now (S.meaning.rest source.old) (S.meaning.rest source.new) (K.meaning.written report.old) (K.meaning.written report.new) result }
+    ensures streams { Streams pipeline.now observed (S.meaning.rest source.old) (S.meaning.rest source.new) (K.meaning.written report.old) (K.meaning.written report.new) result }
     ensures source_cause { HasSourceCause result (S.meaning.faults source.old) (S.meaning.faults source.new) }
     ensures report_cause { HasReportCause result (K.meaning.faults report.old) (K.meaning.faults report.new) }
 {
@@ -51,10 +53,10 @@ pub fn print_lines<S: Source, K: Sink>(
     while left > 0 {
         let count = read_piece(source, left, &mut buffer)?;
         if count == 0 {
-            return stream.finish(alloc, pipeline, report);
+            return stream.finish(alloc, pipeline, observed, report);
         }
         left -= count as u64;
-        stream.feed(alloc, pipeline, &buffer[..count], report)?;
+        stream.feed(alloc, pipeline, observed, &buffer[..count], report)?;
     }
     Err(StreamFault::Long)
 }
@@ -75,9 +77,9 @@ pub(crate) struct Stream {
 impl Stream {
     // A stream of which nothing was taken.
     fn new(alloc: Global, pipeline: &Pipeline) -> Result<Stream, AllocError>
-        ensures taken { IfOk result (HasTaken pipeline.now []) }
+        ensures taken { IfOk result (λ stream. (observed : Option ℕ) → HasTaken pipeline.now observed [] stream) }
         ensures sane { IfOk result (λ stream. IsSane pipeline.now stream 0) }
-        ensures no_lines { open_lines pipeline.now [] ≡ [] }
+        ensures no_lines { (observed : Option ℕ) → open_lines pipeline.now observed [] ≡ [] }
     {
         go_on(pipeline);
         tokens_are_cut_by_a_rule(pipeline);
@@ -97,15 +99,16 @@ impl Stream {
         &mut self,
         alloc: Global,
         pipeline: &Pipeline,
+        observed: Option<u64>,
         piece: &[u8],
         report: &mut K,
     ) -> Result<(), StreamFault>
         requires sane { (many : ℕ) × IsSane pipeline.now self.old many × (many + length piece.now ≤ 2 ^ 62) }
-        ensures taken { OnOk result ((given : List ℕ) → HasTaken pipeline.now given self.old → HasTaken pipeline.now (given ++ piece.now) self.new) }
+        ensures taken { OnOk result ((given : List ℕ) → HasTaken pipeline.now observed given self.old → HasTaken pipeline.now observed (given ++ piece.now) self.new) }
         ensures sane { OnOk result ((many : ℕ) → IsSane pipeline.now self.old many → IsSane pipeline.now self.new (many + length piece.now)) }
-        ensures tells { (given : List ℕ) (begun : Option (List ℕ)) → HasTaken pipeline.now given self.old
-            → Told (Prints (lines_text (open_lines pipeline.now given))) begun (K.meaning.written report.old)
-            → Tells (open_lines pipeline.now (given ++ piece.now)) result begun (K.meaning.written report.new) }
+        ensures tells { (given : List ℕ) (begun : Option (List ℕ)) → HasTaken pipeline.now observed given self.old
+            → Told (Prints (lines_text (open_lines pipeline.now observed given))) begun (K.meaning.written report.old)
+            → Tells (open_lines pipeline.now observed (given ++ piece.now)) result begun (K.meaning.written report.new) }
         ensures cause { HasReportCause result (K.meaning.faults report.old) (K.meaning.faults report.new) }
     {
         go_on(pipeline);
@@ -116,7 +119,7 @@ impl Stream {
         self.waiting.extend_from_slice(piece)?;
         self.lines.clear();
         let (state, lines) = (&mut self.state, &mut self.lines);
-        let used = pipeline.feed(alloc, state, ID, PATH, &self.waiting, lines)?;
+        let used = pipeline.feed(alloc, state, ID, PATH, observed, &self.waiting, lines)?;
         print(alloc, &self.lines, &mut self.printed, report)?;
         drop_front(&mut self.waiting, used);
         Ok(())
@@ -127,12 +130,13 @@ impl Stream {
         mut self,
         alloc: Global,
         pipeline: &Pipeline,
+        observed: Option<u64>,
         report: &mut K,
     ) -> Result<(), StreamFault>
         requires sane { (many : ℕ) × IsSane pipeline.now self many × (many ≤ 2 ^ 62) }
-        ensures tells { (given : List ℕ) (begun : Option (List ℕ)) → HasTaken pipeline.now given self
-            → Told (Prints (lines_text (open_lines pipeline.now given))) begun (K.meaning.written report.old)
-            → Tells (whole_lines pipeline.now given) result begun (K.meaning.written report.new) }
+        ensures tells { (given : List ℕ) (begun : Option (List ℕ)) → HasTaken pipeline.now observed given self
+            → Told (Prints (lines_text (open_lines pipeline.now observed given))) begun (K.meaning.written report.old)
+            → Tells (whole_lines pipeline.now observed given) result begun (K.meaning.written report.new) }
         ensures cause { HasReportCause result (K.meaning.faults report.old) (K.meaning.faults report.new) }
     {
         go_on(pipeline);
@@ -142,7 +146,7 @@ impl Stream {
         lines_append();
         self.lines.clear();
         let (state, lines) = (&mut self.state, &mut self.lines);
-        pipeline.finish(alloc, state, ID, PATH, &self.waiting, lines)?;
+        pipeline.finish(alloc, state, ID, PATH, observed, &self.waiting, lines)?;
         print(alloc, &self.lines, &mut self.printed, report)
     }
 }

@@ -170,19 +170,34 @@ check_names_with_special_characters() {
     quietly && tells '1 1 a[1].log 1'
 }
 
-# 1,024 files are known at most, and for good. What is more is counted.
-check_many_files() {
-    local names
+# many_files COUNT: a folder of so many, each of one line, its name.
+many_files() {
     a_folder 'logs/**'
     mkdir logs
-    (cd logs && seq -f '%06g' 1 5000 | while read -r name; do echo "$name" >"$name"; done)
-    wait_for "$agent" once >"$work/report" || return 1
-    grep -q "^files=5000 lines=1024 left=0 gone=0 failed=0 compressed=0 shrunk=0 full=3976 deep=0 output=$(stat -c %s output.jsonl)$" "$work/report" || return 1
-    diff <(told | cut -d ' ' -f 4) <(seq -f '%06g' 1 1024) || return 1
+    (cd logs && seq -f '%06g' 1 "$1" | while read -r name; do echo "$name" >"$name"; done)
+}
+
+check_many_files() {
+    many_files 5000
+    once 0 "$(summary 5000 5000 0 $((5000 * 325 + 9 + 2 * 90 + 3 * 900 + 4 * 4001)))$LF" || return 1
+    diff <(told | cut -d ' ' -f 4) <(seq -f '%06g' 1 5000) || return 1
     rm logs/0000* logs/0049*
-    for name in 000100 001024 001025; do echo more >>"logs/$name"; done
+    echo more >>logs/001024 && echo more >>logs/002048
+    quietly && grep -q "^files=$(ls logs | wc -l) lines=2 " "$work/report" && [ "$(told | tail -n 2)" = "1024 2 001024 more${LF}2048 2 002048 more" ]
+}
+
+# 65,536 files are known at most, and for good. What is more is counted.
+check_most_files() {
+    is_quick || return 0
+    local names
+    many_files 65600
+    wait_for "$agent" once >"$work/report" || return 1
+    grep -q "^files=65600 lines=65536 left=0 gone=0 failed=0 compressed=0 shrunk=0 full=64 deep=0 output=$(stat -c %s output.jsonl)$" "$work/report" || return 1
+    diff <(told | cut -d ' ' -f 4) <(seq -f '%06g' 1 65536) || return 1
+    rm logs/0000* logs/0655[5-9]*
+    for name in 000100 065536 065537; do echo more >>"logs/$name"; done
     wait_for "$agent" once >"$work/report" || return 1
     cat "$work/report"
     names=$(ls logs | wc -l)
-    grep -q "^files=$names lines=2 .* full=$((names - 925)) " "$work/report" && [ "$(told | tail -n 2)" = "100 2 000100 more${LF}1024 2 001024 more" ]
+    grep -q "^files=$names lines=2 .* full=$((names - 65437)) " "$work/report" && [ "$(told | tail -n 2)" = "100 2 000100 more${LF}65536 2 065536 more" ]
 }

@@ -8,7 +8,7 @@ line() {
 # frame SEQUENCE PAYLOAD: the bytes of a frame, open, with a payload in hexadecimal.
 frame() { python3 -c 'import sys; sys.stdout.buffer.write(bytes.fromhex(sys.argv[1]))' "a5$(printf '%016x%016x' "$1" $((${#2} / 2)))$2"; }
 
-# no_rows: a checkpoint with these settings and nothing more, in hexadecimal.
+# no_rows: a checkpoint of version 1 with these settings and nothing more, in hexadecimal.
 no_rows() { printf '01%08x%s%016x%08x%08x' "$(stat -c %s settings.json)" "$(od -An -v -tx1 settings.json | tr -d ' \n')" 0 1 0; }
 
 check_next_line() {
@@ -19,7 +19,7 @@ check_next_line() {
     printf 'ld\n' >>app.log
     once 0 "$(summary 1 1 0 652)$LF" && run 0 "652$LF" committed || return 1
     cmp output.jsonl <(line app.log hello 1 1 && line app.log world 1 2) || return 1
-    [ "$(stat -c %s checkpoint.a)" = $((before + 100)) ] && [ ! -e checkpoint.b ]
+    [ "$(stat -c %s checkpoint.a)" = $((before + 128)) ] && [ ! -e checkpoint.b ]
 }
 
 check_committed_writes_nothing() {
@@ -70,6 +70,8 @@ check_settings_changed() {
 check_damaged_checkpoint() {
     a_log
     frame 1 02 >checkpoint.a
+    untouched once 4 "fault 4 checkpoint 1$LF" && untouched run 4 "fault 4 checkpoint 1$LF" committed || return 1
+    frame 1 09 >checkpoint.a
     untouched once 4 "fault 4 checkpoint 0$LF" && untouched run 4 "fault 4 checkpoint 0$LF" committed || return 1
     frame 1 "$(no_rows)ff" >checkpoint.a
     untouched once 4 "fault 4 checkpoint $(($(stat -c %s settings.json) + 21))$LF"
@@ -107,8 +109,8 @@ check_worn() {
 check_slot_that_counts() {
     a_log
     frame 7 "$(no_rows)" >checkpoint.a
-    frame 8 02 >checkpoint.b
-    once 4 "fault 4 checkpoint 0$LF" && frame 7 02 >checkpoint.b && once 0 "$(one_line)$LF"
+    frame 8 09 >checkpoint.b
+    once 4 "fault 4 checkpoint 0$LF" && frame 7 09 >checkpoint.b && once 0 "$(one_line)$LF"
 }
 
 # The whole checkpoint is written anew once the changes behind it are longer than twice it and 64 KiB.
@@ -137,4 +139,18 @@ assert 65536 < written < 65536 + 5 * 1200, written
 PY
     run 0 "$(stat -c %s output.jsonl)$LF" committed && untouched once 0 "$(summary 1 0 0 "$(stat -c %s output.jsonl)")$LF" || return 1
     diff <(told | tail -n +2) <(paste -d ' ' <(seq -f '1 %g app.log' 2 201) <(seq 0 199))
+}
+
+# An older checkpoint tells no observed time. A run goes on from it, and its lines have the time of the run.
+check_observed_time_behind_an_older_checkpoint() {
+    local began ended taken
+    a_log
+    printf '%s' "${settings%\}},\"include_observed_time\":true}" >settings.json
+    frame 1 "$(no_rows)" >checkpoint.a
+    began=$(date +%s%N)
+    quietly || return 1
+    ended=$(date +%s%N)
+    diff <(sed 's/,"observedTimeUnixNano":"[0-9]*"//' output.jsonl) <(line app.log hello 1 1) || return 1
+    taken=$(sed 's/.*,"observedTimeUnixNano":"\([0-9]*\)".*/\1/' output.jsonl)
+    [ "$began" -le "$taken" ] && [ "$taken" -le "$ended" ]
 }

@@ -110,3 +110,75 @@ check_one_byte_of_gzip() {
     a_log '\x1f\n'
     quietly && bodies '["\u001f"]'
 }
+
+# observed: the observed time of each line of the output, a line each, with `none` for one that has none.
+observed() {
+    python3 - <<'PY'
+import json
+for line in open("output.jsonl", newline="\n"):
+    record = json.loads(line)["resourceLogs"][0]["scopeLogs"][0]["logRecords"][0]
+    print(record.get("observedTimeUnixNano", "none"))
+PY
+}
+
+check_no_observed_time() {
+    takes '' 'a\nb\n' && [ "$(observed)" = "none${LF}none" ] &&
+        takes '"include_observed_time":false' 'a\n' && [ "$(observed)" = none ] && ! grep -q -i observed output.jsonl
+}
+
+# Each line has the time of the poll that took it, in nanoseconds, as a text of digits behind the body.
+check_observed_time() {
+    local began between ended times
+    began=$(date +%s%N)
+    takes '"include_observed_time":true' 'a\nb\n' || return 1
+    between=$(date +%s%N)
+    echo c >>app.log && quietly || return 1
+    ended=$(date +%s%N)
+    observed >times && [ "$(grep -c -x '[1-9][0-9]*' times)" = 3 ] || return 1
+    mapfile -t times <times
+    [ "$began" -le "${times[0]}" ] && [ "${times[0]}" = "${times[1]}" ] && [ "${times[1]}" -le "$between" ] &&
+        [ "$between" -le "${times[2]}" ] && [ "${times[2]}" -le "$ended" ] || return 1
+    grep -q -F '"body":{"stringValue":"c"},"observedTimeUnixNano":"'"${times[2]}"'"}],"scope":' output.jsonl
+}
+
+# What operators and parsers set stands beside it, in the order of the names.
+check_observed_time_beside_others() {
+    takes '"include_file_name":false,"include_observed_time":true,"operators":[
+        {"type":"time_parser","parse_from":"body","layout_type":"epoch","layout":"s"},
+        {"type":"severity_parser","parse_from":"body","mapping":{"info":5}}]' '5\n' &&
+        sed 's/\("observedTimeUnixNano":"\)[0-9]*/\1NOW/' output.jsonl |
+        grep -q -F '"logRecords":[{"attributes":[],"body":{"stringValue":"5"},"observedTimeUnixNano":"NOW","severityNumber":9,"severityText":"5","timeUnixNano":"5000000000"}]'
+}
+
+# has_clock: the machine's clock may be set for the program by clock.c, in "$work". Else this check isn't made.
+has_clock() {
+    if ! command -v cc >/dev/null; then
+        ! skip "cc isn't there"
+    elif ! cc -O2 -shared -fPIC -o "$work/clock.so" "$root/tests/e2e/clock.c"; then
+        ! skip "cc doesn't build clock.c"
+    elif ! LD_PRELOAD=$work/clock.so LD_TRACE_LOADED_OBJECTS=1 "$agent" 2>/dev/null </dev/null | grep -q -F clock.so; then
+        ! skip "nothing can be loaded into the program"
+    fi
+}
+
+# once_at SECONDS: `once` goes through while the clock stands so many seconds behind 1970.
+once_at() { wait_for env LD_PRELOAD="$work/clock.so" CLOCK_AT="$1" "$agent" once >"$work/report"; }
+
+# Where the clock goes back, lines keep the last time until it has passed it again.
+check_clock_goes_back() {
+    local seconds
+    has_clock || return 0
+    printf '{"include":["app.log"],"start_at":"beginning","include_observed_time":true}' >settings.json
+    for seconds in 1000 2000 1500 1999 2000 2001 7; do
+        echo "$seconds" >>app.log && once_at "$seconds" || return 1
+    done
+    diff <(observed) <(printf '%s000000000\n' 1000 2000 2000 2000 2000 2001 2001)
+}
+
+# Of a poll that finds nothing new no time is kept.
+check_clock_of_an_idle_poll() {
+    has_clock || return 0
+    printf '{"include":["app.log"],"start_at":"beginning","include_observed_time":true}' >settings.json
+    echo a >app.log && once_at 1000 && untouched once_at 3000 && echo b >>app.log && once_at 2000 || return 1
+    diff <(observed) <(printf '%s000000000\n' 1000 2000)
+}

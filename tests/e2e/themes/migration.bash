@@ -34,6 +34,11 @@ converts() {
     [ "$status" = "$want" ] || { echo "status $status, not $want" && cat said && return 1; }
 }
 
+# is_observed NAME..: nothing is told but of the observed time of these receivers.
+is_observed() {
+    diff said <(printf 'receivers.%s: note: each record of the receiver has an observed time, so include_observed_time is set: a line has the time of the poll that took it\n' "$@")
+}
+
 # A folder of tests/e2e/filelog has a Collector's configuration collector.yaml, the words in `arguments` that the tool is given
 # beside it, and either the settings that it gives, with logs and the records in `expected` that are made of them, or in `told`
 # what can't be had.
@@ -90,6 +95,7 @@ receivers.filelog/nginx.poll_interval: note: the agent polls when it is told to:
 receivers.filelog/nginx.storage: note: the agent always keeps its place in each file, in its folder
 receivers.filelog/nginx.operators[0].timestamp.layout: note: it reads no time with a fraction of a second: write %S.%L where the log has one
 receivers.filelog/nginx.operators[0]: note: a line whose time or severity isn't read stays unparsed; the receiver keeps what else is parsed
+receivers.filelog/nginx: note: each record of the receiver has an observed time, so include_observed_time is set: a line has the time of the poll that took it
 T
 }
 
@@ -112,15 +118,16 @@ receivers.filelog/nginx.encoding: left out: logs are read as UTF-8: let the prog
 receivers.filelog/nginx.operators[1]: left out: there is no operator uri_parser: let a regex_parser cut it, or the Collector behind
 receivers.filelog/nginx.operators[2].regex: left out: the name 1st begins with a digit: let it begin with a letter or _
 receivers.filelog/nginx.operators[2].parse_from: left out: a field begins with body, attributes or resource
+receivers.filelog/nginx: note: each record of the receiver has an observed time, so include_observed_time is set: a line has the time of the poll that took it
 T
-    echo '{"include": ["/l/*"], "operators": [{"type": "noop"}, {"type": "noop", "id": "uri_parser"}, {"type": "noop", "id": "regex_parser"}]}' >wanted
+    echo '{"include": ["/l/*"], "operators": [{"type": "noop"}, {"type": "noop", "id": "uri_parser"}, {"type": "noop", "id": "regex_parser"}], "include_observed_time": true}' >wanted
     from_filelog same given wanted
 }
 
 check_receivers() {
     has_yaml || return 0
     printf 'receivers: {filelog/a: {include: [/a*]}, otlp: {}, filelog: {include: [/b*]}}' >some.yaml
-    converts 0 --receiver filelog some.yaml && [ "$(tr -d ' \n' <given)" = '{"include":["/b*"]}' ] && [ ! -s said ] &&
+    converts 0 --receiver filelog some.yaml && [ "$(tr -d ' \n' <given)" = '{"include":["/b*"],"include_observed_time":true}' ] && is_observed filelog &&
         converts 2 --receiver filelog/c some.yaml && [ "$(cat said)" = 'from-filelog: there is no receiver filelog/c' ] &&
         converts 2 - <<<'receivers: {otlp: {}}' && [ "$(cat said)" = 'from-filelog: there is no receiver filelog' ] &&
         converts 1 - <<<'receivers: {filelog: }' && [ ! -s given ] &&
@@ -134,10 +141,10 @@ check_several_receivers() {
     has_yaml || return 0
     printf 'receivers: {filelog/a: {include: [/a*]}, otlp: {}, filelog: {include: [/b*]}}' >some.yaml
     converts 2 some.yaml && [ ! -s given ] && [ "$(cat said)" = 'from-filelog: there are 2 receivers, and each wants a folder of its own: --receiver NAME prints one of filelog/a, filelog, --into FOLDER writes them all' ] &&
-        converts 0 --into agents some.yaml && [ ! -s given ] && [ ! -s said ] &&
+        converts 0 --into agents some.yaml && [ ! -s given ] && is_observed filelog/a filelog &&
         [ "$(cd agents && echo *)" = 'filelog filelog-a' ] &&
-        [ "$(tr -d ' \n' <agents/filelog-a/settings.json)" = '{"include":["/a*"]}' ] &&
-        [ "$(tr -d ' \n' <agents/filelog/settings.json)" = '{"include":["/b*"]}' ] || return 1
+        [ "$(tr -d ' \n' <agents/filelog-a/settings.json)" = '{"include":["/a*"],"include_observed_time":true}' ] &&
+        [ "$(tr -d ' \n' <agents/filelog/settings.json)" = '{"include":["/b*"],"include_observed_time":true}' ] || return 1
     # What can't be had of one leaves nothing of any.
     printf 'receivers: {filelog/a: {include: [/a*], header: {}}, filelog: {include: [/b*]}}' >some.yaml
     converts 1 --into none some.yaml && [ ! -e none ] && tail -n 1 said | grep -q -- '--partly gives the rest$' &&
@@ -163,7 +170,7 @@ from-filelog: nothing can be had of it
 T
     echo '  filelog: {include: [/b*]}' >>some.yaml
     converts 1 some.yaml && [ ! -s given ] && grep -q '^receivers.receiver_creator/logs.receivers.filelog/pod: left out' said &&
-        converts 0 --partly some.yaml && [ "$(tr -d ' \n' <given)" = '{"include":["/b*"]}' ]
+        converts 0 --partly some.yaml && [ "$(tr -d ' \n' <given)" = '{"include":["/b*"],"include_observed_time":true}' ]
 }
 
 # The program has each type of operators that the tool writes.

@@ -31,7 +31,7 @@ answered() {
 
 check_json() { answered json 16; }
 
-check_keys() { answered keys 24; }
+check_keys() { answered keys 25; }
 
 check_texts() { answered texts 32; }
 

@@ -47,6 +47,19 @@ check_pieces() {
     [ "$(wc -l <whole)" -gt 500 ] && diff whole <(dd bs=1 if=app.log 2>/dev/null | wait_for "$agent" pipe) && diff whole <(dd bs=65536 if=app.log 2>/dev/null | wait_for "$agent" pipe)
 }
 
+# All lines of a run have one time.
+check_observed_time() {
+    local began ended times
+    a_log
+    printf '%s' "${settings%\}},\"include_observed_time\":true}" >settings.json
+    began=$(date +%s%N)
+    printf 'a\nb\n' | wait_for "$agent" pipe >report || return 1
+    ended=$(date +%s%N)
+    mapfile -t times < <(sed -n 's/.*},"observedTimeUnixNano":"\([0-9]*\)"}],"scope":.*/\1/p' report)
+    [ "${#times[@]}" = 2 ] && [ "$began" -le "${times[0]}" ] && [ "${times[0]}" = "${times[1]}" ] && [ "${times[1]}" -le "$ended" ] &&
+        diff <(sed 's/,"observedTimeUnixNano":"[0-9]*"//' report) <(line a 1 b 2)
+}
+
 check_beside_what_is_kept() {
     a_log
     once 0 "$(one_line)$LF" || return 1

@@ -8,6 +8,8 @@ check_settings_refused() {
         ends 3 'settings wrong-kind include' '{"include":"a"}' &&
         ends 3 'settings out-of-range fingerprint_size' '{"include":["a"],"fingerprint_size":15}' &&
         ends 3 'settings fraction fingerprint_size' '{"include":["a"],"fingerprint_size":16.5}' &&
+        ends 3 'settings wrong-kind include_observed_time' '{"include":["a"],"include_observed_time":"true"}' &&
+        ends 3 'settings wrong-kind operators' '{"include_observed_time":1,"include":["a"],"operators":1}' &&
         ends 3 'settings missing operators[0].field' '{"include":["a"],"operators":[{"type":"remove"}]}' &&
         ends 3 'same-id 1' "${settings%\}},\"operators\":[{\"type\":\"noop\",\"id\":\"a\"},{\"type\":\"noop\",\"id\":\"a\"}]}" &&
         ends 3 'operator 0 path' "${settings%\}},\"operators\":[{\"type\":\"remove\",\"field\":\"bodyx\"}]}"
@@ -66,5 +68,17 @@ check_keys_of_a_file() {
         gives '"attributes":{"log.file.name":"x"}' 'a\n' '["a", {"log.file.name": "app.log"}, {}]' &&
         gives '"include_file_name":false,"preserve_leading_whitespaces":true' ' a \n' '[" a", {}, {}]' &&
         gives '"include_file_name":false,"preserve_trailing_whitespaces":true' ' a \n' '["a ", {}, {}]' &&
-        gives '"include_file_name":false,"fingerprint_size":16' 'a\n' '["a", {}, {}]'
+        gives '"include_file_name":false,"fingerprint_size":16' 'a\n' '["a", {}, {}]' &&
+        gives '"include_file_name":false,"include_observed_time":true' 'a\n' '["a", {}, {}]'
+}
+
+# To switch a key on is to change the settings, and so it is to write its default.
+check_observed_time_switched() {
+    local said
+    a_log
+    once 0 "$(one_line)$LF" || return 1
+    for said in true false; do
+        printf '%s' "${settings%\}},\"include_observed_time\":$said}" >settings.json
+        untouched once 5 "fault 5 changed $((${#settings} - 1))$LF" || return 1
+    done
 }

@@ -8,21 +8,21 @@ use Rattle.agent_commands.proofs.agent.run.Goals as goal
 -- ---- once
 
 pub returns-in-Once-clause-answers : goal.returns-in-Once-clause-answers
-returns-in-Once-clause-answers g c = (once_status (meanings g.T.Tree.meaning g.D.Disk.meaning g.K.Sink.meaning) _ _ _ c.once.ensures.ends).0
+returns-in-Once-clause-answers g c = (once_status (meanings g.T.Tree.meaning g.D.Disk.meaning g.K.Sink.meaning g.C.Clock.meaning) _ _ _ c.once.ensures.ends).0
 
 pub returns-in-Once-clause-no_usage : goal.returns-in-Once-clause-no_usage
-returns-in-Once-clause-no_usage g c = (once_status (meanings g.T.Tree.meaning g.D.Disk.meaning g.K.Sink.meaning) _ _ _ c.once.ensures.ends).1
+returns-in-Once-clause-no_usage g c = (once_status (meanings g.T.Tree.meaning g.D.Disk.meaning g.K.Sink.meaning g.C.Clock.meaning) _ _ _ c.once.ensures.ends).1
 
 pub returns-in-Once-clause-control_long : goal.returns-in-Once-clause-control_long
-returns-in-Once-clause-control_long g c = λ is. absurd (once_not_long (meanings g.T.Tree.meaning g.D.Disk.meaning g.K.Sink.meaning) _ _ _ c.once.ensures.ends is)
+returns-in-Once-clause-control_long g c = λ is. absurd (once_not_long (meanings g.T.Tree.meaning g.D.Disk.meaning g.K.Sink.meaning g.C.Clock.meaning) _ _ _ c.once.ensures.ends is)
 
 -- ---- follow
 
 pub returns-in-Follow-clause-answers : goal.returns-in-Follow-clause-answers
-returns-in-Follow-clause-answers g c = (follow_status (meanings g.T.Tree.meaning g.D.Disk.meaning g.K.Sink.meaning) _ _ _ _ _ c.follow.ensures.ends).0
+returns-in-Follow-clause-answers g c = (follow_status (meanings g.T.Tree.meaning g.D.Disk.meaning g.K.Sink.meaning g.C.Clock.meaning) _ _ _ _ _ c.follow.ensures.ends).0
 
 pub returns-in-Follow-clause-no_usage : goal.returns-in-Follow-clause-no_usage
-returns-in-Follow-clause-no_usage g c = (follow_status (meanings g.T.Tree.meaning g.D.Disk.meaning g.K.Sink.meaning) _ _ _ _ _ c.follow.ensures.ends).1
+returns-in-Follow-clause-no_usage g c = (follow_status (meanings g.T.Tree.meaning g.D.Disk.meaning g.K.Sink.meaning g.C.Clock.meaning) _ _ _ _ _ c.follow.ensures.ends).1
 
 -- ---- committed
 
@@ -38,10 +38,10 @@ returns-in-Committed-clause-standing g c = same_stands g.D.Disk.meaning.images c
 -- ---- pipe
 
 pub returns-in-Pipe-clause-answers : goal.returns-in-Pipe-clause-answers
-returns-in-Pipe-clause-answers g c = (pipe_status g.D.Disk.meaning _ _ _ _ _ _ c.pipe.ensures.ends).0
+returns-in-Pipe-clause-answers g c = (pipe_status g.D.Disk.meaning g.C.Clock.meaning _ _ _ _ c.pipe.ensures.ends).0
 
 pub returns-in-Pipe-clause-no_usage : goal.returns-in-Pipe-clause-no_usage
-returns-in-Pipe-clause-no_usage g c = (pipe_status g.D.Disk.meaning _ _ _ _ _ _ c.pipe.ensures.ends).1
+returns-in-Pipe-clause-no_usage g c = (pipe_status g.D.Disk.meaning g.C.Clock.meaning _ _ _ _ c.pipe.ensures.ends).1
 
 pub returns-in-Pipe-clause-standing : goal.returns-in-Pipe-clause-standing
 returns-in-Pipe-clause-standing g c = same_stands g.D.Disk.meaning.images c.args.disk.now c.pipe.new.disk (g.T.Tree.meaning.world c.args.tree.now) (λ from image early left. g.met.D.Disk.counts_now c.args.disk.now from image early left) c.pipe.ensures.only_read.crash

@@ -31,6 +31,7 @@ returns-in-Err-clause-once g c = λ is.
       cause = rw memory tt;
       told = c.refuse.ensures.told;
       same_tree = refl;
+      same_clock = refl;
       untouched = λ _. passes_none c.args.disk.now;
       crash = passes_weaker (passes_none c.args.disk.now) (λ old new same. rw same (grows_same old));
     })
@@ -47,6 +48,7 @@ returns-in-Err-clause-follow g c = λ is.
       cause = rw memory tt;
       told = c.refuse.ensures.told;
       same_tree = refl;
+      same_clock = refl;
       untouched = λ _. passes_none c.args.disk.now;
       crash = passes_weaker (passes_none c.args.disk.now) (λ old new same. rw same (grows_same old));
     }) refl
@@ -59,7 +61,7 @@ returns-in-Err-clause-committed g c = λ is.
 pub returns-in-Err-clause-pipe : goal.returns-in-Err-clause-pipe
 returns-in-Err-clause-pipe g c = λ is.
     let memory = wants_memory _ c.in-Err.fault Pipe c.in-Err.ensures.fault is in
-    not_piped _ (record { fault = c.in-Err.fault; is = c.refuse.ensures.status; cause = rw memory tt; told = c.refuse.ensures.told; untouched = refl })
+    not_piped _ (record { fault = c.in-Err.fault; is = c.refuse.ensures.status; cause = rw memory tt; told = c.refuse.ensures.told; untouched = refl; same_clock = refl })
 
 pub returns-in-Err-clause-demo : goal.returns-in-Err-clause-demo
 returns-in-Err-clause-demo g c = λ rounds is.

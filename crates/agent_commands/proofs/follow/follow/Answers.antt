@@ -19,6 +19,7 @@ returns-in-Err-clause-ends g c = not_opened (record {
   cause = c.in-Err.ensures.fault;
   told = c.refuse.ensures.told;
   same_tree = refl;
+  same_clock = refl;
   untouched = c.in-Err.ensures.untouched;
   crash = opening_grows _ _ c.open_session.ensures.crash;
 }) refl
@@ -53,9 +54,9 @@ returns-in-Err-clause-control_long g c = λ is.
 
 pub returns-clause-ends : goal.returns-clause-ends
 returns-clause-ends g c =
-    let keeps = keeps_opened (meanings g.T.Tree.meaning g.D.Disk.meaning g.K.Sink.meaning) (rules_of_session c.in-Ok.session) c.args.tree.now c.args.disk.now c.open_session.new.disk c.args.report.now
+    let keeps = keeps_opened (meanings g.T.Tree.meaning g.D.Disk.meaning g.K.Sink.meaning g.C.Clock.meaning) (rules_of_session c.in-Ok.session).front_size c.args.tree.now c.args.disk.now c.open_session.new.disk c.args.report.now c.args.clock.now
     (λ from image early left. g.met.D.Disk.counts_now c.args.disk.now from image early left) c.open_session.ensures.crash in
-    let served = c.serve.ensures.served (moment c.args.tree.now c.args.disk.now c.args.report.now) keeps in
+    let served = c.serve.ensures.served (moment c.args.tree.now c.args.disk.now c.args.report.now c.args.clock.now) keeps in
     serves (record {
       session = c.in-Ok.session;
       between = c.open_session.new.disk;
@@ -65,7 +66,7 @@ returns-clause-ends g c =
     })
 
 pub returns-clause-standing : goal.returns-clause-standing
-returns-clause-standing g c = opened_stands g.D.Disk.meaning.images c.in-Ok.session c.args.disk.now c.open_session.new.disk c.serve.new.disk (g.T.Tree.meaning.world c.args.tree.now) (g.T.Tree.meaning.world c.serve.new.tree) c.settings_give_one_set_of_rules.ensures.rules
+returns-clause-standing g c = opened_stands g.D.Disk.meaning.images c.in-Ok.session c.args.disk.now c.open_session.new.disk c.serve.new.disk (g.T.Tree.meaning.world c.args.tree.now) (g.T.Tree.meaning.world c.serve.new.tree)
     (λ from image early left. g.met.D.Disk.counts_now c.args.disk.now from image early left) c.in-Ok.ensures.ok c.open_session.ensures.crash c.serve.ensures.standing
 
 pub returns-clause-disk_failed : goal.returns-clause-disk_failed

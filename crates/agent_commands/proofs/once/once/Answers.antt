@@ -14,6 +14,7 @@ returns-in-Err-clause-ends g c = not_opened _ (record {
   cause = c.in-Err.ensures.fault;
   told = c.refuse.ensures.told;
   same_tree = refl;
+  same_clock = refl;
   untouched = c.in-Err.ensures.untouched;
   crash = opening_grows _ _ c.open_session.ensures.crash;
 })
@@ -48,7 +49,7 @@ pub returns-in-Err-turn-clause-crash : goal.returns-in-Err-turn-clause-crash
 returns-in-Err-turn-clause-crash g c = opened_grows 1 _ _ _ c.open_session.ensures.crash c.turn.ensures.crash
 
 pub returns-in-Err-turn-clause-standing : goal.returns-in-Err-turn-clause-standing
-returns-in-Err-turn-clause-standing g c = opened_stands g.D.Disk.meaning.images c.in-Ok.session c.args.disk.now c.open_session.new.disk c.turn.new.disk (g.T.Tree.meaning.world c.args.tree.now) (g.T.Tree.meaning.world c.turn.new.tree) c.settings_give_one_set_of_rules.ensures.rules
+returns-in-Err-turn-clause-standing g c = opened_stands g.D.Disk.meaning.images c.in-Ok.session c.args.disk.now c.open_session.new.disk c.turn.new.disk (g.T.Tree.meaning.world c.args.tree.now) (g.T.Tree.meaning.world c.turn.new.tree)
     (λ from image early left. g.met.D.Disk.counts_now c.args.disk.now from image early left) c.in-Ok.ensures.ok c.open_session.ensures.crash c.turn.ensures.standing
 
 pub returns-clause-ends : goal.returns-clause-ends
@@ -58,8 +59,8 @@ returns-clause-ends g c =
       between = c.open_session.new.disk;
       opens = c.in-Ok.ensures.ok;
       next = c.in_default.field-0;
-      turns = c.in_default.ensures.turns (moment c.args.tree.now c.args.disk.now c.args.report.now)
-          (keeps_opened (meanings g.T.Tree.meaning g.D.Disk.meaning g.K.Sink.meaning) (rules_of_session c.in-Ok.session) c.args.tree.now c.args.disk.now c.open_session.new.disk c.args.report.now
+      turns = c.in_default.ensures.turns (moment c.args.tree.now c.args.disk.now c.args.report.now c.args.clock.now)
+          (keeps_opened (meanings g.T.Tree.meaning g.D.Disk.meaning g.K.Sink.meaning g.C.Clock.meaning) (rules_of_session c.in-Ok.session).front_size c.args.tree.now c.args.disk.now c.open_session.new.disk c.args.report.now c.args.clock.now
           (λ from image early left. g.met.D.Disk.counts_now c.args.disk.now from image early left) c.open_session.ensures.crash);
     })
 
@@ -67,5 +68,5 @@ pub returns-clause-crash : goal.returns-clause-crash
 returns-clause-crash g c = opened_grows 1 _ _ _ c.open_session.ensures.crash c.turn.ensures.crash
 
 pub returns-clause-standing : goal.returns-clause-standing
-returns-clause-standing g c = opened_stands g.D.Disk.meaning.images c.in-Ok.session c.args.disk.now c.open_session.new.disk c.turn.new.disk (g.T.Tree.meaning.world c.args.tree.now) (g.T.Tree.meaning.world c.turn.new.tree) c.settings_give_one_set_of_rules.ensures.rules
+returns-clause-standing g c = opened_stands g.D.Disk.meaning.images c.in-Ok.session c.args.disk.now c.open_session.new.disk c.turn.new.disk (g.T.Tree.meaning.world c.args.tree.now) (g.T.Tree.meaning.world c.turn.new.tree)
     (λ from image early left. g.met.D.Disk.counts_now c.args.disk.now from image early left) c.in-Ok.ensures.ok c.open_session.ensures.crash c.turn.ensures.standing

@@ -1,6 +1,7 @@
 use Rattle.std.proofs.Common.{ℕ, ap}
 use Rattle.std.specs.Prelude.{Err}
 use Rattle.std.proofs.lemmas.Result.{err_from_is_err_and}
+use Rattle.poll_core.proofs.EraLemmas.{session_eras}
 use Rattle.agent_commands.proofs.FaultLemmas.{poll_fault, polling_cause}
 use Rattle.agent_commands.proofs.GrowLemmas.{poll_grows}
 use Rattle.agent_commands.proofs.StandLemmas.{told_holds_all}
@@ -24,4 +25,5 @@ returns-clause-crash g c = poll_grows g.T.Tree.meaning g.D.Disk.meaning c.args.s
 
 pub returns-clause-whole : goal.returns-clause-whole
 returns-clause-whole g c =
-    told_holds_all g.D.Disk.meaning.images (λ disk tells. g.met.D.Disk.shown disk tells) c.a_complete_poll_reaches_all.ensures c.args.session _ _ c.args.disk.now _ _ c.a_session_polls_by_rules.ensures c.requires.stands c.poll.ensures.tree.later
+    let own = session_eras c.settings_give_one_set_of_rules.ensures.rules c.args.session c.requires.session c.a_session_polls_by_rules.ensures in
+    told_holds_all g.D.Disk.meaning.images (λ disk tells. g.met.D.Disk.shown disk tells) c.a_complete_poll_reaches_all.ensures c.args.session c.requires.session own _ _ c.args.disk.now _ _ c.requires.stands c.poll.ensures.tree.later

@@ -20,8 +20,8 @@ returns-in_err-checkpoint-clause-bad c at bad room =
     let start_is : c.saturating_add-start.result ≡ c.loop-payload.place + 17 = omega (arith, c.saturating_add-start.ensures, left, takes) in
     let told = err_from_is_err_and c.from_residual.result c.from_residual.ensures.1 in
     let none = c.in_err-checkpoint.ensures.bad at (cc (bad, told.1, told.2)) (omega (arith, ap length c.deref.ensures.value, start_is, left, takes)) in
-    fails_here c.args.first (map (λ payload. payload.items) records) c.args.begin c.loop-payload.place c.saturating_add-start.result at c.loop-payload.checkpoint payload.items rest behind is start_is
-    (subst (λ (bytes : List ℕ). NoChangeAt c.saturating_add-start.result c.loop-payload.checkpoint bytes at) c.deref.ensures.value none)
+    fails_here c.args.version c.args.first (map (λ payload. payload.items) records) c.args.begin c.loop-payload.place c.saturating_add-start.result at c.loop-payload.checkpoint payload.items rest behind is start_is
+    (subst (λ (bytes : List ℕ). NoChangeAt c.args.version c.saturating_add-start.result c.loop-payload.checkpoint bytes at) c.deref.ensures.value none)
     (c.loop-payload.invariant.fails room)
 
 pub loop-payload-preserved : goal.loop-payload-preserved
@@ -34,21 +34,21 @@ loop-payload-preserved c =
     let behind = map (λ payload. payload.items) (drop (i + 1) records) in
     let is = rest_is (λ payload. payload.items) records i payload (omega arith) c.payload-item.is in
     let takes = room_step payload.items rest behind is in
-    let spells : SpellsChange c.loop-payload.checkpoint payload.items c.in_ok-checkpoint.checkpoint = subst (λ (bytes : List ℕ). SpellsChange c.loop-payload.checkpoint bytes c.in_ok-checkpoint.checkpoint) c.deref.ensures.value c.in_ok-checkpoint.ensures.changed in
+    let spells : SpellsChange c.args.version c.loop-payload.checkpoint payload.items c.in_ok-checkpoint.checkpoint = subst (λ (bytes : List ℕ). SpellsChange c.args.version c.loop-payload.checkpoint bytes c.in_ok-checkpoint.checkpoint) c.deref.ensures.value c.in_ok-checkpoint.ensures.changed in
     let long : c.len.result ≡ length payload.items = c.len.ensures ∙ payload.ok.0 in
     record {
-      changes = changes_step c.args.first all c.loop-payload.checkpoint c.in_ok-checkpoint.checkpoint payload.items rest behind is spells c.loop-payload.invariant.changes;
+      changes = changes_step c.args.version c.args.first all c.loop-payload.checkpoint c.in_ok-checkpoint.checkpoint payload.items rest behind is spells c.loop-payload.invariant.changes;
       place = λ room.
           let left = c.loop-payload.invariant.place room in
           omega (arith, c.saturating_add-start.ensures, c.saturating_add-place.ensures, left, takes, long);
       fails = λ room.
           let left = c.loop-payload.invariant.place room in
           let next : c.saturating_add-place.result ≡ c.loop-payload.place + 17 + length payload.items = omega (arith, c.saturating_add-start.ensures, c.saturating_add-place.ensures, left, takes, long) in
-          fails_step c.args.first all c.args.begin c.loop-payload.place c.saturating_add-place.result c.loop-payload.checkpoint c.in_ok-checkpoint.checkpoint payload.items rest behind is spells next (c.loop-payload.invariant.fails room);
+          fails_step c.args.version c.args.first all c.args.begin c.loop-payload.place c.saturating_add-place.result c.loop-payload.checkpoint c.in_ok-checkpoint.checkpoint payload.items rest behind is spells next (c.loop-payload.invariant.fails room);
     }
 
 pub returns-clause-changes : goal.returns-clause-changes
 returns-clause-changes c =
     c.loop-payload.invariant.changes c.loop-payload.checkpoint
-    (subst (λ (list : List (List ℕ)). AreChanges c.loop-payload.checkpoint list c.loop-payload.checkpoint)
+    (subst (λ (list : List (List ℕ)). AreChanges c.args.version c.loop-payload.checkpoint list c.loop-payload.checkpoint)
     (sym (none_left (λ payload. payload.items) c.args.records.now c.loop-payload.payload-index c.loop-payload-test.false)) (no_change c.loop-payload.checkpoint))

@@ -10,9 +10,9 @@ use Rattle.checkpoint_journal.proofs.reading.with_changes.Given as goal
 abbrev pub invariant-loop-payload : goal.invariant-loop-payload
 invariant-loop-payload l =
     record {
-      changes : (after : Checkpoint) → AreChanges l.checkpoint (map (λ payload. payload.items) (drop l.payload-index l.records)) after → AreChanges l.fn.first (map (λ payload. payload.items) l.records) after;
+      changes : (after : Checkpoint) → AreChanges l.version l.checkpoint (map (λ payload. payload.items) (drop l.payload-index l.records)) after → AreChanges l.version l.fn.first (map (λ payload. payload.items) l.records) after;
       place : l.begin + sum_by (λ payload. length payload + 17) (map (λ payload. payload.items) l.records) ≤ last_number
           → l.place + sum_by (λ payload. length payload + 17) (map (λ payload. payload.items) (drop l.payload-index l.records)) ≡ l.begin + sum_by (λ payload. length payload + 17) (map (λ payload. payload.items) l.records);
       fails : l.begin + sum_by (λ payload. length payload + 17) (map (λ payload. payload.items) l.records) ≤ last_number
-          → (fault : ℕ) → FailsIn l.checkpoint (map (λ payload. payload.items) (drop l.payload-index l.records)) fault → FailsBehind l.begin l.fn.first (map (λ payload. payload.items) l.records) (l.place + fault);
+          → (fault : ℕ) → FailsIn l.version l.checkpoint (map (λ payload. payload.items) (drop l.payload-index l.records)) fault → FailsBehind l.version l.begin l.fn.first (map (λ payload. payload.items) l.records) (l.place + fault);
     }

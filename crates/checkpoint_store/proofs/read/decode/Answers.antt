@@ -1,6 +1,5 @@
 use Rattle.std.proofs.Common.{arith}
-use Rattle.checkpoint_store.proofs.CheckpointLaws.{whole_takes}
-use Rattle.checkpoint_store.proofs.CheckpointEnds.{spells_none}
+use Rattle.checkpoint_store.proofs.CheckpointEnds.{whole_takes, spells_none}
 use Rattle.checkpoint_store.proofs.read.decode.Goals as goal
 
 pub returns-in-Ok : goal.returns-in-Ok

@@ -1,8 +1,8 @@
-use Rattle.std.proofs.Common.{arith}
 use Rattle.crash_tests.proofs.Resting.{awaits}
 use Rattle.crash_tests.proofs.journals.append.Goals as goal
 
 pub append-result-requires-clause-stands : goal.append-result-requires-clause-stands
 append-result-requires-clause-stands c =
+    let next = c.is_next.ensures c.if-not-is_next.false in
     awaits c.args.opened.disk c.set.new.disk c.args.opened.journal c.args.opened.checkpoint c.in_ok-change.change c.set.ensures c.requires.stands
-    (c.in_ok-change.ensures c.args.opened.checkpoint (omega arith) (omega arith))
+    (c.in_ok-change.ensures c.args.opened.checkpoint next.2 next.3 next.4 next.5)

@@ -4,7 +4,7 @@ use Rattle.demo_run.proofs.Sums.{lines_fit}
 use Rattle.demo_run.proofs.ending.kept_on.Goals as goal
 
 pub sum_of_lines-requires : goal.sum_of_lines-requires
-sum_of_lines-requires c = rw c.as_slice-rows.ensures (lines_fit c.in-Ok-Some.checkpoint (rw c.in-Ok-Some.field-0-is at c.in-Ok-Some.ensures.lawful))
+sum_of_lines-requires c = rw c.as_slice-rows.ensures (lines_fit _ c.in-Ok-Some.checkpoint (rw c.in-Ok-Some.field-0-is at c.in-Ok-Some.ensures.lawful))
 
 pub returns-in-Ok-Some : goal.returns-in-Ok-Some
 returns-in-Ok-Some c = record {

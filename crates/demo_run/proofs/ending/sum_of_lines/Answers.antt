@@ -1,4 +1,4 @@
-use Rattle.std.proofs.Common.{◌+◌, ◌∙◌, ap, arith, length, refl, sym}
+use Rattle.std.proofs.Common.{◌+◌, ◌∙◌, ap, arith, refl, sym}
 use Rattle.std.proofs.lemmas.List.{take_all}
 use Rattle.demo_run.specs.Shown.{lines_of}
 use Rattle.demo_run.proofs.Sums.{one_more, part_of_all}

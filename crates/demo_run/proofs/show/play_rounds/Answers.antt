@@ -25,5 +25,5 @@ returns c =
       ends = ended;
       steps = steps;
       keeps = kept;
-      every_line = kept.lines_are ∙ lines_are_rounds c.args.rounds c.requires ended.rules (is_ruled ended.rules ended.rules_are) c.deref.result.now played c.in-Ok.ending ended.ends steps kept.checkpoint kept.has;
+      every_line = kept.lines_are ∙ lines_are_rounds c.settings_give_one_set_of_rules.ensures.rules c.args.rounds c.requires ended.rules ended.rules_are (is_ruled ended.rules ended.rules_are) c.deref.result.now played c.in-Ok.ending ended.ends steps kept.checkpoint kept.has;
     }

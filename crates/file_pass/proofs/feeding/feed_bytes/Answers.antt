@@ -2,7 +2,7 @@ use Rattle.std.proofs.Common.{◌+◌, ℕ, refl, sym, ap, ◌∙◌, arith}
 use Rattle.pipeline.specs.RowStates.{IsStateOfRow}
 use Rattle.standing.specs.AreRules.{AreRules}
 use Rattle.standing.specs.Rows.{Row}
-use Rattle.file_pass.specs.Fed.{feeding_row, rules_in}
+use Rattle.file_pass.specs.Fed.{feeding_row, poll_of, rules_in}
 use Rattle.file_pass.proofs.FeedingOn.{same_row}
 use Rattle.file_pass.proofs.feeding.feed_bytes.Goals as goal
 
@@ -17,7 +17,7 @@ returns-clause-fed c =
     let text = c.args.setup.now.settings.now in
     let row : Row = feeding_row c.args.feeding.now in
     let state : IsStateOfRow c.args.setup.now.pipeline.now row c.args.feeding.now.state = record { states = record { kinds = c.requires.states; told = refl }; records_are = refl; lines_are = refl } in
-    let takes = c.a_row_is_fed_by_the_rules.ensures.fed text c.args.bytes.now row c.args.feeding.now.state c.feed.new.state c.args.lines.now.items c.feed.new.out.items state (rw c.as_str-path.ensures at c.in_ok-count.ensures.fed) in
+    let takes = c.a_row_is_fed_by_the_rules.ensures.fed text c.args.bytes.now (poll_of c.args.setup.now) row c.args.feeding.now.state c.feed.new.state c.args.lines.now.items c.feed.new.out.items refl state (rw c.as_str-path.ensures at c.in_ok-count.ensures.fed) in
     same_row row (ap (λ (n : ℕ). c.args.feeding.now.offset + n) (c.in_ok-count.ensures.used ∙ sym (c.a_row_is_fed_by_the_rules.ensures.used text c.args.bytes.now))) takes.state.records_are takes.state.lines_are (sym takes.state.states.told)
 
 pub returns-clause-lines : goal.returns-clause-lines
@@ -25,5 +25,5 @@ returns-clause-lines c =
     let text = c.args.setup.now.settings.now in
     let row : Row = feeding_row c.args.feeding.now in
     let state : IsStateOfRow c.args.setup.now.pipeline.now row c.args.feeding.now.state = record { states = record { kinds = c.requires.states; told = refl }; records_are = refl; lines_are = refl } in
-    let takes = c.a_row_is_fed_by_the_rules.ensures.fed text c.args.bytes.now row c.args.feeding.now.state c.feed.new.state c.args.lines.now.items c.feed.new.out.items state (rw c.as_str-path.ensures at c.in_ok-count.ensures.fed) in
+    let takes = c.a_row_is_fed_by_the_rules.ensures.fed text c.args.bytes.now (poll_of c.args.setup.now) row c.args.feeding.now.state c.feed.new.state c.args.lines.now.items c.feed.new.out.items refl state (rw c.as_str-path.ensures at c.in_ok-count.ensures.fed) in
     rw c.requires.none at takes.written

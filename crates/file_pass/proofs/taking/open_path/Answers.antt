@@ -7,7 +7,7 @@ use Rattle.outside.specs.World.{names, History}
 use Rattle.outside.specs.declared.tree.Kind.TheVariants.{Folder, File as PlainFile}
 use Rattle.outside.specs.declared.tree.Opened.TheVariants.{File, Gone, NotAFile}
 use Rattle.outside.specs.declared.fault.CallFault.TheVariants.{Failed, Memory}
-use Rattle.file_pass.specs.Fed.{rules_in}
+use Rattle.file_pass.specs.Fed.{poll_of, rules_in}
 use Rattle.file_pass.specs.declared.ending.OpenFile.{OpenFile}
 use Rattle.file_pass.specs.declared.taking.TheConstants.{BUFFER_SIZE}
 use Rattle.file_pass.proofs.Flagging.{unchanged_none}
@@ -19,7 +19,7 @@ returns-in-Ok-File-clause-ok g c =
     let opened = rw c.in-Ok-File.field-0-is at c.in-Ok-File.ensures in
     let file : OpenFile = record { handle = c.in-Ok-File.handle; size = c.in-Ok-File.size } in
     IfOk-weaker c.take_opened-found.result _ _ (λ found takes.
-    takes_file g.T.Tree.meaning g.D.Disk.meaning (rules_in c.args.setup.now) c.args.setup.now.first c.args.path.now c.requires.included file c.args.taking.now.tracker c.args.tree.now c.open_file.new.self c.take_opened-found.new.tree c.close.new.self
+    takes_file g.T.Tree.meaning g.D.Disk.meaning (poll_of c.args.setup.now) c.args.path.now c.requires.included file c.args.taking.now.tracker c.args.tree.now c.open_file.new.self c.take_opened-found.new.tree c.close.new.self
     (told_weaker (Opens c.args.path.now (Ok (File c.in-Ok-File.handle c.in-Ok-File.size))) (OpensFile c.args.path.now file.handle.0 file.size) (g.T.Tree.meaning.world c.args.tree.now) (g.T.Tree.meaning.world c.open_file.new.self) (λ x y o. o) (rw c.as_str.ensures at opened.history))
     c.close.ensures.history opened.cause c.close.ensures.cause
     c.take_opened-found.new.taking.tracker found c.args.taking.now.end c.take_opened-found.new.taking.end c.args.disk.now c.take_opened-found.new.disk c.open_file.ensures.taken c.close.ensures.taken takes)
@@ -29,7 +29,7 @@ pub returns-in-Ok-File-clause-full : goal.returns-in-Ok-File-clause-full
 returns-in-Ok-File-clause-full g c = λ size is.
     let opened = rw c.in-Ok-File.field-0-is at c.in-Ok-File.ensures in
     let file : OpenFile = record { handle = c.in-Ok-File.handle; size = c.in-Ok-File.size } in
-    fills_file g.T.Tree.meaning g.D.Disk.meaning (rules_in c.args.setup.now) c.args.setup.now.first c.args.path.now c.requires.included file c.args.taking.now.tracker c.args.tree.now c.open_file.new.self c.take_opened-found.new.tree c.close.new.self
+    fills_file g.T.Tree.meaning g.D.Disk.meaning (poll_of c.args.setup.now) c.args.path.now c.requires.included file c.args.taking.now.tracker c.args.tree.now c.open_file.new.self c.take_opened-found.new.tree c.close.new.self
     (told_weaker (Opens c.args.path.now (Ok (File c.in-Ok-File.handle c.in-Ok-File.size))) (OpensFile c.args.path.now file.handle.0 file.size) (g.T.Tree.meaning.world c.args.tree.now) (g.T.Tree.meaning.world c.open_file.new.self) (λ x y o. o) (rw c.as_str.ensures at opened.history))
     c.close.ensures.history opened.cause c.close.ensures.cause
     c.args.setup.now.limit c.args.taking.now.end size (c.take_opened-found.ensures.full size is)
@@ -45,21 +45,21 @@ returns-in-Ok-File-clause-tree g c =
 pub returns-in-Ok-Gone-clause-ok : goal.returns-in-Ok-Gone-clause-ok
 returns-in-Ok-Gone-clause-ok g c =
     let opened = rw c.in-Ok-Gone.field-0-is at c.in-Ok-Gone.ensures in
-    takes_lost g.T.Tree.meaning g.D.Disk.meaning (rules_in c.args.setup.now) c.args.setup.now.first c.args.path.now c.args.taking.now.tracker c.args.taking.now.end c.args.tree.now c.open_file.new.self c.args.disk.now
+    takes_lost g.T.Tree.meaning g.D.Disk.meaning (poll_of c.args.setup.now) c.args.path.now c.args.taking.now.tracker c.args.taking.now.end c.args.tree.now c.open_file.new.self c.args.disk.now
     (λ (history : History). kind_at (names history) c.args.path.now ≡ None) (λ history none some. (let never : None ≡ Some PlainFile = sym none ∙ some in cc))
     (told_weaker (Opens c.args.path.now (Ok Gone)) _ (g.T.Tree.meaning.world c.args.tree.now) (g.T.Tree.meaning.world c.open_file.new.self) (λ x y o. o) (rw c.as_str.ensures at opened.history)) opened.cause c.open_file.ensures.taken
 
 pub returns-in-Ok-NotAFile-clause-ok : goal.returns-in-Ok-NotAFile-clause-ok
 returns-in-Ok-NotAFile-clause-ok g c =
     let opened = rw c.in-Ok-NotAFile.field-0-is at c.in-Ok-NotAFile.ensures in
-    takes_lost g.T.Tree.meaning g.D.Disk.meaning (rules_in c.args.setup.now) c.args.setup.now.first c.args.path.now c.args.taking.now.tracker c.args.taking.now.end c.args.tree.now c.open_file.new.self c.args.disk.now
+    takes_lost g.T.Tree.meaning g.D.Disk.meaning (poll_of c.args.setup.now) c.args.path.now c.args.taking.now.tracker c.args.taking.now.end c.args.tree.now c.open_file.new.self c.args.disk.now
     (λ (history : History). kind_at (names history) c.args.path.now ≡ Some Folder) (λ history folder some. (let never : Some Folder ≡ Some PlainFile = sym folder ∙ some in cc))
     (told_weaker (Opens c.args.path.now (Ok NotAFile)) _ (g.T.Tree.meaning.world c.args.tree.now) (g.T.Tree.meaning.world c.open_file.new.self) (λ x y o. o) (rw c.as_str.ensures at opened.history)) opened.cause c.open_file.ensures.taken
 
 pub returns-in-Err-Failed-clause-ok : goal.returns-in-Err-Failed-clause-ok
 returns-in-Err-Failed-clause-ok g c =
     let opened = rw c.in-Err-Failed.field-0-is at c.in-Err-Failed.ensures in
-    takes_missed g.T.Tree.meaning g.D.Disk.meaning (rules_in c.args.setup.now) c.args.setup.now.first c.args.path.now c.args.taking.now.tracker c.args.taking.now.end c.args.tree.now c.open_file.new.self c.args.disk.now
+    takes_missed g.T.Tree.meaning g.D.Disk.meaning (poll_of c.args.setup.now) c.args.path.now c.args.taking.now.tracker c.args.taking.now.end c.args.tree.now c.open_file.new.self c.args.disk.now
     (told_weaker (Opens c.args.path.now (Err Failed)) _ (g.T.Tree.meaning.world c.args.tree.now) (g.T.Tree.meaning.world c.open_file.new.self) (λ x y o. o) (rw c.as_str.ensures at opened.history)) opened.cause c.open_file.ensures.taken
 
 pub returns-in-Ok-Gone-clause-tree : goal.returns-in-Ok-Gone-clause-tree

@@ -2,7 +2,7 @@ use Rattle.std.proofs.Common.{◌≡◌, ◌∙◌, ◌<◌, sym, ap, arith, ref
 use Rattle.outside.proofs.Telling.{told_weaker}
 use Rattle.standing.specs.AreRules.{AreRules}
 use Rattle.standing.specs.Limits.{is_compressed}
-use Rattle.file_pass.specs.Fed.{rules_in}
+use Rattle.file_pass.specs.Fed.{poll_of, rules_in}
 use Rattle.file_pass.specs.declared.fault.PassFault.TheVariants.{OutputFull}
 use Rattle.file_pass.proofs.Flagging.{unchanged_none, unchanged_then}
 use Rattle.file_pass.proofs.Bridging.{seen_taken}
@@ -16,7 +16,7 @@ pub returns-then-starts_with-clause-ok : goal.returns-then-starts_with-clause-ok
 returns-then-starts_with-clause-ok g c =
     let some : 0 < c.args.file.size = omega (arith, c.requires.begins, c.requires.front.0) in
     finds_idle g.T.Tree.meaning g.D.Disk.meaning _ _ c.args.taking.now.end c.args.tree.now c.args.disk.now refl refl
-    (λ world. seen_compressed (rules_in c.args.setup.now) c.args.setup.now.first c.args.path.now c.args.file c.args.taking.now.tracker world c.args.front.now (cc) some)
+    (λ world. seen_compressed (poll_of c.args.setup.now) c.args.path.now c.args.file c.args.taking.now.tracker world c.args.front.now (cc) some)
 
 pub take_row-requires-clause-in_range : goal.take_row-requires-clause-in_range
 take_row-requires-clause-in_range g c =
@@ -50,7 +50,7 @@ returns-in-None-clause-ok g c =
     let plain : is_compressed c.args.front.now ≡ false = sym c.starts_with.ensures.value ∙ c.if-starts_with.false in
     rw c.in_ok-place.ensures.end
     (finds_idle g.T.Tree.meaning g.D.Disk.meaning _ _ c.args.taking.now.end c.args.tree.now c.args.disk.now refl refl
-    (λ world. seen_full (rules_in c.args.setup.now) c.args.setup.now.first c.args.path.now c.args.file c.args.taking.now.tracker world c.args.front.now c.settle.new.taking.tracker plain some (rw c.in-None.is at c.in_ok-place.ensures.settles)))
+    (λ world. seen_full (poll_of c.args.setup.now) c.args.path.now c.args.file c.args.taking.now.tracker world c.args.front.now c.settle.new.taking.tracker plain some (rw c.in-None.is at c.in_ok-place.ensures.settles)))
 
 pub returns-then-starts_with-clause-flags : goal.returns-then-starts_with-clause-flags
 returns-then-starts_with-clause-flags g c = unchanged_none c.args.taking.now.tracker c.args.taking.now.changed.items

@@ -1,7 +1,8 @@
 use Rattle.std.proofs.Common.{◌≤◌, ◌<◌, ◌+◌, Option, Result, sym, subst}
 use Rattle.std.specs.Prelude.{IfOk, IfErr, IfSome}
 use Rattle.lifetimes.proofs.DiskLemmas.{leaves_reopened, leaves_same, passes_same}
-use Rattle.lifetimes.proofs.PollLemmas.{few_failed, well_dropped, on_ok, ready_opened, opens_is, refused_open}
+use Rattle.lifetimes.proofs.OpenLemmas.{opens_is, ready_opened, refused_open}
+use Rattle.lifetimes.proofs.PollLemmas.{few_failed, well_dropped, on_ok}
 use Rattle.lifetimes.specs.Past.{Past, CantOpenBy, Failures, IsDiskAt, IsReady, IsWell, Opens, dropped}
 use Rattle.lifetimes.specs.declared.fault.ScriptFault.{ScriptFault}
 use Rattle.mem_world.specs.MemDisk.{faults_of}
@@ -24,8 +25,12 @@ returns-clause-ready c =
 pub returns-clause-opened : goal.returns-clause-opened
 returns-clause-opened c =
     subst (λ (answer : Result (Option Session) ScriptFault). IfOk answer (λ own. (rules : Rules) (past : Past) (failures : Failures) → HasRules c.args.settings.now rules → IsDiskAt rules past failures c.args.disk.now → failures.most < last_count → Opens rules failures own)) (sym c.opened_of.ensures)
-    (opens_is c.args.settings.now c.args.disk.now c.open-opened.new.disk c.open-opened.result c.settings_give_one_set_of_rules.ensures.rules (few (goal.at.returns-clause-opened c).After-opened_of)
-    c.open-opened.ensures.session c.open-opened.ensures.settings c.open-opened.ensures.limit c.open-opened.ensures.cause)
+    (opens_is c.settings_give_one_set_of_rules.ensures.rules c.args.settings.now c.args.disk.now c.open-opened.new.disk c.open-opened.result (few (goal.at.returns-clause-opened c).After-opened_of) (record {
+      session_is = c.open-opened.ensures.session;
+      text_is = c.open-opened.ensures.settings;
+      limit = c.open-opened.ensures.limit;
+      stands = c.open-opened.ensures.stands;
+    }) c.open-opened.ensures.crash c.open-opened.ensures.cause)
 
 pub returns-clause-disk : goal.returns-clause-disk
 returns-clause-disk c =
@@ -40,4 +45,4 @@ returns-clause-crash c = passes_same Reopens c.args.disk.now c.open-opened.new.d
 pub returns-clause-cant : goal.returns-clause-cant
 returns-clause-cant c =
     subst (λ (answer : Result (Option Session) ScriptFault). IfErr answer (λ fault. (rules : Rules) (past : Past) (failures : Failures) → HasRules c.args.settings.now rules → IsDiskAt rules past failures c.args.disk.now → CantOpenBy c.args.settings.now fault)) (sym c.opened_of.ensures)
-    (refused_open c.args.settings.now c.args.disk.now c.open-opened.result c.a_sound_image_is_opened.ensures c.open-opened.ensures.of_settings c.open-opened.ensures.of_contents)
+    (refused_open c.a_sound_image_is_opened.ensures c.args.settings.now c.args.disk.now c.open-opened.result c.open-opened.ensures.of_settings c.open-opened.ensures.of_contents)

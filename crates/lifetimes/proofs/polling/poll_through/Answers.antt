@@ -50,4 +50,4 @@ returns-clause-goes_on c =
       lawful = c.tree_keeps_its_terms.ensures.lawful;
     } in
     subst (λ (answer : Result (Option Session) ScriptFault). IfOk answer (λ next. (rules : Rules) (waits : Waits) (past : Past) → MayPoll rules waits past c.args.session c.args.tree.now c.args.disk.now → GoesOn rules waits (history_of c.clear_plans.new.self) c.clear_plans-2.new.self next)) (sym c.next_of.ensures.value)
-    (goes_on_next c.args.session c.args.tree.now c.poll-polled.new.tree c.clear_plans.new.self c.args.disk.now c.poll-polled.new.disk c.clear_plans-2.new.self c.requires (few c) (went c) c.clear_plans.ensures.cleared c.clear_plans-2.ensures.history c.poll-polled.result answers)
+    (goes_on_next c.settings_give_one_set_of_rules.ensures.rules c.args.session c.args.tree.now c.poll-polled.new.tree c.clear_plans.new.self c.args.disk.now c.poll-polled.new.disk c.clear_plans-2.new.self c.requires (few c) (went c) c.clear_plans.ensures.cleared c.clear_plans-2.ensures.history c.poll-polled.result answers)

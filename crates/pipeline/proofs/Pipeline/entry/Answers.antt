@@ -4,5 +4,5 @@ use Rattle.entry_model.proofs.Data.{datum_text, datum_map}
 use Rattle.pipeline.proofs.Pipeline.entry.Goals as goal
 
 pub returns : goal.returns
-returns c = λ id path shared.
-    rw (datum_text c.in_ok-new.field-0, c.in_ok-new.ensures, datum_map c.in_ok-attributes_at.field-0, datum_map c.in_ok-copy_fields.field-0, c.in_ok-attributes_at.ensures id path shared, ap members_of c.in_ok-copy_fields.ensures, c.as_fields.ensures, c.empty.ensures) refl
+returns c = λ origin shared.
+    rw (datum_text c.in_ok-new.field-0, c.in_ok-new.ensures, datum_map c.in_ok-attributes_at.field-0, datum_map c.in_ok-copy_fields.field-0, c.in_ok-attributes_at.ensures origin shared, ap members_of c.in_ok-copy_fields.ensures, c.as_fields.ensures, c.empty.ensures) refl

@@ -10,9 +10,8 @@ loop-buffers-init c =
     let graph : GraphLaws (network c.args.self.now) = record { begin = c.begin.ensures; states = c.go_on.ensures.states; items = c.go_on.ensures.items } in
     let lines : LineLaws = record { none = c.lines_append.ensures.none; append = c.lines_append.ensures.append } in
     record {
-      source = c.in_ok-source.ensures;
       within = omega arith;
-      feeds = feeds_from_start (settings_of c.args.self.now) (network c.args.self.now) (rule_of (settings_of c.args.self.now) c.args.cutting) c.args.id c.args.path.now graph lines c.args.bytes.now c.args.state.now c.args.out.now.items;
+      feeds = λ origin is. feeds_from_start (settings_of c.args.self.now) (network c.args.self.now) (rule_of (settings_of c.args.self.now) c.args.cutting) origin graph lines c.args.bytes.now c.args.state.now c.args.out.now.items;
       records = omega arith;
       lines = omega arith;
       kinds = c.requires.states;
@@ -26,27 +25,28 @@ loop-buffers-preserved c =
     let lines : LineLaws = record { none = c.lines_append.ensures.none; append = c.lines_append.ensures.append } in
     let so_far = c.loop-buffers.invariant in
     let begins = rw (take_rest c.args.bytes.now c.loop-buffers.at) at (rw c.in-Some.is at c.in_ok-token.ensures).begins in
-    let fed = rw (take_rest c.args.bytes.now c.loop-buffers.at) at (c.in_ok-feed_token.ensures.fed c.args.id c.args.path.now so_far.source) in
     record {
-      source = so_far.source;
       within = omega (arith, begins.within, length-drop c.loop-buffers.at c.args.bytes.now);
-      feeds = subst (λ rest. FeedsOn (settings_of c.args.self.now) (network c.args.self.now) (rule_of (settings_of c.args.self.now) c.args.cutting) c.args.id c.args.path.now c.args.bytes.now rest (c.loop-buffers.at + c.in-Some.token.after) c.args.state.now c.feed_token.new.state c.args.out.now.items c.feed_token.new.out.items) (drop-drop c.in-Some.token.after c.loop-buffers.at c.args.bytes.now)
-          (feeds_token (settings_of c.args.self.now) (network c.args.self.now) (rule_of (settings_of c.args.self.now) c.args.cutting) c.args.id c.args.path.now graph lines c.args.bytes.now c.args.state.now c.args.out.now.items (drop c.loop-buffers.at c.args.bytes.now) c.loop-buffers.at _ c.loop-buffers.state c.feed_token.new.state c.loop-buffers.out.items c.feed_token.new.out.items begins so_far.feeds fed);
+      feeds = λ origin is.
+          let fed = rw (take_rest c.args.bytes.now c.loop-buffers.at) at (c.in_ok-feed_token.ensures.fed origin is) in
+          subst (λ rest. FeedsOn (settings_of c.args.self.now) (network c.args.self.now) (rule_of (settings_of c.args.self.now) c.args.cutting) origin c.args.bytes.now rest (c.loop-buffers.at + c.in-Some.token.after) c.args.state.now c.feed_token.new.state c.args.out.now.items c.feed_token.new.out.items) (drop-drop c.in-Some.token.after c.loop-buffers.at c.args.bytes.now)
+          (feeds_token (settings_of c.args.self.now) (network c.args.self.now) (rule_of (settings_of c.args.self.now) c.args.cutting) origin graph lines c.args.bytes.now c.args.state.now c.args.out.now.items (drop c.loop-buffers.at c.args.bytes.now) c.loop-buffers.at _ c.loop-buffers.state c.feed_token.new.state c.loop-buffers.out.items c.feed_token.new.out.items begins (so_far.feeds origin is) fed);
       records = omega (arith, c.in_ok-feed_token.ensures.records, so_far.records, begins.some_used);
-      lines = omega (arith, c.in_ok-feed_token.ensures.lines c.args.id c.args.path.now so_far.source, so_far.lines);
+      lines = omega (arith, c.in_ok-feed_token.ensures.lines c.requires.source.0 c.requires.source.1, so_far.lines);
       kinds = c.in_ok-feed_token.ensures.states;
       states = c.feed_token.ensures.many ∙ so_far.states;
       empty = c.in_ok-feed_token.ensures.empty;
     }
 
+pub returns-clause-fed : goal.returns-clause-fed
+returns-clause-fed c = λ origin is.
+    let graph : GraphLaws (network c.args.self.now) = record { begin = c.begin.ensures; states = c.go_on.ensures.states; items = c.go_on.ensures.items } in
+    let lines : LineLaws = record { none = c.lines_append.ensures.none; append = c.lines_append.ensures.append } in
+    (feeds_all (settings_of c.args.self.now) (network c.args.self.now) (rule_of (settings_of c.args.self.now) c.args.cutting) origin graph lines c.args.bytes.now c.args.state.now c.args.out.now.items (drop c.loop-buffers.at c.args.bytes.now) c.loop-buffers.at c.loop-buffers.state c.loop-buffers.out.items (rw (take_rest c.args.bytes.now c.loop-buffers.at) at (rw c.in_default.is at c.in_ok-token.ensures)) (c.loop-buffers.invariant.feeds origin is)).1
+
 pub returns-clause-used : goal.returns-clause-used
 returns-clause-used c =
     let graph : GraphLaws (network c.args.self.now) = record { begin = c.begin.ensures; states = c.go_on.ensures.states; items = c.go_on.ensures.items } in
     let lines : LineLaws = record { none = c.lines_append.ensures.none; append = c.lines_append.ensures.append } in
-    (feeds_all (settings_of c.args.self.now) (network c.args.self.now) (rule_of (settings_of c.args.self.now) c.args.cutting) c.args.id c.args.path.now graph lines c.args.bytes.now c.args.state.now c.args.out.now.items (drop c.loop-buffers.at c.args.bytes.now) c.loop-buffers.at c.loop-buffers.state c.loop-buffers.out.items (rw (take_rest c.args.bytes.now c.loop-buffers.at) at (rw c.in_default.is at c.in_ok-token.ensures)) c.loop-buffers.invariant.feeds).0
-
-pub returns-clause-fed : goal.returns-clause-fed
-returns-clause-fed c =
-    let graph : GraphLaws (network c.args.self.now) = record { begin = c.begin.ensures; states = c.go_on.ensures.states; items = c.go_on.ensures.items } in
-    let lines : LineLaws = record { none = c.lines_append.ensures.none; append = c.lines_append.ensures.append } in
-    (feeds_all (settings_of c.args.self.now) (network c.args.self.now) (rule_of (settings_of c.args.self.now) c.args.cutting) c.args.id c.args.path.now graph lines c.args.bytes.now c.args.state.now c.args.out.now.items (drop c.loop-buffers.at c.args.bytes.now) c.loop-buffers.at c.loop-buffers.state c.loop-buffers.out.items (rw (take_rest c.args.bytes.now c.loop-buffers.at) at (rw c.in_default.is at c.in_ok-token.ensures)) c.loop-buffers.invariant.feeds).1
+    let origin = c.requires.source.0 in
+    (feeds_all (settings_of c.args.self.now) (network c.args.self.now) (rule_of (settings_of c.args.self.now) c.args.cutting) origin graph lines c.args.bytes.now c.args.state.now c.args.out.now.items (drop c.loop-buffers.at c.args.bytes.now) c.loop-buffers.at c.loop-buffers.state c.loop-buffers.out.items (rw (take_rest c.args.bytes.now c.loop-buffers.at) at (rw c.in_default.is at c.in_ok-token.ensures)) (c.loop-buffers.invariant.feeds origin c.requires.source.1)).0

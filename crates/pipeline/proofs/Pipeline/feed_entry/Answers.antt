@@ -10,31 +10,31 @@ use Rattle.pipeline.proofs.Feeding.{record_none, record_one, one_fed}
 use Rattle.pipeline.proofs.Pipeline.feed_entry.Goals as goal
 
 pub returns-in_default-clause-fed : goal.returns-in_default-clause-fed
-returns-in_default-clause-fed c = λ id path shared.
-    let none = record_none (settings_of c.args.self.now) path c.args.state.now.records c.args.token.now (rw c.in_default.is at c.in_ok-body.ensures.none) in
+returns-in_default-clause-fed c = λ origin shared.
+    let none = record_none (settings_of c.args.self.now) origin.path c.args.state.now.records c.args.token.now (rw c.in_default.is at c.in_ok-body.ensures.none) in
     record {
       made = [];
       served = subst (λ records. Served (network c.args.self.now) c.args.state.now.states.items [] (inputs (network c.args.self.now) records) c.args.state.now.states.items []) (sym none) (c.begin.ensures c.args.state.now.states.items []);
       records = refl;
       lines = omega arith;
-      written = sym (append-nil c.args.out.now.items) ∙ ap (λ t. c.args.out.now.items ++ t) (sym (c.lines_append.ensures.none id (c.args.state.now.lines + 1) None));
+      written = sym (append-nil c.args.out.now.items) ∙ ap (λ t. c.args.out.now.items ++ t) (sym (c.lines_append.ensures.none origin.id (c.args.state.now.lines + 1) origin.time));
     }
 
 pub returns-clause-fed : goal.returns-clause-fed
-returns-clause-fed c = λ id path shared.
+returns-clause-fed c = λ origin shared.
     let settings = settings_of c.args.self.now in
     let text : string_bytes c.in-Some.body ≡ text_of settings c.args.token.now = rw c.in-Some.is at c.in_ok-body.ensures.some in
     let some : 0 < length (text_of settings c.args.token.now) = rw c.in-Some.is at c.in_ok-body.ensures.not_empty in
-    let entry = c.in_ok-entry.ensures id path shared ∙ ap (record_with settings path (c.args.state.now.records + 1)) text in
+    let entry = c.in_ok-entry.ensures origin shared ∙ ap (record_with settings origin.path (c.args.state.now.records + 1)) text in
     let net = network c.args.self.now in
     let records = c.args.state.now.records in
-    let record_of_it = record_with settings path (records + 1) (text_of settings c.args.token.now) in
+    let record_of_it = record_with settings origin.path (records + 1) (text_of settings c.args.token.now) in
     let item : c.in_ok-item.item ≡ record_of_it = c.in_ok-item.ensures.item ∙ entry in
     let pushed : Served net c.args.state.now.states.items [] (inputs net (c.in_ok-item.item ∷ [])) c.push_by.new.states.items c.push_by.new.out.items = rw c.next.ensures.made at c.in_ok-push_by.ensures.served in
-    let written : c.append_lines.new.out.items ≡ c.args.out.now.items ++ output_lines id (c.args.state.now.lines + 1) None c.push_by.new.out.items = rw (c.deref.ensures.value, shared.scope) at c.in_ok-append_lines.ensures.written in
+    let written : c.append_lines.new.out.items ≡ c.args.out.now.items ++ output_lines origin.id (c.args.state.now.lines + 1) origin.time c.push_by.new.out.items = rw (c.deref.ensures.value, shared.scope, shared.observed) at c.in_ok-append_lines.ensures.written in
     let lines : c.append_lines.new.lines ≡ c.args.state.now.lines + length c.push_by.new.out.items = rw c.deref.ensures.value at c.in_ok-append_lines.ensures.lines in
-    one_fed settings net id path c.args.token.now record_of_it c.push_by.new.out.items _ _ _ _
-    (record_one settings path records c.args.token.now some)
+    one_fed settings net origin c.args.token.now record_of_it c.push_by.new.out.items _ _ _ _
+    (record_one settings origin.path records c.args.token.now some)
     (subst (λ i. Served net c.args.state.now.states.items [] (inputs net (i ∷ [])) c.push_by.new.states.items c.push_by.new.out.items) item pushed) refl lines written
 
 pub returns-clause-states : goal.returns-clause-states

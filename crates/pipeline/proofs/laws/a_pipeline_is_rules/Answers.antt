@@ -1,4 +1,4 @@
-use Rattle.std.proofs.Common.{None, [], ◌∷◌, ◌++◌, length, drop, sym, ap, arith, length-append}
+use Rattle.std.proofs.Common.{[], ◌∷◌, ◌++◌, length, drop, sym, ap, arith, length-append}
 use Rattle.graph_core.specs.Traces.{start_states}
 use Rattle.line_splitter.proofs.CutLemmas.{used_by-cuts, cuts-append}
 use Rattle.line_splitter.specs.Cuts.{cuts, used_by, IsCutRule}
@@ -35,12 +35,12 @@ returns c = λ settings_text keeps.
         state_in_parts = λ path before state tokens more is. kept_in_parts settings pipeline.graph graph path before state tokens more is;
       };
       lines = record {
-        not_empty = λ mark. let one = c.line_is_one_line.ensures.one mark.id mark.number None mark.entry in omega (arith, ap length one.ends, length-append one.content (10 ∷ []));
+        not_empty = λ mark. let one = c.line_is_one_line.ensures.one mark.id mark.number mark.observed mark.entry in omega (arith, ap length one.ends, length-append one.content (10 ∷ []));
         tells_all = λ mark other rest more fit other_fit same.
             let whole = fits_whole mark fit in
             let other_whole = fits_whole other other_fit in
-            let told = c.line_tells_all.ensures.row mark.id mark.number other.id other.number None None mark.entry other.entry rest more whole.id whole.number other_whole.id other_whole.number tt tt whole.entry other_whole.entry same in
-            (same_mark mark other told.0 told.1 told.3, told.4);
+            let told = c.line_tells_all.ensures.row mark.id mark.number other.id other.number mark.observed other.observed mark.entry other.entry rest more whole.id whole.number other_whole.id other_whole.number whole.time other_whole.time whole.entry other_whole.entry same in
+            (same_mark mark other told.0 told.1 told.2 told.3, told.4);
       };
       front_size = keeps.fingerprint_size_from;
     }

@@ -1,7 +1,7 @@
 use Rattle.std.proofs.Common.{◌≡◌, ℕ, List, Err, sym, ap, subst, ◌∙◌}
 use Rattle.std.specs.Prelude.{Contains}
 use Rattle.file_pass.specs.AllTaken.{TakesAll}
-use Rattle.file_pass.specs.Fed.{rules_in}
+use Rattle.file_pass.specs.Fed.{poll_of}
 use Rattle.file_pass.specs.Overflow.{AllFill}
 use Rattle.file_pass.specs.declared.fault.PassFault.TheVariants.{OutputFull}
 use Rattle.file_tracker.specs.declared.row.Row.{Row}
@@ -12,7 +12,7 @@ use Rattle.poll_core.proofs.polling.pass.Goals as goal
 
 pub take_all-requires-clause-sane : goal.take_all-requires-clause-sane
 take_all-requires-clause-sane g c =
-    begun_sane c.args.setup.now c.args.rows c.args.kept c.in_ok-taking.taking c.in_ok-taking.ensures c.requires.rows c.requires.few c.requires.within
+    begun_sane c.args.setup.now c.args.rows c.args.kept c.in_ok-taking.taking c.in_ok-taking.ensures c.requires.rows c.requires.few c.requires.era c.requires.within
 
 pub take_all-requires-clause-included : goal.take_all-requires-clause-included
 take_all-requires-clause-included g c =
@@ -35,9 +35,9 @@ returns-in_err-take_all-clause-full g c = λ size is.
       walk = c.in_ok-walk.walk;
       finds = finds_by trees setup _ _ c.in_ok-walk.walk c.args.tree.now between c.include.ensures c.exclude.ensures c.in_ok-walk.ensures.ok;
       fills =
-          subst (λ (paths : List (List ℕ)). Told (AllFill (rules_in setup) setup.first setup.limit paths c.args.rows c.args.kept size) (trees.world between) (trees.world c.take_all.new.tree)) c.deref-2.ensures.value
-          (subst (λ (rows : List Row). Told (AllFill (rules_in setup) setup.first setup.limit c.deref-2.result.now rows c.args.kept size) (trees.world between) (trees.world c.take_all.new.tree)) begun.rows_are
-          (subst (λ (end : ℕ). Told (AllFill (rules_in setup) setup.first setup.limit c.deref-2.result.now c.in_ok-taking.taking.tracker end size) (trees.world between) (trees.world c.take_all.new.tree)) begun.end_is
+          subst (λ (paths : List (List ℕ)). Told (AllFill (poll_of setup) setup.limit paths c.args.rows c.args.kept size) (trees.world between) (trees.world c.take_all.new.tree)) c.deref-2.ensures.value
+          (subst (λ (rows : List Row). Told (AllFill (poll_of setup) setup.limit c.deref-2.result.now rows c.args.kept size) (trees.world between) (trees.world c.take_all.new.tree)) begun.rows_are
+          (subst (λ (end : ℕ). Told (AllFill (poll_of setup) setup.limit c.deref-2.result.now c.in_ok-taking.taking.tracker end size) (trees.world between) (trees.world c.take_all.new.tree)) begun.end_is
           (c.in_err-take_all.ensures.full size (ap Err (sym same)))));
     }
 

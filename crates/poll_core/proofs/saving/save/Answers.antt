@@ -1,5 +1,6 @@
-use Rattle.poll_core.proofs.SaveLemmas.{early_after_same, fewer_left, one_synced}
+use Rattle.poll_core.proofs.SaveLemmas.{early_after_same, fewer_left, one_synced, saves_after}
 use Rattle.poll_core.proofs.saving.save.Goals as goal
+use Rattle.poll_core.specs.Taken.{taken_checkpoint}
 
 pub returns-in_err-next-clause-early : goal.returns-in_err-next-clause-early
 returns-in_err-next-clause-early g c fewer =
@@ -17,3 +18,8 @@ returns-clause-early g c fewer =
     let done = g.D.Disk.meaning.done in
     early_after_same c.args.journal c.sync.ensures.crash
     (c.put.ensures.early (fewer_left 4 (done c.args.disk.now) (done c.sync.new.self) (done c.put.new.disk) c.in_ok-sync.ensures.done fewer))
+
+pub returns-clause-crash : goal.returns-clause-crash
+returns-clause-crash g c =
+    saves_after c.args.journal (taken_checkpoint c.args.heading.now c.args.taking.now)
+    (record { crash = c.sync.ensures.crash; durable = c.in_ok-sync.ensures.durable; seen = c.sync.ensures.seen }) c.put.ensures.crash

@@ -2,4 +2,5 @@ use Rattle.standing.proofs.PassLemmas.{look_output}
 use Rattle.standing.proofs.laws.a_look_keeps_standing.Goals as goal
 
 pub returns : goal.returns
-returns c = λ rules first here history rows next_id output laws comes apart stands. look_output rules laws first here history rows next_id output comes apart stands
+returns c = λ eras first stamp here history rows next_id output laws asked comes apart stands times.
+    look_output eras laws first stamp asked here history rows next_id output comes apart stands times

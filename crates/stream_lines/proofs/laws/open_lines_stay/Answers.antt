@@ -20,4 +20,4 @@ returns-clause-whole c =
     let rule : IsCutRule first = c.tokens_are_cut_by_a_rule.ensures in
     let laws : CutLaws first = record { go_on = c.cuts_go_on.ensures first rule; all = c.cuts_up_to_a_bound.ensures.all first rule; within = c.cuts_up_to_a_bound.ensures.within first rule; lasting = c.cuts_up_to_a_bound.ensures.lasting first rule } in
     let out : OutputLaws pipeline = record { none = c.go_on.ensures.none; nothing = c.go_on.ensures.nothing; kept = c.go_on.ensures.kept; given = c.go_on.ensures.given } in
-    λ given. (_, whole_on pipeline laws out given)
+    λ observed given. (_, whole_on pipeline laws out observed given)

@@ -1,6 +1,6 @@
 use Rattle.std.proofs.Common.{◌≡◌, ℕ, List, ◌++◌, take, sym, ap, subst, ◌∙◌}
 use Rattle.std.proofs.lemmas.Result.{err_from_is_err_and}
-use Rattle.std.specs.Prelude.{None, Err}
+use Rattle.std.specs.Prelude.{Err}
 use Rattle.otlp_json.specs.IsOneLine.{IsOneLine}
 use Rattle.outside.specs.World.{Told}
 use Rattle.standing.specs.Marks.{Mark}
@@ -27,7 +27,7 @@ returns-in-Some-clause-tells g c = λ earlier marks begun is counted so_far.
     let written = g.K.Sink.meaning.written in
     let mid = written c.args.report.now in
     let new = written c.write.new.self in
-    let one_line : (mark : Mark) → IsOneLine (line_of mark) = λ mark. c.line_is_one_line.ensures.one mark.id mark.number None mark.entry in
+    let one_line : (mark : Mark) → IsOneLine (line_of mark) = λ mark. c.line_is_one_line.ensures.one mark.id mark.number mark.observed mark.entry in
     let crosses : Crosses most_printed c.args.printed.now marks c.in-Some.length = c.in-Some.ensures.some marks is in
     let front : take c.whole_front-before.result c.args.lines.now ≡ lines_text crosses.front =
     front_is one_line most_printed c.args.printed.now marks c.in-Some.length crosses c.args.lines.now is c.requires.within c.in-Some.ensures.room c.whole_front-before.result c.whole_front-before.ensures.within c.whole_front-before.ensures.whole in

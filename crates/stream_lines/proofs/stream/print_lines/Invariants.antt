@@ -17,9 +17,9 @@ invariant-loop-left g l =
       given : List ℕ;
       gives : Told (Gives given false) (source.rest l.fn.source) (source.rest l.source);
       counted : length given + l.left ≡ most_taken;
-      taken : HasTaken l.pipeline given l.stream;
+      taken : HasTaken l.pipeline l.observed given l.stream;
       sane : IsSane l.pipeline l.stream (length given);
-      told : Told (Prints (lines_text (open_lines l.pipeline given))) (sink.written l.fn.report) (sink.written l.report);
+      told : Told (Prints (lines_text (open_lines l.pipeline l.observed given))) (sink.written l.fn.report) (sink.written l.report);
       long : length l.buffer.items ≡ 65536;
       source_stood : source.faults l.source ≡ source.faults l.fn.source;
       report_stood : sink.faults l.report ≡ sink.faults l.fn.report;

@@ -1,24 +1,24 @@
-use Rattle.std.proofs.Common.{◌++◌, ap, ◌∙◌}
+use Rattle.checkpoint_store.specs.Limits.{newest}
 use Rattle.checkpoint_store.specs.Spelling.{change_spelling}
-use Rattle.checkpoint_journal.proofs.WrittenLemmas.{append_passes, append_keeps, append_leaves}
+use Rattle.checkpoint_journal.proofs.WrittenLemmas.{put_alone, append_passes, append_keeps, append_leaves}
 use Rattle.checkpoint_journal.proofs.journal.Journal.append.Goals as goal
 
 pub returns-in_err-log-clause-crash : goal.returns-in_err-log-clause-crash
 returns-in_err-log-clause-crash g c =
     append_passes c.args.self c.args.change.now c.log.result c.deref.result.now
-    (record { log_is = c.log.ensures; payload_is = c.deref.ensures.value ∙ c.in_ok-encode_change.ensures ∙ ap (λ items. items ++ change_spelling c.args.change.now) c.new-payload.ensures.items }) c.append.ensures.crash
+    (record { log_is = c.log.ensures; spelled = record { newest_is = c.requires.newest; payload_is = put_alone (change_spelling newest c.args.change.now) c.new-payload.result.items c.encode_change.new.out.items c.deref.result.now c.new-payload.ensures.items c.in_ok-encode_change.ensures c.deref.ensures.value } }) c.append.ensures.crash
 
 pub returns-in_err-log-clause-early : goal.returns-in_err-log-clause-early
 returns-in_err-log-clause-early g c fewer =
     append_keeps c.args.self c.args.change.now c.log.result c.deref.result.now
-    (record { log_is = c.log.ensures; payload_is = c.deref.ensures.value ∙ c.in_ok-encode_change.ensures ∙ ap (λ items. items ++ change_spelling c.args.change.now) c.new-payload.ensures.items }) (c.append.ensures.early fewer)
+    (record { log_is = c.log.ensures; spelled = record { newest_is = c.requires.newest; payload_is = put_alone (change_spelling newest c.args.change.now) c.new-payload.result.items c.encode_change.new.out.items c.deref.result.now c.new-payload.ensures.items c.in_ok-encode_change.ensures c.deref.ensures.value } }) (c.append.ensures.early fewer)
 
 pub returns-clause-crash : goal.returns-clause-crash
 returns-clause-crash g c =
     append_passes c.args.self c.args.change.now c.log.result c.deref.result.now
-    (record { log_is = c.log.ensures; payload_is = c.deref.ensures.value ∙ c.in_ok-encode_change.ensures ∙ ap (λ items. items ++ change_spelling c.args.change.now) c.new-payload.ensures.items }) c.append.ensures.crash
+    (record { log_is = c.log.ensures; spelled = record { newest_is = c.requires.newest; payload_is = put_alone (change_spelling newest c.args.change.now) c.new-payload.result.items c.encode_change.new.out.items c.deref.result.now c.new-payload.ensures.items c.in_ok-encode_change.ensures c.deref.ensures.value } }) c.append.ensures.crash
 
 pub returns-clause-appended : goal.returns-clause-appended
 returns-clause-appended g c =
     append_leaves c.args.self c.args.change.now c.log.result c.deref.result.now
-    (record { log_is = c.log.ensures; payload_is = c.deref.ensures.value ∙ c.in_ok-encode_change.ensures ∙ ap (λ items. items ++ change_spelling c.args.change.now) c.new-payload.ensures.items }) c.in_ok-log.ensures.appended
+    (record { log_is = c.log.ensures; spelled = record { newest_is = c.requires.newest; payload_is = put_alone (change_spelling newest c.args.change.now) c.new-payload.result.items c.encode_change.new.out.items c.deref.result.now c.new-payload.ensures.items c.in_ok-encode_change.ensures c.deref.ensures.value } }) c.in_ok-log.ensures.appended

@@ -3,8 +3,11 @@ use Rattle.std.proofs.lemmas.Result.{err_from_is_err_and}
 use Rattle.checkpoint_journal.specs.JournalOf.{FoundIn, IsBadAt}
 use Rattle.outside.specs.declared.disk.DiskFile.TheVariants.{Output}
 use Rattle.poll_core.proofs.DiskLemmas.{settled_still}
-use Rattle.poll_core.proofs.MakingLemmas.{journal_refused, rejected_refused, short_refused}
+use Rattle.poll_core.proofs.MakingLemmas.{found_newest, journal_refused, rejected_refused, short_refused}
 use Rattle.poll_core.proofs.session.Session.found_on.Goals as goal
+
+pub of_found-requires-clause-lawful : goal.of_found-requires-clause-lawful
+of_found-requires-clause-lawful g c = found_newest c.in_ok-found.found c.in_ok-found.ensures.lawful
 
 pub returns-in_err-found-clause-of_contents : goal.returns-in_err-found-clause-of_contents
 returns-in_err-found-clause-of_contents g c =

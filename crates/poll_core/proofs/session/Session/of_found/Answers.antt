@@ -1,8 +1,8 @@
-use Rattle.std.proofs.Common.{refl, sym, subst}
+use Rattle.std.proofs.Common.{refl}
 use Rattle.poll_core.proofs.SessionLemmas.{empty_session}
 use Rattle.poll_core.proofs.session.Session.of_found.Goals as goal
-use Rattle.poll_core.specs.MadeOf.{IsMadeOf}
 
-pub returns-in-None-clause-session : goal.returns-in-None-clause-session
-returns-in-None-clause-session c =
-    empty_session _ (subst (λ text. IsMadeOf text c.args.pipeline) (sym c.in_ok-text.ensures) c.requires.made) c.requires.limit refl refl c.new.ensures
+pub returns-in_ok-one_era-in-None-clause-session : goal.returns-in_ok-one_era-in-None-clause-session
+returns-in_ok-one_era-in-None-clause-session c =
+    empty_session c.args.settings.now _ c.requires.made c.requires.limit
+    (record { eras = c.in_ok-one_era-in-None.ensures; journal = refl; kept = refl; observed = refl; time = refl; rows = c.new.ensures })

@@ -1,7 +1,8 @@
 use Rattle.std.proofs.Common.{inl, inr}
+use Rattle.poll_core.proofs.EraLemmas.{SessionEras, session_eras}
 use Rattle.poll_core.proofs.StandingLemmas.{stands_on, stands_still}
 use Rattle.poll_core.proofs.session.Session.poll.Goals as goal
-use Rattle.poll_core.specs.SessionParts.{rules_of_session}
+use Rattle.poll_core.specs.SessionParts.{rules_of_session, settings_of_session}
 use Rattle.standing.specs.AreRules.{AreRules}
 
 pub poll_once-requires-clause-session : goal.poll_once-requires-clause-session
@@ -11,7 +12,7 @@ pub poll_once-requires-clause-limits : goal.poll_once-requires-clause-limits
 poll_once-requires-clause-limits g c = c.settings_keep_limits.ensures _ _ c.requires.session.made.said
 
 pub poll_once-requires-clause-rules : goal.poll_once-requires-clause-rules
-poll_once-requires-clause-rules g c = c.a_pipeline_is_rules.ensures c.args.self.settings (c.settings_keep_limits.ensures _ _ c.requires.session.made.said)
+poll_once-requires-clause-rules g c = c.a_pipeline_is_rules.ensures (settings_of_session c.args.self) (c.settings_keep_limits.ensures _ _ c.requires.session.made.said)
 
 pub poll_once-requires-clause-stands : goal.poll_once-requires-clause-stands
 poll_once-requires-clause-stands g c = c.requires.stands
@@ -35,10 +36,11 @@ returns-clause-standing g c =
     let images = g.D.Disk.meaning.images in
     let old = c.args.disk.now in
     let new = c.poll_once.new.disk in
-    let laws : AreRules (rules_of_session session) = c.a_pipeline_is_rules.ensures session.settings (c.settings_keep_limits.ensures _ _ c.requires.session.made.said) in
+    let laws : AreRules (rules_of_session session) = c.a_pipeline_is_rules.ensures (settings_of_session session) (c.settings_keep_limits.ensures _ _ c.requires.session.made.said) in
+    let own : SessionEras session = session_eras c.settings_give_one_set_of_rules.ensures.rules session c.requires.session laws in
     elim c.poll_once.ensures.crash [
-      | inl stays ↦ stands_still images old new (λ from image early left. g.met.D.Disk.counts_now old from image early left) session laws c.requires.stands.each (trees.world c.args.tree.now) (trees.world c.poll_once.new.tree) c.poll_once.ensures.tree.later stays
-      | inr gain ↦ stands_on images old new (λ from image early left. g.met.D.Disk.counts_now old from image early left) session laws c.requires.stands.each gain.after gain.added _ _ (trees.world c.args.tree.now) (trees.world c.poll_once.new.tree) c.poll_once.ensures.tree.later gain.comes gain.pass gain.crash
+      | inl stays ↦ stands_still images old new (λ from image early left. g.met.D.Disk.counts_now old from image early left) session own c.requires.stands.each (trees.world c.args.tree.now) (trees.world c.poll_once.new.tree) c.poll_once.ensures.tree.later stays
+      | inr gain ↦ stands_on images old new (λ from image early left. g.met.D.Disk.counts_now old from image early left) session own c.requires.stands.each gain.after gain.added _ _ (trees.world c.args.tree.now) (trees.world c.poll_once.new.tree) c.poll_once.ensures.tree.later gain.comes gain.pass gain.crash
     ]
 
 pub returns-clause-full : goal.returns-clause-full

@@ -1,21 +1,22 @@
-use Rattle.std.proofs.Common.{◌≡◌, ℕ, List, Err, Option, refl, sym, ap, subst, ◌∙◌, arith, inl, inr}
+use Rattle.std.proofs.Common.{◌≡◌, length, Err, Option, refl, sym, ap, subst, ◌∙◌, arith, inl, inr}
 use Rattle.std.proofs.lemmas.Result.{err_from_is_err_and}
+use Rattle.checkpoint_store.specs.Limits.{newest}
+use Rattle.checkpoint_store.specs.Rules.{beside_of}
 use Rattle.file_pass.specs.Sane.{AreSaneRows}
-use Rattle.pipeline.specs.AsRules.{rules_of}
 use Rattle.file_pass.specs.declared.taking.Taking.{Taking}
 use Rattle.checkpoint_journal.specs.declared.journal.Journal.{Journal}
-use Rattle.poll_core.proofs.PassLemmas.{cause_of_pass, cause_of_poll, full_of_pass, worn_of_pass}
+use Rattle.poll_core.proofs.PassLemmas.{cause_of_pass, cause_of_poll, full_of_pass, not_err, worn_of_pass}
 use Rattle.poll_core.proofs.PollDisk.{stays_pass}
 use Rattle.poll_core.proofs.PollFull.{overflows_by}
-use Rattle.poll_core.proofs.PollRows.{sane_rows, set_up}
-use Rattle.poll_core.proofs.PollWhole.{early, first_of, has_to_keep, lawful_after, may_gain, next_session, polled, savable_after, slots_after}
+use Rattle.poll_core.proofs.PollRows.{later_by, poll_by, sane_rows, set_up, times_of}
+use Rattle.poll_core.proofs.PollWhole.{early, first_of, has_to_keep, lawful_own, may_gain, next_session, polled, savable_own, slots_after}
 use Rattle.poll_core.proofs.session.Session.poll_once.Goals as goal
-use Rattle.poll_core.specs.Polled.{is_first}
+use Rattle.poll_core.specs.SessionParts.{poll_of_session}
 use Rattle.poll_core.specs.declared.poll_fault.PollFault.TheVariants.{OutputFull, Worn}
 use Rattle.poll_core.specs.declared.session.Session.{Session}
 use Rattle.poll_core.specs.declared.summary.Summary.{Summary}
 use Rattle.slot_store.proofs.OnlyReading.{keeps_terms_then}
-use Rattle.standing.specs.Rules.{Rules}
+use Rattle.standing.specs.Poll.{Poll}
 use Rattle.tree_walk.specs.declared.walk.Walk.{Walk}
 
 pub pass-requires-clause-setup : goal.pass-requires-clause-setup
@@ -24,9 +25,12 @@ pass-requires-clause-setup g c = (c.requires.limits, omega (arith, c.max.ensures
 pub pass-requires-clause-rows : goal.pass-requires-clause-rows
 pass-requires-clause-rows g c =
     let session = c.args.self in
-    let same : rules_of c.as_slice.result.now session.pipeline ≡ rules_of session.settings session.pipeline = ap (λ (t : List ℕ). rules_of t session.pipeline) c.as_slice.ensures in
-    subst (λ (rules : Rules). AreSaneRows rules session.kept session.tracker) (sym same)
-    (sane_rows (rules_of session.settings session.pipeline) session.kept session.tracker c.requires.session.lawful.rows c.requires.session.states)
+    let same = poll_by session _ _ _ _ c.last_text.ensures (ap length c.as_slice.ensures) (first_of session.journal c.is_none.result c.is_none.ensures) c.stamp_of-stamp.ensures in
+    subst (λ (poll : Poll). AreSaneRows poll session.kept session.tracker) (sym same)
+    (sane_rows (poll_of_session session) (beside_of newest session.eras session.kept) session.tracker refl refl c.requires.session.lawful.rows c.requires.session.states)
+
+pub pass-requires-clause-era : goal.pass-requires-clause-era
+pass-requires-clause-era g c = omega (arith, c.requires.session.lawful.eras.some, ap length c.as_slice.ensures)
 
 pub pass-requires-clause-few : goal.pass-requires-clause-few
 pass-requires-clause-few g c = omega (arith, c.requires.session.lawful.next_id.1)
@@ -58,10 +62,9 @@ returns-in_err-walk-clause-early g c = λ fewer. stays_pass g.D.Disk.meaning c.a
 pub returns-in_err-walk-clause-full : goal.returns-in_err-walk-clause-full
 returns-in_err-walk-clause-full g c = λ size is.
     let session = c.args.self in
-    let same : rules_of c.as_slice.result.now session.pipeline ≡ rules_of session.settings session.pipeline = ap (λ (t : List ℕ). rules_of t session.pipeline) c.as_slice.ensures in
-    let first : c.is_none.result ≡ is_first session = first_of session.journal c.is_none.result c.is_none.ensures in
+    let same = poll_by session _ _ _ _ c.last_text.ensures (ap length c.as_slice.ensures) (first_of session.journal c.is_none.result c.is_none.ensures) c.stamp_of-stamp.ensures in
     overflows_by g.T.Tree.meaning session _ size c.args.tree.now c.pass.new.tree (c.in_err-walk.ensures.full size (ap Err (full_of_pass c.in_err-walk.field-0.0 size (rw is at c.from_residual.ensures.1))))
-    same first c.max.ensures (λ mark. c.requires.rules.lines.not_empty mark)
+    same c.max.ensures (λ mark. c.requires.rules.lines.not_empty mark)
 
 pub returns-in_err-walk-clause-worn : goal.returns-in_err-walk-clause-worn
 returns-in_err-walk-clause-worn g c = λ sequence is. absurd (worn_of_pass c.in_err-walk.field-0.0 sequence (rw is at c.from_residual.ensures.1))
@@ -82,9 +85,9 @@ returns-in_err-walk-clause-terms g c = c.pass.ensures.disk.terms
 pub keep-requires-clause-lawful : goal.keep-requires-clause-lawful
 keep-requires-clause-lawful g c =
     let session = c.args.self in
-    let same : rules_of c.as_slice.result.now session.pipeline ≡ rules_of session.settings session.pipeline = ap (λ (t : List ℕ). rules_of t session.pipeline) c.as_slice.ensures in
-    let first : c.is_none.result ≡ is_first session = first_of session.journal c.is_none.result c.is_none.ensures in
-    lawful_after g.T.Tree.meaning g.D.Disk.meaning session c.requires.session c.requires.rules _ c.in_ok-walk.walk c.in_ok-walk.taking c.args.tree.now c.pass.new.tree c.args.disk.now c.pass.new.disk c.in_ok-walk.ensures.ok (set_up session _ c.requires.session same c.max.ensures) first c.max.ensures c.requires.stands c.pass.ensures.disk c.as_slice-2.result.now c.as_slice-2.ensures
+    let same = poll_by session _ _ _ _ c.last_text.ensures (ap length c.as_slice.ensures) (first_of session.journal c.is_none.result c.is_none.ensures) c.stamp_of-stamp.ensures in
+    let times = times_of session _ _ _ c.stamp_of-stamp.ensures c.kept_time.ensures in
+    lawful_own g.T.Tree.meaning g.D.Disk.meaning session c.requires.session c.requires.rules _ c.in_ok-walk.walk c.in_ok-walk.taking c.args.tree.now c.pass.new.tree c.args.disk.now c.pass.new.disk c.in_ok-walk.ensures.ok _ (set_up session _ _ c.requires.session same c.max.ensures (later_by session _ _ c.requires.session times)) times c.max.ensures c.requires.stands c.pass.ensures.disk
 
 pub keep-requires-clause-flags : goal.keep-requires-clause-flags
 keep-requires-clause-flags g c =
@@ -97,16 +100,16 @@ keep-requires-clause-short g c =
 pub keep-requires-clause-savable : goal.keep-requires-clause-savable
 keep-requires-clause-savable g c =
     let session = c.args.self in
-    let same : rules_of c.as_slice.result.now session.pipeline ≡ rules_of session.settings session.pipeline = ap (λ (t : List ℕ). rules_of t session.pipeline) c.as_slice.ensures in
-    let first : c.is_none.result ≡ is_first session = first_of session.journal c.is_none.result c.is_none.ensures in
-    savable_after g.T.Tree.meaning g.D.Disk.meaning session c.requires.session c.requires.rules _ c.in_ok-walk.walk c.in_ok-walk.taking c.args.tree.now c.pass.new.tree c.args.disk.now c.pass.new.disk c.in_ok-walk.ensures.ok (set_up session _ c.requires.session same c.max.ensures) first c.max.ensures c.requires.stands c.pass.ensures.disk c.as_slice-2.result.now c.as_slice-2.ensures
+    let same = poll_by session _ _ _ _ c.last_text.ensures (ap length c.as_slice.ensures) (first_of session.journal c.is_none.result c.is_none.ensures) c.stamp_of-stamp.ensures in
+    let times = times_of session _ _ _ c.stamp_of-stamp.ensures c.kept_time.ensures in
+    savable_own g.T.Tree.meaning g.D.Disk.meaning session c.requires.session c.requires.rules _ c.in_ok-walk.walk c.in_ok-walk.taking c.args.tree.now c.pass.new.tree c.args.disk.now c.pass.new.disk c.in_ok-walk.ensures.ok _ (set_up session _ _ c.requires.session same c.max.ensures (later_by session _ _ c.requires.session times)) times c.max.ensures c.requires.stands c.pass.ensures.disk
 
 pub keep-requires-clause-slots : goal.keep-requires-clause-slots
 keep-requires-clause-slots g c =
     let session = c.args.self in
-    let same : rules_of c.as_slice.result.now session.pipeline ≡ rules_of session.settings session.pipeline = ap (λ (t : List ℕ). rules_of t session.pipeline) c.as_slice.ensures in
-    let first : c.is_none.result ≡ is_first session = first_of session.journal c.is_none.result c.is_none.ensures in
-    slots_after g.T.Tree.meaning g.D.Disk.meaning session c.requires.session c.requires.rules _ c.in_ok-walk.walk c.in_ok-walk.taking c.args.tree.now c.pass.new.tree c.args.disk.now c.pass.new.disk c.in_ok-walk.ensures.ok (set_up session _ c.requires.session same c.max.ensures) first c.max.ensures c.requires.stands c.pass.ensures.disk
+    let same = poll_by session _ _ _ _ c.last_text.ensures (ap length c.as_slice.ensures) (first_of session.journal c.is_none.result c.is_none.ensures) c.stamp_of-stamp.ensures in
+    let times = times_of session _ _ _ c.stamp_of-stamp.ensures c.kept_time.ensures in
+    slots_after g.T.Tree.meaning g.D.Disk.meaning session c.requires.session c.requires.rules _ c.in_ok-walk.walk c.in_ok-walk.taking c.args.tree.now c.pass.new.tree c.args.disk.now c.pass.new.disk c.in_ok-walk.ensures.ok _ (set_up session _ _ c.requires.session same c.max.ensures (later_by session _ _ c.requires.session times)) times c.max.ensures c.requires.stands c.pass.ensures.disk
 
 -- ---- keeping failed
 
@@ -123,16 +126,16 @@ returns-in_err-journal-clause-ok g c =
 pub returns-in_err-journal-clause-crash : goal.returns-in_err-journal-clause-crash
 returns-in_err-journal-clause-crash g c =
     let session = c.args.self in
-    let same : rules_of c.as_slice.result.now session.pipeline ≡ rules_of session.settings session.pipeline = ap (λ (t : List ℕ). rules_of t session.pipeline) c.as_slice.ensures in
-    let first : c.is_none.result ≡ is_first session = first_of session.journal c.is_none.result c.is_none.ensures in
-    inr (may_gain g.T.Tree.meaning g.D.Disk.meaning session c.requires.session c.requires.rules _ c.in_ok-walk.walk c.in_ok-walk.taking c.args.tree.now c.pass.new.tree c.args.disk.now c.pass.new.disk c.in_ok-walk.ensures.ok (set_up session _ c.requires.session same c.max.ensures) first c.max.ensures c.requires.stands c.pass.ensures.disk (λ image left. g.met.D.Disk.told c.args.disk.now image left) (λ tells. g.met.D.Disk.shown c.args.disk.now tells) c.as_slice-2.result.now c.as_slice-2.ensures c.keep.new.disk c.keep.ensures.crash c.keep.ensures.costs)
+    let same = poll_by session _ _ _ _ c.last_text.ensures (ap length c.as_slice.ensures) (first_of session.journal c.is_none.result c.is_none.ensures) c.stamp_of-stamp.ensures in
+    let times = times_of session _ _ _ c.stamp_of-stamp.ensures c.kept_time.ensures in
+    inr (may_gain g.T.Tree.meaning g.D.Disk.meaning session c.requires.session c.requires.rules _ c.in_ok-walk.walk c.in_ok-walk.taking c.args.tree.now c.pass.new.tree c.args.disk.now c.pass.new.disk c.in_ok-walk.ensures.ok _ (set_up session _ _ c.requires.session same c.max.ensures (later_by session _ _ c.requires.session times)) times c.max.ensures c.requires.stands c.pass.ensures.disk (λ image left. g.met.D.Disk.told c.args.disk.now image left) (λ tells. g.met.D.Disk.shown c.args.disk.now tells) c.keep.new.disk c.keep.ensures.crash c.keep.ensures.costs)
 
 pub returns-in_err-journal-clause-early : goal.returns-in_err-journal-clause-early
 returns-in_err-journal-clause-early g c =
     let session = c.args.self in
-    let same : rules_of c.as_slice.result.now session.pipeline ≡ rules_of session.settings session.pipeline = ap (λ (t : List ℕ). rules_of t session.pipeline) c.as_slice.ensures in
-    let first : c.is_none.result ≡ is_first session = first_of session.journal c.is_none.result c.is_none.ensures in
-    early g.T.Tree.meaning g.D.Disk.meaning session c.requires.session c.requires.rules _ c.in_ok-walk.walk c.in_ok-walk.taking c.args.tree.now c.pass.new.tree c.args.disk.now c.pass.new.disk c.in_ok-walk.ensures.ok (set_up session _ c.requires.session same c.max.ensures) first c.max.ensures c.requires.stands c.pass.ensures.disk (λ image left. g.met.D.Disk.told c.args.disk.now image left) (λ tells. g.met.D.Disk.shown c.args.disk.now tells) c.as_slice-2.result.now c.keep.new.disk c.keep.ensures.crash c.keep.ensures.early
+    let same = poll_by session _ _ _ _ c.last_text.ensures (ap length c.as_slice.ensures) (first_of session.journal c.is_none.result c.is_none.ensures) c.stamp_of-stamp.ensures in
+    let times = times_of session _ _ _ c.stamp_of-stamp.ensures c.kept_time.ensures in
+    early g.T.Tree.meaning g.D.Disk.meaning session c.requires.session c.requires.rules _ c.in_ok-walk.walk c.in_ok-walk.taking c.args.tree.now c.pass.new.tree c.args.disk.now c.pass.new.disk c.in_ok-walk.ensures.ok _ (set_up session _ _ c.requires.session same c.max.ensures (later_by session _ _ c.requires.session times)) times c.max.ensures c.requires.stands c.pass.ensures.disk (λ image left. g.met.D.Disk.told c.args.disk.now image left) (λ tells. g.met.D.Disk.shown c.args.disk.now tells) c.keep.new.disk c.keep.ensures.crash c.keep.ensures.early
 
 pub returns-in_err-journal-clause-full : goal.returns-in_err-journal-clause-full
 returns-in_err-journal-clause-full g c = λ size is.
@@ -144,9 +147,9 @@ returns-in_err-journal-clause-worn g c = λ sequence is.
     let fault : Worn sequence ≡ c.in_err-journal.field-0.0 = rw is at c.from_residual-in_err-journal.ensures.1 in
     let worn = c.in_err-journal.ensures.worn sequence (ap Err (sym fault)) in
     let session = c.args.self in
-    let same : rules_of c.as_slice.result.now session.pipeline ≡ rules_of session.settings session.pipeline = ap (λ (t : List ℕ). rules_of t session.pipeline) c.as_slice.ensures in
-    let first : c.is_none.result ≡ is_first session = first_of session.journal c.is_none.result c.is_none.ensures in
-    (worn.0, worn.1, has_to_keep g.T.Tree.meaning g.D.Disk.meaning session c.requires.session c.requires.rules _ c.in_ok-walk.walk c.in_ok-walk.taking c.args.tree.now c.pass.new.tree c.args.disk.now c.pass.new.disk c.in_ok-walk.ensures.ok (set_up session _ c.requires.session same c.max.ensures) first c.max.ensures c.requires.stands c.pass.ensures.disk (λ image left. g.met.D.Disk.told c.args.disk.now image left) (λ tells. g.met.D.Disk.shown c.args.disk.now tells) worn.2)
+    let same = poll_by session _ _ _ _ c.last_text.ensures (ap length c.as_slice.ensures) (first_of session.journal c.is_none.result c.is_none.ensures) c.stamp_of-stamp.ensures in
+    let times = times_of session _ _ _ c.stamp_of-stamp.ensures c.kept_time.ensures in
+    (worn.0, worn.1, has_to_keep g.T.Tree.meaning g.D.Disk.meaning session c.requires.session c.requires.rules _ c.in_ok-walk.walk c.in_ok-walk.taking c.args.tree.now c.pass.new.tree c.args.disk.now c.pass.new.disk c.in_ok-walk.ensures.ok _ (set_up session _ _ c.requires.session same c.max.ensures (later_by session _ _ c.requires.session times)) times c.max.ensures c.requires.stands c.pass.ensures.disk (λ image left. g.met.D.Disk.told c.args.disk.now image left) (λ tells. g.met.D.Disk.shown c.args.disk.now tells) worn.2)
 
 pub returns-in_err-journal-clause-tree : goal.returns-in_err-journal-clause-tree
 returns-in_err-journal-clause-tree g c =
@@ -163,46 +166,46 @@ returns-in_err-journal-clause-terms g c =
 
 -- ---- all went through
 
-pub same-settings : goal.same-settings
-same-settings g c =
+pub same-eras : goal.same-eras
+same-eras g c =
     refl
 
 pub returns-clause-session : goal.returns-clause-session
 returns-clause-session g c =
     let session = c.args.self in
-    let same : rules_of c.as_slice.result.now session.pipeline ≡ rules_of session.settings session.pipeline = ap (λ (t : List ℕ). rules_of t session.pipeline) c.as_slice.ensures in
-    let first : c.is_none.result ≡ is_first session = first_of session.journal c.is_none.result c.is_none.ensures in
-    next_session g.T.Tree.meaning g.D.Disk.meaning session c.requires.session c.requires.rules _ c.in_ok-walk.walk c.in_ok-walk.taking c.args.tree.now c.pass.new.tree c.args.disk.now c.pass.new.disk c.in_ok-walk.ensures.ok (set_up session _ c.requires.session same c.max.ensures) first c.max.ensures c.requires.stands c.pass.ensures.disk (λ image left. g.met.D.Disk.told c.args.disk.now image left) (λ tells. g.met.D.Disk.shown c.args.disk.now tells) c.as_slice-2.result.now c.as_slice-2.ensures c.in_ok-journal.journal c.keep.new.disk c.in_ok-journal.ensures.kept
+    let same = poll_by session _ _ _ _ c.last_text.ensures (ap length c.as_slice.ensures) (first_of session.journal c.is_none.result c.is_none.ensures) c.stamp_of-stamp.ensures in
+    let times = times_of session _ _ _ c.stamp_of-stamp.ensures c.kept_time.ensures in
+    next_session g.T.Tree.meaning g.D.Disk.meaning session c.requires.session c.requires.rules _ c.in_ok-walk.walk c.in_ok-walk.taking c.args.tree.now c.pass.new.tree c.args.disk.now c.pass.new.disk c.in_ok-walk.ensures.ok _ (set_up session _ _ c.requires.session same c.max.ensures (later_by session _ _ c.requires.session times)) times c.max.ensures c.requires.stands c.pass.ensures.disk (λ image left. g.met.D.Disk.told c.args.disk.now image left) (λ tells. g.met.D.Disk.shown c.args.disk.now tells) c.in_ok-journal.journal c.keep.new.disk c.in_ok-journal.ensures.kept
 
 pub returns-clause-ok : goal.returns-clause-ok
 returns-clause-ok g c =
     let session = c.args.self in
-    let same : rules_of c.as_slice.result.now session.pipeline ≡ rules_of session.settings session.pipeline = ap (λ (t : List ℕ). rules_of t session.pipeline) c.as_slice.ensures in
-    let first : c.is_none.result ≡ is_first session = first_of session.journal c.is_none.result c.is_none.ensures in
-    polled g.T.Tree.meaning g.D.Disk.meaning session c.requires.session c.requires.rules _ c.in_ok-walk.walk c.in_ok-walk.taking c.args.tree.now c.pass.new.tree c.args.disk.now c.pass.new.disk c.in_ok-walk.ensures.ok (set_up session _ c.requires.session same c.max.ensures) first c.max.ensures c.requires.stands c.pass.ensures.disk (λ image left. g.met.D.Disk.told c.args.disk.now image left) (λ tells. g.met.D.Disk.shown c.args.disk.now tells) c.as_slice-2.result.now c.as_slice-2.ensures c.in_ok-journal.journal c.keep.new.disk c.of-summary.result
+    let same = poll_by session _ _ _ _ c.last_text.ensures (ap length c.as_slice.ensures) (first_of session.journal c.is_none.result c.is_none.ensures) c.stamp_of-stamp.ensures in
+    let times = times_of session _ _ _ c.stamp_of-stamp.ensures c.kept_time.ensures in
+    polled g.T.Tree.meaning g.D.Disk.meaning session c.requires.session c.requires.rules _ c.in_ok-walk.walk c.in_ok-walk.taking c.args.tree.now c.pass.new.tree c.args.disk.now c.pass.new.disk c.in_ok-walk.ensures.ok _ (set_up session _ _ c.requires.session same c.max.ensures (later_by session _ _ c.requires.session times)) times c.max.ensures c.requires.stands c.pass.ensures.disk (λ image left. g.met.D.Disk.told c.args.disk.now image left) (λ tells. g.met.D.Disk.shown c.args.disk.now tells) c.in_ok-journal.journal c.keep.new.disk c.of-summary.result
     (λ image left. sym (c.keep.ensures.terms.tells ∙ c.pass.ensures.disk.terms.tells) ∙ g.met.D.Disk.told c.keep.new.disk image left) (g.met.T.Tree.lawful c.pass.new.tree) c.of-summary.ensures c.in_ok-journal.ensures.kept c.keep.ensures.costs
 
 pub returns-clause-crash : goal.returns-clause-crash
 returns-clause-crash g c =
     let session = c.args.self in
-    let same : rules_of c.as_slice.result.now session.pipeline ≡ rules_of session.settings session.pipeline = ap (λ (t : List ℕ). rules_of t session.pipeline) c.as_slice.ensures in
-    let first : c.is_none.result ≡ is_first session = first_of session.journal c.is_none.result c.is_none.ensures in
-    inr (may_gain g.T.Tree.meaning g.D.Disk.meaning session c.requires.session c.requires.rules _ c.in_ok-walk.walk c.in_ok-walk.taking c.args.tree.now c.pass.new.tree c.args.disk.now c.pass.new.disk c.in_ok-walk.ensures.ok (set_up session _ c.requires.session same c.max.ensures) first c.max.ensures c.requires.stands c.pass.ensures.disk (λ image left. g.met.D.Disk.told c.args.disk.now image left) (λ tells. g.met.D.Disk.shown c.args.disk.now tells) c.as_slice-2.result.now c.as_slice-2.ensures c.keep.new.disk c.keep.ensures.crash c.keep.ensures.costs)
+    let same = poll_by session _ _ _ _ c.last_text.ensures (ap length c.as_slice.ensures) (first_of session.journal c.is_none.result c.is_none.ensures) c.stamp_of-stamp.ensures in
+    let times = times_of session _ _ _ c.stamp_of-stamp.ensures c.kept_time.ensures in
+    inr (may_gain g.T.Tree.meaning g.D.Disk.meaning session c.requires.session c.requires.rules _ c.in_ok-walk.walk c.in_ok-walk.taking c.args.tree.now c.pass.new.tree c.args.disk.now c.pass.new.disk c.in_ok-walk.ensures.ok _ (set_up session _ _ c.requires.session same c.max.ensures (later_by session _ _ c.requires.session times)) times c.max.ensures c.requires.stands c.pass.ensures.disk (λ image left. g.met.D.Disk.told c.args.disk.now image left) (λ tells. g.met.D.Disk.shown c.args.disk.now tells) c.keep.new.disk c.keep.ensures.crash c.keep.ensures.costs)
 
 pub returns-clause-early : goal.returns-clause-early
 returns-clause-early g c =
     let session = c.args.self in
-    let same : rules_of c.as_slice.result.now session.pipeline ≡ rules_of session.settings session.pipeline = ap (λ (t : List ℕ). rules_of t session.pipeline) c.as_slice.ensures in
-    let first : c.is_none.result ≡ is_first session = first_of session.journal c.is_none.result c.is_none.ensures in
-    early g.T.Tree.meaning g.D.Disk.meaning session c.requires.session c.requires.rules _ c.in_ok-walk.walk c.in_ok-walk.taking c.args.tree.now c.pass.new.tree c.args.disk.now c.pass.new.disk c.in_ok-walk.ensures.ok (set_up session _ c.requires.session same c.max.ensures) first c.max.ensures c.requires.stands c.pass.ensures.disk (λ image left. g.met.D.Disk.told c.args.disk.now image left) (λ tells. g.met.D.Disk.shown c.args.disk.now tells) c.as_slice-2.result.now c.keep.new.disk c.keep.ensures.crash c.keep.ensures.early
+    let same = poll_by session _ _ _ _ c.last_text.ensures (ap length c.as_slice.ensures) (first_of session.journal c.is_none.result c.is_none.ensures) c.stamp_of-stamp.ensures in
+    let times = times_of session _ _ _ c.stamp_of-stamp.ensures c.kept_time.ensures in
+    early g.T.Tree.meaning g.D.Disk.meaning session c.requires.session c.requires.rules _ c.in_ok-walk.walk c.in_ok-walk.taking c.args.tree.now c.pass.new.tree c.args.disk.now c.pass.new.disk c.in_ok-walk.ensures.ok _ (set_up session _ _ c.requires.session same c.max.ensures (later_by session _ _ c.requires.session times)) times c.max.ensures c.requires.stands c.pass.ensures.disk (λ image left. g.met.D.Disk.told c.args.disk.now image left) (λ tells. g.met.D.Disk.shown c.args.disk.now tells) c.keep.new.disk c.keep.ensures.crash c.keep.ensures.early
 
 pub returns-clause-full : goal.returns-clause-full
 returns-clause-full g c =
-    λ size is. absurd (cc)
+    λ size is. absurd (not_err _ _ is)
 
 pub returns-clause-worn : goal.returns-clause-worn
 returns-clause-worn g c =
-    λ sequence is. absurd (cc)
+    λ sequence is. absurd (not_err _ _ is)
 
 pub returns-clause-tree : goal.returns-clause-tree
 returns-clause-tree g c =

@@ -10,7 +10,7 @@ use Rattle.stream_lines.proofs.StreamLemmas.{CutLaws, OutputLaws, none_open, not
 use Rattle.stream_lines.proofs.stream.Stream.new.Goals as goal
 
 pub returns-clause-taken : goal.returns-clause-taken
-returns-clause-taken c =
+returns-clause-taken c = λ observed.
     let pipeline = c.args.pipeline.now in
     let first = first_cut_of (settings_of pipeline) in
     let rule : IsCutRule first = c.tokens_are_cut_by_a_rule.ensures in
@@ -19,23 +19,23 @@ returns-clause-taken c =
     record {
       stands = subst (λ (cs : List Cut). StandsFor (settings_of pipeline) (network pipeline) stream_path (texts cs) c.in_ok-state.state) (sym (nothing_taken pipeline laws)) (c.in_ok-state.ensures.stands stream_path);
       waits = c.new.ensures.items ∙ sym (drop_all (used_of (settings_of pipeline) []) [] (omega arith));
-      printed = ap (λ l. length (lines_text l)) (sym (none_open pipeline laws out));
+      printed = ap (λ l. length (lines_text l)) (sym (none_open pipeline laws out observed));
     }
 
 pub returns-clause-no_lines : goal.returns-clause-no_lines
-returns-clause-no_lines c =
+returns-clause-no_lines c = λ observed.
     let pipeline = c.args.pipeline.now in
     let first = first_cut_of (settings_of pipeline) in
     let rule : IsCutRule first = c.tokens_are_cut_by_a_rule.ensures in
     let laws : CutLaws first = record { go_on = c.cuts_go_on.ensures first rule; all = c.cuts_up_to_a_bound.ensures.all first rule; within = c.cuts_up_to_a_bound.ensures.within first rule; lasting = c.cuts_up_to_a_bound.ensures.lasting first rule } in
     let out : OutputLaws pipeline = record { none = c.go_on.ensures.none; nothing = c.go_on.ensures.nothing; kept = c.go_on.ensures.kept; given = c.go_on.ensures.given } in
-    none_open pipeline laws out
+    none_open pipeline laws out observed
 
 pub returns-in_err-state-clause-no_lines : goal.returns-in_err-state-clause-no_lines
-returns-in_err-state-clause-no_lines c =
+returns-in_err-state-clause-no_lines c = λ observed.
     let pipeline = c.args.pipeline.now in
     let first = first_cut_of (settings_of pipeline) in
     let rule : IsCutRule first = c.tokens_are_cut_by_a_rule.ensures in
     let laws : CutLaws first = record { go_on = c.cuts_go_on.ensures first rule; all = c.cuts_up_to_a_bound.ensures.all first rule; within = c.cuts_up_to_a_bound.ensures.within first rule; lasting = c.cuts_up_to_a_bound.ensures.lasting first rule } in
     let out : OutputLaws pipeline = record { none = c.go_on.ensures.none; nothing = c.go_on.ensures.nothing; kept = c.go_on.ensures.kept; given = c.go_on.ensures.given } in
-    none_open pipeline laws out
+    none_open pipeline laws out observed

@@ -1,0 +1,9 @@
+pub mod Tears
+pub mod Joining
+pub mod Outputs
+pub mod Changing
+pub mod Cuts
+pub mod Ends
+pub mod Writes
+pub mod Segments
+pub mod Settling
