@@ -1,10 +1,15 @@
-"""The files that patterns match now, and what about them the agent would pass over or take for one another."""
+"""The files that patterns match now, and what about them the agent would skip or take for one another."""
 import os
 import re
 import stat
 from typing import NamedTuple
 
 OWN = re.compile(r"settings\.json|output\.jsonl|checkpoint\.[ab]|output\.[0-9]+\.jsonl")
+# Names of the agent's own files, of an output in many files the first and the last.
+OWN_NAMES = ("output.jsonl", "output.0.jsonl", "output.65535.jsonl", "checkpoint.a", "checkpoint.b", "settings.json")
+# What the package has the agent and its hand-over write to.
+FOLDER = "/var/lib/stanza_agent"
+SPOOLED = "/var/spool/stanza_agent/0000000000000.jsonl"
 MOST_FILES = 65536
 GZIP = b"\x1f\x8b"
 SPECIAL = re.compile(r"[*?\[{\\]")
@@ -103,6 +108,19 @@ def matched(include, exclude, base):
 def is_own(path, base):
     folder, name = os.path.split(os.path.join(base, path))
     return OWN.fullmatch(name) is not None and os.path.realpath(folder) == os.path.realpath(base)
+
+
+def own_file(pattern, exclude, base):
+    """An own file that an absolute pattern leads to, whether it is there yet or not, and the folder to be excluded for it."""
+    folders = dict.fromkeys((os.path.abspath(base), os.path.realpath(base)))
+    own = [(f"{folder}/{name}", folder) for name in OWN_NAMES for folder in folders]
+    if FOLDER in folders:
+        own.append((SPOOLED, os.path.dirname(SPOOLED)))
+    form, excluded = compiled(pattern), [compiled(it) for it in exclude]
+    for path, folder in own:
+        if form.fullmatch(path) and not any(it.fullmatch(path) for it in excluded):
+            return path, folder
+    return None
 
 
 def fronts(files, base, size):

@@ -14,7 +14,7 @@ def measured(settings, path, raw, program):
     said, lines = program.records(settings, inside, whole)
     told = [] if lines or said.startswith("files=") else [said]
     if len(raw) > MOST_BYTES:
-        told.append(f"the first {len(whole):,} bytes of {path} were taken")
+        told.append(f"the first {len(whole):,} bytes of {path} were read")
     if whole and not whole.endswith(b"\n"):
         told.append(f"the last line of {path} has no line end, so it waits")
     return lines, told + list(faults(settings, inside, whole, program))

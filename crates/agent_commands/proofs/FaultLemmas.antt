@@ -1,7 +1,6 @@
 -- What faults of calls are for a command.
 use Rattle.std.proofs.Common.{◌≡◌, ℕ, List, IsTrue, refl, sym, subst, inl}
 use Rattle.std.specs.Prelude.{Err}
-use Rattle.checkpoint_journal.specs.JournalCause.{HasJournalCause}
 use Rattle.checkpoint_journal.specs.JournalOf.{IsBadAt}
 use Rattle.checkpoint_journal.specs.Written.{IsWorn}
 use Rattle.checkpoint_journal.specs.declared.fault.JournalFault.{JournalFault}
@@ -14,10 +13,9 @@ use Rattle.outside.specs.TreeMeaning.{TreeMeaning}
 use Rattle.outside.specs.World.{Told}
 use Rattle.outside.specs.declared.disk.DiskFile.{DiskFile}
 use Rattle.outside.specs.declared.disk.DiskFile.TheVariants as file
-use Rattle.poll_core.specs.OpenCause.{HasOpenCause, IsOfContents, IsOfSettings}
+use Rattle.poll_core.specs.OpenCause.{IsOfContents, IsOfSettings}
 use Rattle.poll_core.specs.OpenFaults.{IsNotBuilt, IsRefused, IsSettingsRefusal}
 use Rattle.poll_core.specs.Overflows.{Overflows}
-use Rattle.poll_core.specs.PollCause.{HasPollCause}
 use Rattle.poll_core.specs.Reopens.{Reopens}
 use Rattle.poll_core.specs.SessionParts.{journal_of_session}
 use Rattle.poll_core.specs.declared.fault.OpenFault.{OpenFault}
@@ -26,41 +24,16 @@ use Rattle.poll_core.specs.declared.poll_fault.PollFault.{PollFault}
 use Rattle.poll_core.specs.declared.poll_fault.PollFault.TheVariants as polling
 use Rattle.poll_core.specs.declared.session.Session.{Session}
 use Rattle.settings_text.specs.Grammar as grammar
-use Rattle.agent_commands.specs.Cause.{HasDiskCause, opening_fault, polling_fault, reading_fault}
 use Rattle.agent_commands.specs.Committed.{IsReadingFault}
 use Rattle.agent_commands.specs.Opens.{IsOpeningFault, IsRefusal, IsSettingsFault}
 use Rattle.agent_commands.specs.Turn.{IsPollFault}
-use Rattle.agent_commands.specs.declared.fault.Fault.{Fault}
-use Rattle.agent_commands.specs.declared.fault.Fault.TheVariants.{Usage, Settings, Build, CheckpointBad, SettingsChanged, OutputShort, Disk, Control, Memory, OutputFull, ControlLine, Worn, ControlLong}
-
--- ---- counts
-
-pub polling_cause : (T U : Type 0) (fault : PollFault) (before after : ℕ) → HasPollCause {T = T} (Err fault) before after → HasDiskCause {T = U} (Err (polling_fault fault)) before after
-polling_cause T U polling.Disk before after cause = cause
-polling_cause T U (polling.OutputFull _) before after cause = cause
-polling_cause T U (polling.Worn _) before after cause = cause
-polling_cause T U polling.Memory before after cause = cause
-
-pub opening_cause : (T U : Type 0) (fault : OpenFault) (before after : ℕ) → HasOpenCause {T = T} (Err fault) before after → HasDiskCause {T = U} (Err (opening_fault fault)) before after
-opening_cause T U (opening.Settings _) before after cause = cause
-opening_cause T U (opening.Build _) before after cause = cause
-opening_cause T U opening.Disk before after cause = cause
-opening_cause T U (opening.CheckpointBad _) before after cause = cause
-opening_cause T U (opening.SettingsChanged _) before after cause = cause
-opening_cause T U (opening.OutputShort _ _) before after cause = cause
-opening_cause T U opening.Memory before after cause = cause
-
-pub reading_cause : (T U : Type 0) (fault : JournalFault) (before after : ℕ) → HasJournalCause {T = T} (Err fault) before after → HasDiskCause {T = U} (Err (reading_fault fault)) before after
-reading_cause T U journal.Disk before after cause = cause
-reading_cause T U (journal.Bad _) before after cause = cause
-reading_cause T U journal.Memory before after cause = cause
 
 -- ---- polls
 
 pub poll_fault : {T : Type 0} (trees : TreeMeaning T) (session : Session) (tree tree_after : T) (fault : PollFault)
     → ((size : ℕ) → fault ≡ polling.OutputFull size → Told (Overflows session size) (trees.world tree) (trees.world tree_after))
     → ((sequence : ℕ) → fault ≡ polling.Worn sequence → IsWorn (journal_of_session session))
-    → IsPollFault trees session tree tree_after (polling_fault fault)
+    → IsPollFault trees session tree tree_after fault
 poll_fault trees session tree tree_after polling.Disk full worn = tt
 poll_fault trees session tree tree_after (polling.OutputFull size) full worn = full size refl
 poll_fault trees session tree tree_after (polling.Worn sequence) full worn = worn sequence refl
@@ -89,7 +62,7 @@ module _ {D : Type 0} (images : Images DiskFile D) (old mid : D) where
       (subst (λ (image : Image DiskFile). IsRefused text image fault) read.seen (refused (subst IsTrue (sym read.tells) told)))
 
   pub opening_refusal : (text : List ℕ) (fault : OpenFault) → HasRead text → IsSettingsRefusal text fault
-      → (IsTrue (images.tells mid) → IsOfContents fault → IsRefused text (images.seen mid) fault) → IsOpeningFault images old (opening_fault fault)
+      → (IsTrue (images.tells mid) → IsOfContents fault → IsRefused text (images.seen mid) fault) → IsOpeningFault images old fault
   opening_refusal text (opening.Settings fault) read refusal contents = λ told. subst (λ (t : List ℕ). grammar.settings t ≡ Err fault) (read.text_is told) refusal.1
   opening_refusal text (opening.Build fault) read refusal contents = λ told. subst (λ (t : List ℕ). IsNotBuilt t fault) (read.text_is told) refusal.1
   opening_refusal text opening.Disk read refusal contents = tt
@@ -102,7 +75,7 @@ module _ {D : Type 0} (images : Images DiskFile D) (old mid : D) where
   untouched_by_settings new read same = subst (λ d. Passes images Same old d) (sym same) read
 
   pub opening_untouched : (fault : OpenFault) (new : D) → Passes images Same old mid → (IsOfSettings fault → new ≡ mid)
-      → (IsOfContents fault → Passes images Same mid new) → IsRefusal (opening_fault fault) → Passes images Same old new
+      → (IsOfContents fault → Passes images Same mid new) → IsRefusal fault → Passes images Same old new
   opening_untouched (opening.Settings _) new read settings contents refusal = untouched_by_settings new read (settings tt)
   opening_untouched (opening.Build _) new read settings contents refusal = untouched_by_settings new read (settings tt)
   opening_untouched opening.Disk new read settings contents refusal = absurd refusal
@@ -118,25 +91,19 @@ module _ {D : Type 0} (images : Images DiskFile D) (old mid : D) where
   read_reopens read = passes_by read (λ x y left same. subst (λ z. Reopens x z) (sym same) (reopens_same x))
 
   -- a fault of the settings file is one of opening, and where it is a refusal the disk was only read
-  pub settings_fault_opens : (fault : Fault) → IsSettingsFault images old fault → IsOpeningFault images old fault
-  settings_fault_opens (Settings fault) cause = cause
-  settings_fault_opens Disk cause = tt
-  settings_fault_opens Memory cause = tt
-  settings_fault_opens (Build _) cause = absurd cause
-  settings_fault_opens (CheckpointBad _) cause = absurd cause
-  settings_fault_opens (SettingsChanged _) cause = absurd cause
-  settings_fault_opens (OutputShort _ _) cause = absurd cause
-  settings_fault_opens Usage cause = absurd cause
-  settings_fault_opens Control cause = absurd cause
-  settings_fault_opens (OutputFull _) cause = absurd cause
-  settings_fault_opens (ControlLine _) cause = absurd cause
-  settings_fault_opens Worn cause = absurd cause
-  settings_fault_opens ControlLong cause = absurd cause
+  pub settings_fault_opens : (fault : OpenFault) → IsSettingsFault images old fault → IsOpeningFault images old fault
+  settings_fault_opens (opening.Settings fault) cause = cause
+  settings_fault_opens opening.Disk cause = tt
+  settings_fault_opens opening.Memory cause = tt
+  settings_fault_opens (opening.Build _) cause = absurd cause
+  settings_fault_opens (opening.CheckpointBad _) cause = absurd cause
+  settings_fault_opens (opening.SettingsChanged _) cause = absurd cause
+  settings_fault_opens (opening.OutputShort _ _) cause = absurd cause
 
 -- ---- the checkpoint alone
 
 pub reading_refusal : {D : Type 0} (images : Images DiskFile D) (disk : D) (fault : JournalFault)
-    → ((at : ℕ) → fault ≡ journal.Bad at → IsTrue (images.tells disk) → IsBadAt at (images.seen disk)) → IsReadingFault images disk (reading_fault fault)
+    → ((at : ℕ) → fault ≡ journal.Bad at → IsTrue (images.tells disk) → IsBadAt at (images.seen disk)) → IsReadingFault images disk fault
 reading_refusal images disk journal.Disk bad = tt
 reading_refusal images disk (journal.Bad at) bad = bad at refl
 reading_refusal images disk journal.Memory bad = tt

@@ -10,3 +10,5 @@ pub mod StatusLemmas
 mod DemoLemmas
 pub mod FollowLemmas
 pub mod FaultLemmas
+pub mod AdoptLemmas
+mod PartsLemmas

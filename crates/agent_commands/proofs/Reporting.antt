@@ -25,3 +25,7 @@ grows_none_told line now = told_same (GrowsByPart line) now (λ text. (0, sym (a
 -- a text with a tail of three parts
 pub joined_tail : (text a b c : List ℕ) → text ++ (a ++ (b ++ c)) ≡ ((text ++ a) ++ b) ++ c
 joined_tail text a b c = sym (append_assoc (text ++ a) b c ∙ append_assoc text a (b ++ c))
+
+-- a text of three parts
+pub joined_words : (text a b : List ℕ) → text ++ (a ++ b) ≡ (text ++ a) ++ b
+joined_words text a b = sym (append_assoc text a b)

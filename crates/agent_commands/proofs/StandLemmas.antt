@@ -13,6 +13,7 @@ use Rattle.outside.specs.declared.disk.DiskFile.TheVariants.{Settings}
 use Rattle.poll_core.proofs.EraLemmas.{SessionEras, before_poll}
 use Rattle.poll_core.proofs.ImageLemmas.{found_kept, standing_still}
 use Rattle.poll_core.proofs.StoodLemmas.{StandsBefore, stands_before}
+use Rattle.poll_core.specs.Adopting.{KeepsStandingIn}
 use Rattle.poll_core.specs.IsSession.{IsSession}
 use Rattle.poll_core.specs.MadeOf.{AreErasOf, HasRules}
 use Rattle.poll_core.specs.Polled.{IsStanding, IsSummed, TreeCounts}
@@ -50,6 +51,17 @@ module _ {D : Type 0} (images : Images DiskFile D) where
   -- what could be left at a moment counts among what could be left since then
   abbrev pub CountsNow : D → Type 0
   CountsNow disk = (from : ℕ) (image : Image DiskFile) → from ≤ images.moment disk → images.may_leave disk image → images.left_since disk from image
+
+  -- nothing was written
+  pub all_same : (history : History) (old new : D) → CountsNow old → Passes images Same old new → KeepsStandingIn images history old new
+  all_same history old new counts passes from early stood image left = elim (passes.since from image early left) [
+    | inl past ↦ stood image past
+    | inr past ↦ subst (λ i. IsStanding history i) (sym past.2) (stood past.0 (counts from past.0 early past.1))
+  ]
+
+  -- nothing was written before
+  pub read_stands : (history : History) (old mid new : D) → CountsNow old → Passes images Same old mid → KeepsStandingIn images history mid new → KeepsStandingIn images history old new
+  read_stands history old mid new counts passes keeps from early stood = keeps from (omega (arith, early, passes.later)) (all_same history old mid counts passes from early stood)
 
   pub all_reopened : (history : History) (old new : D) → CountsNow old → Passes images Reopens old new
       → (from : ℕ) → from ≤ images.moment old → ((image : Image DiskFile) → images.left_since old from image → IsStanding history image)
@@ -107,10 +119,12 @@ module _ {D : Type 0} (images : Images DiskFile D) where
   -- nothing was written
   pub same_stands : (old new : D) (now : Option World) → CountsNow old → Passes images Same old new → Told (KeepsStanding images old new) now now
   same_stands old new None counts passes = tt
-  same_stands old new (Some x) counts passes = λ tells apart from early stood image left. elim (passes.since from image early left) [
-    | inl past ↦ stood image past
-    | inr past ↦ subst (λ i. IsStanding x.history i) (sym past.2) (stood past.0 (counts from past.0 early past.1))
-  ]
+  same_stands old new (Some x) counts passes = λ tells apart from early stood. all_same x.history old new counts passes from early stood
+
+  -- whatever the history is, what stood stands
+  pub all_stands : (old new : D) (now : Option World) → ((history : History) → KeepsStandingIn images history old new) → Told (KeepsStanding images old new) now now
+  all_stands old new None keeps = tt
+  all_stands old new (Some x) keeps = λ tells apart from early stood. keeps x.history from early stood
 
 -- ---- complete polls
 

@@ -1,34 +1,45 @@
 -- What statuses tell.
 use Rattle.std.proofs.Common.{◌≡◌, ℕ, ◌+◌, ◌≤◌, List, refl, sym, ◌∙◌, arith, inl, inr}
 use Rattle.std.specs.Prelude.{◌≢◌, ◌⊎◌, Option, Result, Ok, Err}
+use Rattle.checkpoint_journal.specs.JournalCause.{HasJournalCause}
+use Rattle.checkpoint_journal.specs.declared.fault.JournalFault.{JournalFault}
+use Rattle.checkpoint_journal.specs.declared.fault.JournalFault.TheVariants as journal
 use Rattle.outside.specs.ClockMeaning.{ClockMeaning}
 use Rattle.outside.specs.Count.{HasOneCause, Rose}
 use Rattle.outside.specs.DiskMeaning.{DiskMeaning}
 use Rattle.outside.specs.Images.{Images}
 use Rattle.outside.specs.StreamMeaning.{SinkMeaning}
-use Rattle.outside.specs.TreeMeaning.{TreeMeaning}
 use Rattle.outside.specs.declared.disk.DiskFile.{DiskFile}
 use Rattle.outside.specs.declared.fault.Failed.{Failed}
-use Rattle.poll_core.specs.SessionParts.{session_at}
+use Rattle.poll_core.specs.AdoptCause.{HasAdoptCause}
+use Rattle.poll_core.specs.OpenCause.{HasOpenCause}
+use Rattle.poll_core.specs.PollCause.{HasPollCause}
+use Rattle.poll_core.specs.declared.adopt_fault.AdoptFault.{AdoptFault}
+use Rattle.poll_core.specs.declared.adopt_fault.AdoptFault.TheVariants as adopting
+use Rattle.poll_core.specs.declared.fault.OpenFault.{OpenFault}
+use Rattle.poll_core.specs.declared.fault.OpenFault.TheVariants as opening
+use Rattle.poll_core.specs.declared.poll_fault.PollFault.{PollFault}
+use Rattle.poll_core.specs.declared.poll_fault.PollFault.TheVariants as polling
 use Rattle.poll_core.specs.declared.session.Session.{Session}
-use Rattle.agent_commands.specs.Cause.{HasDiskCause}
+use Rattle.agent_commands.specs.Adopt as adopt
+use Rattle.agent_commands.specs.Adopt.{AdoptEnds}
 use Rattle.agent_commands.specs.Committed as committed
-use Rattle.agent_commands.specs.Committed.{CommittedEnds, IsReadingFault}
+use Rattle.agent_commands.specs.Committed.{CommittedEnds}
 use Rattle.agent_commands.specs.Control.{max_control}
+use Rattle.agent_commands.specs.Faults.{adopting_fault, opening_fault, polling_fault, reading_fault}
 use Rattle.agent_commands.specs.Follow as follow
 use Rattle.agent_commands.specs.Follow.{FollowEnds, Follows, Progress, StopsAt}
 use Rattle.agent_commands.specs.Moment.{Moment, Meanings, moment}
 use Rattle.agent_commands.specs.Once as once
 use Rattle.agent_commands.specs.Once.{IsNotOpened, OnceEnds}
-use Rattle.agent_commands.specs.Opens.{IsOpeningFault}
 use Rattle.agent_commands.specs.Pipe as pipe
-use Rattle.agent_commands.specs.Pipe.{IsPipelineFault, PipeEnds, PipeMoment}
+use Rattle.agent_commands.specs.Pipe.{PipeEnds, PipeMoment}
 use Rattle.agent_commands.specs.Status.{IsStatus, status_of}
-use Rattle.agent_commands.specs.Turn.{IsPollFault, IsTurnStatus, Stops}
+use Rattle.agent_commands.specs.Turn.{IsTurnStatus, Stops}
 use Rattle.agent_commands.specs.declared.control.Request.{Request}
 use Rattle.agent_commands.specs.declared.control.Request.TheVariants.{Poll, Quit, End, Faulty, Exhausted}
 use Rattle.agent_commands.specs.declared.fault.Fault.{Fault}
-use Rattle.agent_commands.specs.declared.fault.Fault.TheVariants.{Usage, Settings, Build, CheckpointBad, SettingsChanged, OutputShort, Disk, Control, Memory, OutputFull, ControlLine, Worn, ControlLong}
+use Rattle.agent_commands.specs.declared.fault.Fault.TheVariants.{Usage, Settings, Build, CheckpointBad, SettingsChanged, OutputShort, Disk, Control, Memory, OutputFull, ControlLine, Worn, ControlLong, NothingKept, Eras, Fingerprint, KeptSettings, KeptBuild}
 
 -- ---- faults
 
@@ -47,6 +58,11 @@ some_fault (OutputFull _) = (λ is. omega (arith, is), λ is. omega (arith, is))
 some_fault (ControlLine _) = (λ is. omega (arith, is), λ is. omega (arith, is))
 some_fault Worn = (λ is. omega (arith, is), λ is. omega (arith, is))
 some_fault ControlLong = (λ is. omega (arith, is), λ is. omega (arith, is))
+some_fault NothingKept = (λ is. omega (arith, is), λ is. omega (arith, is))
+some_fault Eras = (λ is. omega (arith, is), λ is. omega (arith, is))
+some_fault (Fingerprint _ _) = (λ is. omega (arith, is), λ is. omega (arith, is))
+some_fault (KeptSettings _) = (λ is. omega (arith, is), λ is. omega (arith, is))
+some_fault (KeptBuild _) = (λ is. omega (arith, is), λ is. omega (arith, is))
 
 -- the disk's count, by the status
 abbrev pub HasCount : ℕ → ℕ → ℕ → Type 0
@@ -55,37 +71,48 @@ HasCount status before after = (status ≡ 7 → Rose before after) × (status �
 stood : (status before after : ℕ) → status ≢ 7 → after ≡ before → HasCount status before after
 stood status before after other same = (λ is. absurd (other is), λ _. same)
 
-pub count_of_fault : (T : Type 0) (fault : Fault) (before after : ℕ) → HasDiskCause {T = T} (Err fault) before after → HasCount (status_of fault) before after
-count_of_fault T Usage before after same = stood 2 before after (λ is. omega (arith, is)) same
-count_of_fault T (Settings _) before after same = stood 3 before after (λ is. omega (arith, is)) same
-count_of_fault T (Build _) before after same = stood 3 before after (λ is. omega (arith, is)) same
-count_of_fault T (CheckpointBad _) before after same = stood 4 before after (λ is. omega (arith, is)) same
-count_of_fault T (SettingsChanged _) before after same = stood 5 before after (λ is. omega (arith, is)) same
-count_of_fault T (OutputShort _ _) before after same = stood 6 before after (λ is. omega (arith, is)) same
-count_of_fault T Disk before after rose = (λ _. rose, λ other. absurd (other refl))
-count_of_fault T Control before after same = stood 8 before after (λ is. omega (arith, is)) same
-count_of_fault T Memory before after same = stood 10 before after (λ is. omega (arith, is)) same
-count_of_fault T (OutputFull _) before after same = stood 11 before after (λ is. omega (arith, is)) same
-count_of_fault T (ControlLine _) before after same = stood 12 before after (λ is. omega (arith, is)) same
-count_of_fault T Worn before after same = stood 13 before after (λ is. omega (arith, is)) same
-count_of_fault T ControlLong before after same = stood 15 before after (λ is. omega (arith, is)) same
+pub opening_count : (T : Type 0) (fault : OpenFault) (before after : ℕ) → HasOpenCause {T = T} (Err fault) before after → HasCount (status_of (opening_fault fault)) before after
+opening_count T (opening.Settings _) before after same = stood 3 before after (λ is. omega (arith, is)) same
+opening_count T (opening.Build _) before after same = stood 3 before after (λ is. omega (arith, is)) same
+opening_count T opening.Disk before after rose = (λ _. rose, λ other. absurd (other refl))
+opening_count T (opening.CheckpointBad _) before after same = stood 4 before after (λ is. omega (arith, is)) same
+opening_count T (opening.SettingsChanged _) before after same = stood 5 before after (λ is. omega (arith, is)) same
+opening_count T (opening.OutputShort _ _) before after same = stood 6 before after (λ is. omega (arith, is)) same
+opening_count T opening.Memory before after same = stood 10 before after (λ is. omega (arith, is)) same
+
+pub polling_count : (T : Type 0) (fault : PollFault) (before after : ℕ) → HasPollCause {T = T} (Err fault) before after → HasCount (status_of (polling_fault fault)) before after
+polling_count T polling.Disk before after rose = (λ _. rose, λ other. absurd (other refl))
+polling_count T (polling.OutputFull _) before after same = stood 11 before after (λ is. omega (arith, is)) same
+polling_count T (polling.Worn _) before after same = stood 13 before after (λ is. omega (arith, is)) same
+polling_count T polling.Memory before after same = stood 10 before after (λ is. omega (arith, is)) same
+
+pub reading_count : (T : Type 0) (fault : JournalFault) (before after : ℕ) → HasJournalCause {T = T} (Err fault) before after → HasCount (status_of (reading_fault fault)) before after
+reading_count T journal.Disk before after rose = (λ _. rose, λ other. absurd (other refl))
+reading_count T (journal.Bad _) before after same = stood 4 before after (λ is. omega (arith, is)) same
+reading_count T journal.Memory before after same = stood 10 before after (λ is. omega (arith, is)) same
+
+pub adopting_count : (T : Type 0) (fault : AdoptFault) (before after : ℕ) → HasAdoptCause {T = T} (Err fault) before after → HasCount (status_of (adopting_fault fault)) before after
+adopting_count T (adopting.Settings _) before after same = stood 3 before after (λ is. omega (arith, is)) same
+adopting_count T (adopting.Build _) before after same = stood 3 before after (λ is. omega (arith, is)) same
+adopting_count T adopting.Disk before after rose = (λ _. rose, λ other. absurd (other refl))
+adopting_count T adopting.NothingKept before after same = stood 16 before after (λ is. omega (arith, is)) same
+adopting_count T (adopting.CheckpointBad _) before after same = stood 4 before after (λ is. omega (arith, is)) same
+adopting_count T (adopting.KeptSettings _) before after same = stood 19 before after (λ is. omega (arith, is)) same
+adopting_count T (adopting.Kept _) before after same = stood 19 before after (λ is. omega (arith, is)) same
+adopting_count T (adopting.OutputShort _ _) before after same = stood 6 before after (λ is. omega (arith, is)) same
+adopting_count T (adopting.Fingerprint _ _) before after same = stood 18 before after (λ is. omega (arith, is)) same
+adopting_count T adopting.Eras before after same = stood 17 before after (λ is. omega (arith, is)) same
+adopting_count T (adopting.OutputFull _) before after same = stood 11 before after (λ is. omega (arith, is)) same
+adopting_count T (adopting.Worn _) before after same = stood 13 before after (λ is. omega (arith, is)) same
+adopting_count T adopting.Memory before after same = stood 10 before after (λ is. omega (arith, is)) same
 
 -- ---- polls
 
-pub status_of_poll : {T : Type 0} (trees : TreeMeaning T) (session : Session) (tree tree_after : T) (fault : Fault) → IsPollFault trees session tree tree_after fault → IsTurnStatus (status_of fault)
-status_of_poll trees session tree tree_after Disk cause = inl refl
-status_of_poll trees session tree tree_after Memory cause = inr (inr (inl refl))
-status_of_poll trees session tree tree_after (OutputFull _) cause = inr (inr (inr (inl refl)))
-status_of_poll trees session tree tree_after Worn cause = inr (inr (inr (inr refl)))
-status_of_poll trees session tree tree_after Usage cause = absurd cause
-status_of_poll trees session tree tree_after (Settings _) cause = absurd cause
-status_of_poll trees session tree tree_after (Build _) cause = absurd cause
-status_of_poll trees session tree tree_after (CheckpointBad _) cause = absurd cause
-status_of_poll trees session tree tree_after (SettingsChanged _) cause = absurd cause
-status_of_poll trees session tree tree_after (OutputShort _ _) cause = absurd cause
-status_of_poll trees session tree tree_after Control cause = absurd cause
-status_of_poll trees session tree tree_after (ControlLine _) cause = absurd cause
-status_of_poll trees session tree tree_after ControlLong cause = absurd cause
+pub status_of_poll : (fault : PollFault) → IsTurnStatus (status_of (polling_fault fault))
+status_of_poll polling.Disk = inl refl
+status_of_poll polling.Memory = inr (inr (inl refl))
+status_of_poll (polling.OutputFull _) = inr (inr (inr (inl refl)))
+status_of_poll (polling.Worn _) = inr (inr (inr (inr refl)))
 
 -- ---- control lines
 
@@ -128,50 +155,40 @@ other_status status (inr (inr (inr (inr is)))) = (λ no. omega (arith, is, no), 
 abbrev pub IsOpeningStatus : ℕ → Type 0
 IsOpeningStatus status = (3 ≤ status) × (status ≡ 8 → ⊥) × (status ≤ 10)
 
-pub opening_status : {D : Type 0} (images : Images DiskFile D) (disk : D) (fault : Fault) → IsOpeningFault images disk fault → IsOpeningStatus (status_of fault)
-opening_status images disk (Settings _) cause = (omega arith, λ is. omega (arith, is), omega arith)
-opening_status images disk (Build _) cause = (omega arith, λ is. omega (arith, is), omega arith)
-opening_status images disk (CheckpointBad _) cause = (omega arith, λ is. omega (arith, is), omega arith)
-opening_status images disk (SettingsChanged _) cause = (omega arith, λ is. omega (arith, is), omega arith)
-opening_status images disk (OutputShort _ _) cause = (omega arith, λ is. omega (arith, is), omega arith)
-opening_status images disk Disk cause = (omega arith, λ is. omega (arith, is), omega arith)
-opening_status images disk Memory cause = (omega arith, λ is. omega (arith, is), omega arith)
-opening_status images disk Usage cause = absurd cause
-opening_status images disk Control cause = absurd cause
-opening_status images disk (OutputFull _) cause = absurd cause
-opening_status images disk (ControlLine _) cause = absurd cause
-opening_status images disk Worn cause = absurd cause
-opening_status images disk ControlLong cause = absurd cause
+pub opening_status : (fault : OpenFault) → IsOpeningStatus (status_of (opening_fault fault))
+opening_status (opening.Settings _) = (omega arith, λ is. omega (arith, is), omega arith)
+opening_status (opening.Build _) = (omega arith, λ is. omega (arith, is), omega arith)
+opening_status opening.Disk = (omega arith, λ is. omega (arith, is), omega arith)
+opening_status (opening.CheckpointBad _) = (omega arith, λ is. omega (arith, is), omega arith)
+opening_status (opening.SettingsChanged _) = (omega arith, λ is. omega (arith, is), omega arith)
+opening_status (opening.OutputShort _ _) = (omega arith, λ is. omega (arith, is), omega arith)
+opening_status opening.Memory = (omega arith, λ is. omega (arith, is), omega arith)
 
-reading_status : {D : Type 0} (images : Images DiskFile D) (disk : D) (fault : Fault) → IsReadingFault images disk fault → 3 ≤ status_of fault
-reading_status images disk (CheckpointBad _) cause = omega arith
-reading_status images disk Disk cause = omega arith
-reading_status images disk Memory cause = omega arith
-reading_status images disk (Settings _) cause = absurd cause
-reading_status images disk (Build _) cause = absurd cause
-reading_status images disk (SettingsChanged _) cause = absurd cause
-reading_status images disk (OutputShort _ _) cause = absurd cause
-reading_status images disk Usage cause = absurd cause
-reading_status images disk Control cause = absurd cause
-reading_status images disk (OutputFull _) cause = absurd cause
-reading_status images disk (ControlLine _) cause = absurd cause
-reading_status images disk Worn cause = absurd cause
-reading_status images disk ControlLong cause = absurd cause
+reading_status : (fault : JournalFault) → 3 ≤ status_of (reading_fault fault)
+reading_status journal.Disk = omega arith
+reading_status (journal.Bad _) = omega arith
+reading_status journal.Memory = omega arith
 
-pipeline_fault_status : {D : Type 0} (images : Images DiskFile D) (disk : D) (fault : Fault) → IsPipelineFault images disk fault → status_of fault ≡ 2 → ⊥
-pipeline_fault_status images disk (Settings _) cause = λ is. omega (arith, is)
-pipeline_fault_status images disk (Build _) cause = λ is. omega (arith, is)
-pipeline_fault_status images disk Disk cause = λ is. omega (arith, is)
-pipeline_fault_status images disk Memory cause = λ is. omega (arith, is)
-pipeline_fault_status images disk (CheckpointBad _) cause = absurd cause
-pipeline_fault_status images disk (SettingsChanged _) cause = absurd cause
-pipeline_fault_status images disk (OutputShort _ _) cause = absurd cause
-pipeline_fault_status images disk Usage cause = absurd cause
-pipeline_fault_status images disk Control cause = absurd cause
-pipeline_fault_status images disk (OutputFull _) cause = absurd cause
-pipeline_fault_status images disk (ControlLine _) cause = absurd cause
-pipeline_fault_status images disk Worn cause = absurd cause
-pipeline_fault_status images disk ControlLong cause = absurd cause
+-- ---- adopting
+
+-- what is said of the status of settings that weren't adopted
+abbrev IsAdoptingStatus : ℕ → Type 0
+IsAdoptingStatus status = (3 ≤ status) × (status ≡ 15 → ⊥)
+
+adopting_status : (fault : AdoptFault) → IsAdoptingStatus (status_of (adopting_fault fault))
+adopting_status (adopting.Settings _) = (omega arith, λ is. omega (arith, is))
+adopting_status (adopting.Build _) = (omega arith, λ is. omega (arith, is))
+adopting_status adopting.Disk = (omega arith, λ is. omega (arith, is))
+adopting_status adopting.NothingKept = (omega arith, λ is. omega (arith, is))
+adopting_status (adopting.CheckpointBad _) = (omega arith, λ is. omega (arith, is))
+adopting_status (adopting.KeptSettings _) = (omega arith, λ is. omega (arith, is))
+adopting_status (adopting.Kept _) = (omega arith, λ is. omega (arith, is))
+adopting_status (adopting.OutputShort _ _) = (omega arith, λ is. omega (arith, is))
+adopting_status (adopting.Fingerprint _ _) = (omega arith, λ is. omega (arith, is))
+adopting_status adopting.Eras = (omega arith, λ is. omega (arith, is))
+adopting_status (adopting.OutputFull _) = (omega arith, λ is. omega (arith, is))
+adopting_status (adopting.Worn _) = (omega arith, λ is. omega (arith, is))
+adopting_status adopting.Memory = (omega arith, λ is. omega (arith, is))
 
 -- ---- commands
 
@@ -196,10 +213,10 @@ turn_is_other status (inr (inr (inr (inr is)))) two = omega (arith, is, two)
 module _ {T D K C : Type 0} (meanings : Meanings T D K C) where
   stops_status : (session : Session) (status : ℕ) (old new : Moment T D K C) → Stops meanings session status old new → IsCommandStatus status
   stops_status session status old new (inl untold) = untold_status status untold.is
-  stops_status session status old new (inr refused) = of_fault status refused.fault refused.is (turn_is_other (status_of refused.fault) (status_of_poll meanings.trees (session_at session refused.now) old.tree new.tree refused.fault refused.cause))
+  stops_status session status old new (inr refused) = of_fault status (polling_fault refused.fault) refused.is (turn_is_other (status_of (polling_fault refused.fault)) (status_of_poll refused.fault))
 
   not_opened_status : (status : ℕ) (old new : Moment T D K C) → IsNotOpened meanings old new status → IsCommandStatus status
-  not_opened_status status old new not = of_fault status not.fault not.is (λ two. let low = (opening_status meanings.disks.images old.disk not.fault not.cause).0 in omega (arith, low, two))
+  not_opened_status status old new not = of_fault status (opening_fault not.fault) not.is (λ two. let low = (opening_status not.fault).0 in omega (arith, low, two))
 
   pub once_status : (old new : Moment T D K C) (status : ℕ) → OnceEnds meanings old new status → IsCommandStatus status
   once_status old new _ (once.polls done) = (inl refl, λ two. omega (arith, two))
@@ -212,13 +229,13 @@ module _ {T D K C : Type 0} (meanings : Meanings T D K C) where
 
   stops_not_long : (session : Session) (status : ℕ) (old new : Moment T D K C) → Stops meanings session status old new → status ≡ 15 → ⊥
   stops_not_long session status old new (inl untold) long = untold_not_long status untold.is long
-  stops_not_long session status old new (inr refused) long = (other_status (status_of refused.fault) (status_of_poll meanings.trees (session_at session refused.now) old.tree new.tree refused.fault refused.cause)).2 (sym refused.is ∙ long)
+  stops_not_long session status old new (inr refused) long = (other_status (status_of (polling_fault refused.fault)) (status_of_poll refused.fault)).2 (sym refused.is ∙ long)
 
   -- only a command that takes control lines can take too many bytes
   pub once_not_long : (old new : Moment T D K C) (status : ℕ) → OnceEnds meanings old new status → status ≡ 15 → ⊥
   once_not_long old new _ (once.polls done) long = omega (arith, long)
   once_not_long old new _ (once.stops status done) long = stops_not_long done.session status (moment old.tree done.between old.report old.clock) new done.stops long
-  once_not_long old new _ (once.not_opened status not) long = let high = (opening_status meanings.disks.images old.disk not.fault not.cause).2 in omega (arith, high, not.is, long)
+  once_not_long old new _ (once.not_opened status not) long = let high = (opening_status not.fault).2 in omega (arith, high, not.is, long)
 
   at_status : (request : Result Request Failed) (number status : ℕ) (old new : Option (List ℕ)) → StopsAt request number status old new → IsCommandStatus status
   at_status (Ok Poll) number status old new at = absurd at
@@ -242,7 +259,7 @@ pub committed_status : {D K : Type 0} (disks : DiskMeaning D) (reports : SinkMea
 committed_status disks reports disk report report_after _ (committed.tells done) = (inl refl, λ two. omega (arith, two))
 committed_status disks reports disk report report_after _ (committed.failed done) = untold_status 9 (inl refl)
 committed_status disks reports disk report report_after _ (committed.no_memory done) = untold_status 10 (inr refl)
-committed_status disks reports disk report report_after _ (committed.unread status done) = of_fault status done.fault done.is (λ two. let low = reading_status disks.images disk done.fault done.cause in omega (arith, low, two))
+committed_status disks reports disk report report_after _ (committed.unread status done) = of_fault status (reading_fault done.fault) done.is (λ two. let low = reading_status done.fault in omega (arith, low, two))
 
 pub pipe_status : {D C : Type 0} (disks : DiskMeaning D) (clocks : ClockMeaning C) (disk : D) (old new : PipeMoment C) (status : ℕ) → PipeEnds disks clocks disk old new status → IsCommandStatus status
 pipe_status disks clocks disk old new _ (pipe.whole done) = (inl refl, λ two. omega (arith, two))
@@ -251,4 +268,19 @@ pipe_status disks clocks disk old new _ (pipe.report_failed done) = untold_statu
 pipe_status disks clocks disk old new _ (pipe.no_memory done) = untold_status 10 (inr refl)
 pipe_status disks clocks disk old new _ (pipe.full size done) = of_fault 11 (OutputFull size) refl (λ two. omega (arith, two))
 pipe_status disks clocks disk old new _ (pipe.too_long done) = of_fault 15 ControlLong refl (λ two. omega (arith, two))
-pipe_status disks clocks disk old new _ (pipe.not_piped status not) = of_fault status not.fault not.is (pipeline_fault_status disks.images disk not.fault not.cause)
+pipe_status disks clocks disk old new _ (pipe.not_piped status not) = of_fault status (opening_fault not.fault) not.is (λ two. let low = (opening_status not.fault).0 in omega (arith, low, two))
+
+module _ {D : Type 0} (images : Images DiskFile D) (disk disk_after : D) (report report_after : Option (List ℕ)) where
+  pub adopt_status : (status : ℕ) → AdoptEnds images disk disk_after report report_after status → IsCommandStatus status
+  adopt_status _ (adopt.tells done) = (inl refl, λ two. omega (arith, two))
+  adopt_status _ (adopt.failed done) = untold_status 9 (inl refl)
+  adopt_status _ (adopt.no_memory done) = untold_status 10 (inr refl)
+  adopt_status _ (adopt.not_read status not) = of_fault status (opening_fault not.fault) not.is (λ two. let low = (opening_status not.fault).0 in omega (arith, low, two))
+  adopt_status _ (adopt.not_adopted status not) = of_fault status (adopting_fault not.fault) not.is (λ two. let low = (adopting_status not.fault).0 in omega (arith, low, two))
+
+  pub adopt_not_long : (status : ℕ) → AdoptEnds images disk disk_after report report_after status → status ≡ 15 → ⊥
+  adopt_not_long _ (adopt.tells done) long = omega (arith, long)
+  adopt_not_long _ (adopt.failed done) long = omega (arith, long)
+  adopt_not_long _ (adopt.no_memory done) long = omega (arith, long)
+  adopt_not_long _ (adopt.not_read status not) long = let high = (opening_status not.fault).2 in omega (arith, high, not.is, long)
+  adopt_not_long _ (adopt.not_adopted status not) long = (adopting_status not.fault).1 (sym not.is ∙ long)

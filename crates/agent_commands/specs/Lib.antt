@@ -5,7 +5,7 @@ pub mod Refusal
 pub mod Status
 pub mod Report
 pub mod SummaryLine
-pub mod Cause
+pub mod Faults
 pub mod Control
 pub mod Moment
 pub mod Opens
@@ -15,4 +15,8 @@ pub mod Turn
 pub mod Once
 pub mod Follow
 pub mod Committed
+pub mod AdoptedLine
+pub mod Adopt
 pub mod Pipe
+pub mod OverParts
+pub mod AgentEnds

@@ -3,23 +3,24 @@ use Rattle.std.specs.Prelude.{◌≡◌, ℕ}
 use Rattle.outside.specs.Crash.{Passes}
 use Rattle.outside.specs.Image.{Same}
 use Rattle.outside.specs.World.{Told}
+use Rattle.poll_core.specs.declared.fault.OpenFault.{OpenFault}
 use Rattle.poll_core.specs.declared.session.Session.{Session}
+use Rattle.agent_commands.specs.Faults.{opening_fault}
 use Rattle.agent_commands.specs.Grows.{GrowsBy}
 use Rattle.agent_commands.specs.Moment.{Moment, Meanings, moment}
 use Rattle.agent_commands.specs.Opens.{Opens, IsOpeningFault, IsRefusal}
 use Rattle.agent_commands.specs.Report.{GrowsByPart}
 use Rattle.agent_commands.specs.Status.{fault_line, status_of}
 use Rattle.agent_commands.specs.Turn.{Turns, Stops}
-use Rattle.agent_commands.specs.declared.fault.Fault.{Fault}
 
 module _ {T D K C : Type 0} (meanings : Meanings T D K C) (old new : Moment T D K C) where
   -- No session was opened, for the reason that the status and the report have, and neither a file nor the clock was looked at. A
   -- refusal leaves the disk as it was, and whatever it is, nothing that was kept is lost.
   pub record IsNotOpened (status : ℕ) : Type 0 where
-    pub fault : Fault
-    pub is : status ≡ status_of fault
+    pub fault : OpenFault
+    pub is : status ≡ status_of (opening_fault fault)
     pub cause : IsOpeningFault meanings.disks.images old.disk fault
-    pub told : Told (GrowsByPart (fault_line fault)) (meanings.reports.written old.report) (meanings.reports.written new.report)
+    pub told : Told (GrowsByPart (fault_line (opening_fault fault))) (meanings.reports.written old.report) (meanings.reports.written new.report)
     pub same_tree : new.tree ≡ old.tree
     pub same_clock : new.clock ≡ old.clock
     pub untouched : IsRefusal fault → Passes meanings.disks.images Same old.disk new.disk

@@ -9,11 +9,10 @@ use Rattle.poll_core.specs.OpenFaults.{IsNotBuilt, IsRefused}
 use Rattle.poll_core.specs.Remembers.{GoesOnFrom}
 use Rattle.poll_core.specs.SessionParts.{checkpoint_of_session, limit_of, settings_of_session, time_of_session}
 use Rattle.poll_core.specs.StandsOn.{StandsOn}
-use Rattle.poll_core.specs.declared.fault.OpenFault.TheVariants as opening
+use Rattle.poll_core.specs.declared.fault.OpenFault.{OpenFault}
+use Rattle.poll_core.specs.declared.fault.OpenFault.TheVariants.{Settings, Build, Disk, CheckpointBad, SettingsChanged, OutputShort, Memory}
 use Rattle.poll_core.specs.declared.session.Session.{Session}
 use Rattle.settings_text.specs.Grammar as grammar
-use Rattle.agent_commands.specs.declared.fault.Fault.{Fault}
-use Rattle.agent_commands.specs.declared.fault.Fault.TheVariants.{Usage, Settings, Build, CheckpointBad, SettingsChanged, OutputShort, Disk, Control, Memory, OutputFull, ControlLine, Worn, ControlLong}
 
 -- The session has the settings of the settings file and goes on from what reads give of the disk, and then it stands on it. Its time
 -- is the greatest time of a line that is kept.
@@ -26,23 +25,17 @@ pub record Opens {D : Type 0} (images : Images DiskFile D) (session : Session) (
   pub time : time_of_session session ≡ (checkpoint_of_session session).observed
 
 -- Want of memory is free, and a fault of the disk has its own clause.
-abbrev pub IsOpeningFault : {D : Type 0} (images : Images DiskFile D) (disk : D) → Fault → Type 0
+abbrev pub IsOpeningFault : {D : Type 0} (images : Images DiskFile D) (disk : D) → OpenFault → Type 0
 IsOpeningFault images disk (Settings fault) = IsTrue (images.tells disk) → grammar.settings (images.seen disk file.Settings) ≡ Err fault
 IsOpeningFault images disk (Build fault) = IsTrue (images.tells disk) → IsNotBuilt (images.seen disk file.Settings) fault
-IsOpeningFault images disk (CheckpointBad at) = IsTrue (images.tells disk) → IsRefused (images.seen disk file.Settings) (images.seen disk) (opening.CheckpointBad at)
-IsOpeningFault images disk (SettingsChanged at) = IsTrue (images.tells disk) → IsRefused (images.seen disk file.Settings) (images.seen disk) (opening.SettingsChanged at)
-IsOpeningFault images disk (OutputShort kept found) = IsTrue (images.tells disk) → IsRefused (images.seen disk file.Settings) (images.seen disk) (opening.OutputShort kept found)
+IsOpeningFault images disk (CheckpointBad at) = IsTrue (images.tells disk) → IsRefused (images.seen disk file.Settings) (images.seen disk) (CheckpointBad at)
+IsOpeningFault images disk (SettingsChanged at) = IsTrue (images.tells disk) → IsRefused (images.seen disk file.Settings) (images.seen disk) (SettingsChanged at)
+IsOpeningFault images disk (OutputShort kept found) = IsTrue (images.tells disk) → IsRefused (images.seen disk file.Settings) (images.seen disk) (OutputShort kept found)
 IsOpeningFault images disk Disk = ⊤
 IsOpeningFault images disk Memory = ⊤
-IsOpeningFault images disk Usage = ⊥
-IsOpeningFault images disk Control = ⊥
-IsOpeningFault images disk (OutputFull size) = ⊥
-IsOpeningFault images disk (ControlLine number) = ⊥
-IsOpeningFault images disk Worn = ⊥
-IsOpeningFault images disk ControlLong = ⊥
 
 -- a refusal of the settings or of what stands on the disk
-abbrev pub IsRefusal : Fault → Type 0
+abbrev pub IsRefusal : OpenFault → Type 0
 IsRefusal (Settings fault) = ⊤
 IsRefusal (Build fault) = ⊤
 IsRefusal (CheckpointBad at) = ⊤
@@ -50,15 +43,9 @@ IsRefusal (SettingsChanged at) = ⊤
 IsRefusal (OutputShort kept found) = ⊤
 IsRefusal Disk = ⊥
 IsRefusal Memory = ⊥
-IsRefusal Usage = ⊥
-IsRefusal Control = ⊥
-IsRefusal (OutputFull size) = ⊥
-IsRefusal (ControlLine number) = ⊥
-IsRefusal Worn = ⊥
-IsRefusal ControlLong = ⊥
 
 -- Why the settings file isn't read.
-abbrev pub IsSettingsFault : {D : Type 0} (images : Images DiskFile D) (disk : D) → Fault → Type 0
+abbrev pub IsSettingsFault : {D : Type 0} (images : Images DiskFile D) (disk : D) → OpenFault → Type 0
 IsSettingsFault images disk (Settings fault) = IsTrue (images.tells disk) → grammar.settings (images.seen disk file.Settings) ≡ Err fault
 IsSettingsFault images disk Disk = ⊤
 IsSettingsFault images disk Memory = ⊤
@@ -66,9 +53,3 @@ IsSettingsFault images disk (Build fault) = ⊥
 IsSettingsFault images disk (CheckpointBad at) = ⊥
 IsSettingsFault images disk (SettingsChanged at) = ⊥
 IsSettingsFault images disk (OutputShort kept found) = ⊥
-IsSettingsFault images disk Usage = ⊥
-IsSettingsFault images disk Control = ⊥
-IsSettingsFault images disk (OutputFull size) = ⊥
-IsSettingsFault images disk (ControlLine number) = ⊥
-IsSettingsFault images disk Worn = ⊥
-IsSettingsFault images disk ControlLong = ⊥

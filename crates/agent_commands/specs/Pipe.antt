@@ -10,32 +10,29 @@ use Rattle.pipeline.specs.Parts.{settings_of}
 use Rattle.pipeline.specs.declared.Pipeline.{Pipeline}
 use Rattle.poll_core.specs.MadeOf.{IsMadeOf}
 use Rattle.poll_core.specs.OpenFaults.{IsNotBuilt}
+use Rattle.poll_core.specs.declared.fault.OpenFault.{OpenFault}
+use Rattle.poll_core.specs.declared.fault.OpenFault.TheVariants as opening
 use Rattle.settings_text.specs.Grammar as grammar
 use Rattle.stream_lines.specs.Streams.{FillsUp, PrintsOpen, PrintsWhole, StopsWithin, TakesMost}
+use Rattle.agent_commands.specs.Faults.{opening_fault}
 use Rattle.agent_commands.specs.Report.{GrowsByPart}
 use Rattle.agent_commands.specs.Status.{fault_line, status_of}
 use Rattle.agent_commands.specs.declared.fault.Fault.{Fault}
-use Rattle.agent_commands.specs.declared.fault.Fault.TheVariants.{Usage, Settings, Build, CheckpointBad, SettingsChanged, OutputShort, Disk, Control, Memory, OutputFull, ControlLine, Worn, ControlLong}
+use Rattle.agent_commands.specs.declared.fault.Fault.TheVariants.{Control, Memory, OutputFull, ControlLong}
 
 -- the pipeline is the one that the settings file asks for
 abbrev pub IsPipeline : {D : Type 0} → Images DiskFile D → D → Pipeline → Type 0
 IsPipeline images disk pipeline = IsTrue (images.tells disk) → IsMadeOf (images.seen disk file.Settings) pipeline
 
 -- Why there is none. Want of memory is free, and a fault of the disk has its own clause.
-abbrev pub IsPipelineFault : {D : Type 0} (images : Images DiskFile D) (disk : D) → Fault → Type 0
-IsPipelineFault images disk (Settings fault) = IsTrue (images.tells disk) → grammar.settings (images.seen disk file.Settings) ≡ Err fault
-IsPipelineFault images disk (Build fault) = IsTrue (images.tells disk) → IsNotBuilt (images.seen disk file.Settings) fault
-IsPipelineFault images disk Disk = ⊤
-IsPipelineFault images disk Memory = ⊤
-IsPipelineFault images disk Usage = ⊥
-IsPipelineFault images disk (CheckpointBad at) = ⊥
-IsPipelineFault images disk (SettingsChanged at) = ⊥
-IsPipelineFault images disk (OutputShort kept found) = ⊥
-IsPipelineFault images disk Control = ⊥
-IsPipelineFault images disk (OutputFull size) = ⊥
-IsPipelineFault images disk (ControlLine number) = ⊥
-IsPipelineFault images disk Worn = ⊥
-IsPipelineFault images disk ControlLong = ⊥
+abbrev pub IsPipelineFault : {D : Type 0} (images : Images DiskFile D) (disk : D) → OpenFault → Type 0
+IsPipelineFault images disk (opening.Settings fault) = IsTrue (images.tells disk) → grammar.settings (images.seen disk file.Settings) ≡ Err fault
+IsPipelineFault images disk (opening.Build fault) = IsTrue (images.tells disk) → IsNotBuilt (images.seen disk file.Settings) fault
+IsPipelineFault images disk opening.Disk = ⊤
+IsPipelineFault images disk opening.Memory = ⊤
+IsPipelineFault images disk (opening.CheckpointBad at) = ⊥
+IsPipelineFault images disk (opening.SettingsChanged at) = ⊥
+IsPipelineFault images disk (opening.OutputShort kept found) = ⊥
 
 -- the outside of the command at one moment, besides the disk, as far as it is told
 pub record PipeMoment (C : Type 0) : Type 0 where
@@ -75,10 +72,10 @@ module _ {D C : Type 0} (disks : DiskMeaning D) (clocks : ClockMeaning C) (disk 
   -- There was no pipeline, for the reason that the status and the report have, nothing of the input was taken, and the clock wasn't
   -- read.
   pub record IsNotPiped (status : ℕ) : Type 0 where
-    pub fault : Fault
-    pub is : status ≡ status_of fault
+    pub fault : OpenFault
+    pub is : status ≡ status_of (opening_fault fault)
     pub cause : IsPipelineFault disks.images disk fault
-    pub told : Told (GrowsByPart (fault_line fault)) old.written new.written
+    pub told : Told (GrowsByPart (fault_line (opening_fault fault))) old.written new.written
     pub untouched : new.rest ≡ old.rest
     pub same_clock : new.clock ≡ old.clock
 

@@ -2,7 +2,7 @@
 use Rattle.std.specs.Prelude.{◌≡◌, ◌⊎◌, ℕ, List, ◌++◌, codes, decimal}
 use Rattle.agent_commands.specs.Refusal.{settings_words, build_words}
 use Rattle.agent_commands.specs.declared.fault.Fault.{Fault}
-use Rattle.agent_commands.specs.declared.fault.Fault.TheVariants.{Usage, Settings, Build, CheckpointBad, SettingsChanged, OutputShort, Disk, Control, Memory, OutputFull, ControlLine, Worn, ControlLong}
+use Rattle.agent_commands.specs.declared.fault.Fault.TheVariants.{Usage, Settings, Build, CheckpointBad, SettingsChanged, OutputShort, Disk, Control, Memory, OutputFull, ControlLine, Worn, ControlLong, NothingKept, Eras, Fingerprint, KeptSettings, KeptBuild}
 
 abbrev pub status_of : Fault → ℕ
 status_of Usage = 2
@@ -18,6 +18,11 @@ status_of (OutputFull _) = 11
 status_of (ControlLine _) = 12
 status_of Worn = 13
 status_of ControlLong = 15
+status_of NothingKept = 16
+status_of Eras = 17
+status_of (Fingerprint _ _) = 18
+status_of (KeptSettings _) = 19
+status_of (KeptBuild _) = 19
 
 -- the line that reports a fault
 abbrev pub fault_line : Fault → List ℕ
@@ -34,6 +39,11 @@ fault_line (OutputFull length) = codes "fault 11 full " ++ decimal length ++ cod
 fault_line (ControlLine number) = codes "fault 12 control-line " ++ decimal number ++ codes "\n"
 fault_line Worn = codes "fault 13 worn\n"
 fault_line ControlLong = codes "fault 15 control-long\n"
+fault_line NothingKept = codes "fault 16 nothing-kept\n"
+fault_line Eras = codes "fault 17 eras\n"
+fault_line (Fingerprint kept found) = codes "fault 18 fingerprint " ++ decimal kept ++ codes " " ++ decimal found ++ codes "\n"
+fault_line (KeptSettings fault) = codes "fault 19 kept " ++ settings_words fault ++ codes "\n"
+fault_line (KeptBuild fault) = codes "fault 19 kept " ++ build_words fault ++ codes "\n"
 
 -- The statuses that there are: success, a fault's, and 9 where the report failed.
 abbrev pub IsStatus : ℕ → Type 0

@@ -7,31 +7,23 @@ use Rattle.outside.specs.World.{Told, World}
 use Rattle.poll_core.specs.Overflows.{Overflows}
 use Rattle.poll_core.specs.Polled.{Polled}
 use Rattle.poll_core.specs.SessionParts.{journal_of_session, checkpoint_of_session, session_at}
+use Rattle.poll_core.specs.declared.poll_fault.PollFault.{PollFault}
+use Rattle.poll_core.specs.declared.poll_fault.PollFault.TheVariants.{Disk, OutputFull, Worn, Memory}
 use Rattle.poll_core.specs.declared.session.Session.{Session}
 use Rattle.poll_core.specs.declared.summary.Summary.{Summary}
+use Rattle.agent_commands.specs.Faults.{polling_fault}
 use Rattle.agent_commands.specs.Headline.{HoldsAll, StoodSince}
 use Rattle.agent_commands.specs.Moment.{Moment, Meanings}
 use Rattle.agent_commands.specs.Report.{Appends, GrowsByPart}
 use Rattle.agent_commands.specs.Status.{fault_line, status_of}
 use Rattle.agent_commands.specs.SummaryLine.{summary_line}
-use Rattle.agent_commands.specs.declared.fault.Fault.{Fault}
-use Rattle.agent_commands.specs.declared.fault.Fault.TheVariants.{Usage, Settings, Build, CheckpointBad, SettingsChanged, OutputShort, Disk, Control, Memory, OutputFull, ControlLine, Worn, ControlLong}
 
 -- Want of memory is free, and a fault of the disk has its own clause.
-abbrev pub IsPollFault : {T : Type 0} (trees : TreeMeaning T) (session : Session) (tree tree_after : T) → Fault → Type 0
+abbrev pub IsPollFault : {T : Type 0} (trees : TreeMeaning T) (session : Session) (tree tree_after : T) → PollFault → Type 0
 IsPollFault trees session tree tree_after (OutputFull size) = Told (Overflows session size) (trees.world tree) (trees.world tree_after)
-IsPollFault trees session tree tree_after Worn = IsWorn (journal_of_session session)
+IsPollFault trees session tree tree_after (Worn sequence) = IsWorn (journal_of_session session)
 IsPollFault trees session tree tree_after Disk = ⊤
 IsPollFault trees session tree tree_after Memory = ⊤
-IsPollFault trees session tree tree_after Usage = ⊥
-IsPollFault trees session tree tree_after (Settings fault) = ⊥
-IsPollFault trees session tree tree_after (Build fault) = ⊥
-IsPollFault trees session tree tree_after (CheckpointBad at) = ⊥
-IsPollFault trees session tree tree_after (SettingsChanged at) = ⊥
-IsPollFault trees session tree tree_after (OutputShort kept found) = ⊥
-IsPollFault trees session tree tree_after Control = ⊥
-IsPollFault trees session tree tree_after (ControlLine number) = ⊥
-IsPollFault trees session tree tree_after ControlLong = ⊥
 
 -- the statuses that end a command at a poll
 abbrev pub IsTurnStatus : ℕ → Type 0
@@ -81,10 +73,10 @@ module _ {T D K C : Type 0} (meanings : Meanings T D K C) (session : Session) wh
   pub record StopsRefused (status : ℕ) (old new : Moment T D K C) : Type 0 where
     pub now : ℕ
     pub read : IsReading now old new
-    pub fault : Fault
-    pub is : status ≡ status_of fault
+    pub fault : PollFault
+    pub is : status ≡ status_of (polling_fault fault)
     pub cause : IsPollFault meanings.trees (session_at session now) old.tree new.tree fault
-    pub told : Told (GrowsByPart (fault_line fault)) (meanings.reports.written old.report) (meanings.reports.written new.report)
+    pub told : Told (GrowsByPart (fault_line (polling_fault fault))) (meanings.reports.written old.report) (meanings.reports.written new.report)
 
   abbrev pub Stops : ℕ → Moment T D K C → Moment T D K C → Type 0
   Stops status old new = StopsUntold status old new ⊎ StopsRefused status old new

@@ -8,6 +8,7 @@ ghost use Rattle.outside.specs.Crash.{Passes};
 ghost use Rattle.outside.specs.Image.{Same};
 ghost use Rattle.outside.specs.World.{Told};
 ghost use Rattle.slot_store.specs.OnlyRead.{OnlyRead};
+ghost use Rattle.agent_commands.specs.Adopt.{AdoptEnds, AdoptPasses};
 ghost use Rattle.agent_commands.specs.Committed.{CommittedEnds};
 ghost use Rattle.agent_commands.specs.Control.{max_control, TakesAtMost, TakesExactly};
 ghost use Rattle.agent_commands.specs.DemoEnds.{DemoEnds};
@@ -20,6 +21,7 @@ ghost use Rattle.agent_commands.specs.Pipe.{PipeEnds, pipe_moment};
 ghost use Rattle.agent_commands.specs.Status.{IsStatus};
 ghost use Rattle.agent_commands.specs.Words.{IsNotRun, IsWordsFault};
 
+use crate::adopt::adopt;
 use crate::committed::committed;
 use crate::demo::show_demo;
 use crate::fault::Fault;
@@ -55,6 +57,12 @@ pub fn run_agent<T: Tree, D: Disk, S: Source, K: Sink, C: Clock>(
     // Polls as control lines ask for them, each at a reading of the clock.
     ensures follow { IsCommand (texts words.now) Command.Follow
         → FollowEnds (meanings T.meaning D.meaning K.meaning C.meaning) (S.meaning.rest control.old) (S.meaning.rest control.new) (moment tree.old disk.old report.old clock.old) (moment tree.new disk.new report.new clock.new) result }
+
+    // The settings file's settings follow those that are kept: by which lines the output grows, and what of each file comes next. Wherever
+    // it is stopped, a crash leaves what stood, or that.
+    ensures adopt { IsCommand (texts words.now) Command.Adopt
+        → AdoptEnds D.meaning.images disk.old disk.new (K.meaning.written report.old) (K.meaning.written report.new) result }
+    ensures adopt_crash { IsCommand (texts words.now) Command.Adopt → AdoptPasses D.meaning.images disk.old disk.new }
 
     // How much of the output is kept, and nothing is written.
     ensures committed { IsCommand (texts words.now) Command.Committed → CommittedEnds D.meaning K.meaning disk.old report.old report.new result }
@@ -132,6 +140,9 @@ fn run<T: Tree, D: Disk, S: Source, K: Sink, C: Clock>(
     ensures once_crash { command ≡ Command.Once → Passes D.meaning.images (GrowsBy 1) disk.old disk.new }
     ensures follow { command ≡ Command.Follow
         → FollowEnds (meanings T.meaning D.meaning K.meaning C.meaning) (S.meaning.rest control.old) (S.meaning.rest control.new) (moment tree.old disk.old report.old clock.old) (moment tree.new disk.new report.new clock.new) result }
+    ensures adopt { command ≡ Command.Adopt
+        → AdoptEnds D.meaning.images disk.old disk.new (K.meaning.written report.old) (K.meaning.written report.new) result }
+    ensures adopt_crash { command ≡ Command.Adopt → AdoptPasses D.meaning.images disk.old disk.new }
     ensures committed { command ≡ Command.Committed → CommittedEnds D.meaning K.meaning disk.old report.old report.new result }
     ensures only_read { command ≡ Command.Committed → OnlyRead D.meaning disk.old disk.new }
     ensures pipe { command ≡ Command.Pipe
@@ -155,6 +166,7 @@ fn run<T: Tree, D: Disk, S: Source, K: Sink, C: Clock>(
     match command {
         Command::Once => once(alloc, tree, disk, report, clock),
         Command::Follow => follow(alloc, tree, disk, control, report, clock),
+        Command::Adopt => adopt(alloc, disk, report),
         Command::Committed => committed(alloc, disk, report),
         Command::Pipe => pipe(alloc, disk, control, report, clock),
         Command::Demo(rounds) => show_demo(alloc, rounds, report),

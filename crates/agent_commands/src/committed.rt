@@ -1,13 +1,13 @@
 // The command `committed`.
 ghost use Rattle.std.specs.Prelude.{◌≡◌, ◌≢◌, IfOk, IfErr};
+ghost use Rattle.checkpoint_journal.specs.JournalCause.{HasJournalCause};
 ghost use Rattle.outside.specs.Count.{Rose};
 ghost use Rattle.slot_store.specs.OnlyRead.{OnlyRead};
-ghost use Rattle.agent_commands.specs.Cause.{HasDiskCause};
 ghost use Rattle.agent_commands.specs.Committed.{CommittedEnds, IsKept, IsReadingFault};
 
 use crate::fault::Fault;
 use crate::report::{refuse, report_length};
-use checkpoint_journal::peek;
+use checkpoint_journal::{JournalFault, peek};
 use outside::{CallFault, Disk, Sink};
 use std::alloc::Global;
 
@@ -22,7 +22,7 @@ pub fn committed<D: Disk, K: Sink>(alloc: Global, disk: &mut D, report: &mut K) 
 {
     let size = match kept_length(alloc, disk) {
         Ok(size) => size,
-        Err(fault) => return refuse(alloc, fault, report),
+        Err(fault) => return refuse(alloc, Fault::from(fault), report),
     };
     match report_length(alloc, size, report) {
         Ok(()) => 0,
@@ -32,11 +32,11 @@ pub fn committed<D: Disk, K: Sink>(alloc: Global, disk: &mut D, report: &mut K) 
 }
 
 // How many bytes of the output the checkpoint keeps, and 0 where there is none.
-fn kept_length<D: Disk>(alloc: Global, disk: &mut D) -> Result<u64, Fault>
+fn kept_length<D: Disk>(alloc: Global, disk: &mut D) -> Result<u64, JournalFault>
     ensures kept { IfOk result (IsKept D.meaning.images disk.old) }
     ensures fault { IfErr result (IsReadingFault D.meaning.images disk.old) }
     ensures only_read { OnlyRead D.meaning disk.old disk.new }
-    ensures cause { HasDiskCause result (D.meaning.faults disk.old) (D.meaning.faults disk.new) }
+    ensures cause { HasJournalCause result (D.meaning.faults disk.old) (D.meaning.faults disk.new) }
 {
     match peek(alloc, disk)? {
         Some((_, checkpoint)) => Ok(checkpoint.output_length),

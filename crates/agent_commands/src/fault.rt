@@ -1,15 +1,13 @@
 // Why a command ends with a status other than 0.
 ghost use Rattle.std.specs.Prelude.{◌≡◌};
-ghost use Rattle.agent_commands.specs.declared.fault.Fault.TheVariants.{Disk, Memory};
 
 use checkpoint_journal::JournalFault;
-use outside::{CallFault, Failed};
 use pipeline::BuildFault;
-use poll_core::{OpenFault, PollFault};
+use poll_core::{AdoptFault, OpenFault, PollFault};
 use settings_text::SettingsFault;
-use std::alloc::AllocError;
 
-/// Why a command ends with a status other than 0.
+/// Why a command ends with a status other than 0, as it is told. What a command calls has faults of its own, by which their causes are
+/// said: [`OpenFault`], [`PollFault`], [`JournalFault`] and [`AdoptFault`].
 #[derive(Debug, Drop)]
 pub enum Fault {
     /// The words are no command.
@@ -39,6 +37,16 @@ pub enum Fault {
     Worn,
     /// As many bytes of the control input were taken as may be, and the command hasn't ended.
     ControlLong,
+    /// Nothing is kept, so that nothing is to be adopted.
+    NothingKept,
+    /// As many settings were in force one after another as may be.
+    Eras,
+    /// Files are known by `kept` bytes, and were to be known by `found`.
+    Fingerprint { kept: u32, found: u32 },
+    /// The last settings that are kept can't be read.
+    KeptSettings(SettingsFault),
+    /// What they ask for can't be built.
+    KeptBuild(BuildFault),
 }
 
 impl Fault {
@@ -61,29 +69,16 @@ impl Fault {
             Fault::ControlLine { .. } => 12,
             Fault::Worn => 13,
             Fault::ControlLong => 15,
+            Fault::NothingKept => 16,
+            Fault::Eras => 17,
+            Fault::Fingerprint { .. } => 18,
+            Fault::KeptSettings(_) | Fault::KeptBuild(_) => 19,
         }
     }
 }
 
-impl From<AllocError> for Fault {
-    ghost from_gives = { λ _ fault. fault ≡ Memory };
-
-    fn from(_: AllocError) -> Self {
-        Fault::Memory
-    }
-}
-
-/// For a call on the disk.
-impl From<Failed> for Fault {
-    ghost from_gives = { λ _ fault. fault ≡ Disk };
-
-    fn from(_: Failed) -> Self {
-        Fault::Disk
-    }
-}
-
 impl From<OpenFault> for Fault {
-    ghost use Rattle.agent_commands.specs.Cause.{opening_fault};
+    ghost use Rattle.agent_commands.specs.Faults.{opening_fault};
 
     ghost from_gives = { λ fault made. made ≡ opening_fault fault };
 
@@ -101,7 +96,7 @@ impl From<OpenFault> for Fault {
 }
 
 impl From<PollFault> for Fault {
-    ghost use Rattle.agent_commands.specs.Cause.{polling_fault};
+    ghost use Rattle.agent_commands.specs.Faults.{polling_fault};
 
     ghost from_gives = { λ fault made. made ≡ polling_fault fault };
 
@@ -117,7 +112,7 @@ impl From<PollFault> for Fault {
 
 /// For a look at the checkpoint alone.
 impl From<JournalFault> for Fault {
-    ghost use Rattle.agent_commands.specs.Cause.{reading_fault};
+    ghost use Rattle.agent_commands.specs.Faults.{reading_fault};
 
     ghost from_gives = { λ fault made. made ≡ reading_fault fault };
 
@@ -126,6 +121,30 @@ impl From<JournalFault> for Fault {
             JournalFault::Disk => Fault::Disk,
             JournalFault::Bad { at } => Fault::CheckpointBad { at },
             JournalFault::Memory => Fault::Memory,
+        }
+    }
+}
+
+impl From<AdoptFault> for Fault {
+    ghost use Rattle.agent_commands.specs.Faults.{adopting_fault};
+
+    ghost from_gives = { λ fault made. made ≡ adopting_fault fault };
+
+    fn from(fault: AdoptFault) -> Self {
+        match fault {
+            AdoptFault::Settings(refused) => Fault::Settings(refused),
+            AdoptFault::Build(refused) => Fault::Build(refused),
+            AdoptFault::Disk => Fault::Disk,
+            AdoptFault::NothingKept => Fault::NothingKept,
+            AdoptFault::CheckpointBad { at } => Fault::CheckpointBad { at },
+            AdoptFault::KeptSettings(refused) => Fault::KeptSettings(refused),
+            AdoptFault::Kept(refused) => Fault::KeptBuild(refused),
+            AdoptFault::OutputShort { kept, found } => Fault::OutputShort { kept, found },
+            AdoptFault::Fingerprint { kept, found } => Fault::Fingerprint { kept, found },
+            AdoptFault::Eras => Fault::Eras,
+            AdoptFault::OutputFull { length } => Fault::OutputFull { length },
+            AdoptFault::Worn { .. } => Fault::Worn,
+            AdoptFault::Memory => Fault::Memory,
         }
     }
 }

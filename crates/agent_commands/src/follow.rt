@@ -47,7 +47,7 @@ pub fn follow<T: Tree, D: Disk, S: Source, K: Sink, C: Clock>(
 {
     let session = match open_session(alloc, disk) {
         Ok(session) => session,
-        Err(fault) => return refuse(alloc, fault, report),
+        Err(fault) => return refuse(alloc, Fault::from(fault), report),
     };
     serve(alloc, session, tree, disk, control, report, clock)
 }

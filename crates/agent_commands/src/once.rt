@@ -8,6 +8,7 @@ ghost use Rattle.agent_commands.specs.Headline.{KeepsStanding};
 ghost use Rattle.agent_commands.specs.Moment.{meanings, moment};
 ghost use Rattle.agent_commands.specs.Once.{OnceEnds};
 
+use crate::fault::Fault;
 use crate::opening::open_session;
 use crate::report::refuse;
 use crate::turn::turn;
@@ -32,7 +33,7 @@ pub fn once<T: Tree, D: Disk, K: Sink, C: Clock>(
 {
     let session = match open_session(alloc, disk) {
         Ok(session) => session,
-        Err(fault) => return refuse(alloc, fault, report),
+        Err(fault) => return refuse(alloc, Fault::from(fault), report),
     };
     if let Err(status) = turn(alloc, session, tree, disk, report, clock) {
         return status;

@@ -3,8 +3,8 @@ ghost use Rattle.std.specs.Prelude.{◌≡◌, ◌≢◌, IfOk, IfErr};
 ghost use Rattle.outside.specs.Count.{Rose};
 ghost use Rattle.outside.specs.World.{Told};
 ghost use Rattle.pipeline.specs.Parts.{settings_of};
+ghost use Rattle.poll_core.specs.OpenCause.{HasOpenCause};
 ghost use Rattle.slot_store.specs.OnlyRead.{OnlyRead};
-ghost use Rattle.agent_commands.specs.Cause.{HasDiskCause};
 ghost use Rattle.agent_commands.specs.Control.{max_control, TakesAtMost, TakesExactly};
 ghost use Rattle.agent_commands.specs.Pipe.{IsPipeline, IsPipelineFault, IsStamp, PipeEnds, pipe_moment};
 
@@ -13,7 +13,7 @@ use crate::opening::read_settings;
 use crate::report::refuse;
 use outside::{Clock, Disk, Sink, Source};
 use pipeline::Pipeline;
-use poll_core::pipeline_of;
+use poll_core::{OpenFault, pipeline_of};
 use std::alloc::Global;
 use stream_lines::{StreamFault, print_lines};
 
@@ -39,7 +39,7 @@ pub fn pipe<D: Disk, S: Source, K: Sink, C: Clock>(
 {
     let pipeline = match open_pipeline(alloc, disk) {
         Ok(pipeline) => pipeline,
-        Err(fault) => return refuse(alloc, fault, report),
+        Err(fault) => return refuse(alloc, Fault::from(fault), report),
     };
     let observed = stamp(&pipeline, clock);
     match print_lines(alloc, &pipeline, observed, control, report) {
@@ -64,12 +64,13 @@ fn stamp<C: Clock>(pipeline: &Pipeline, clock: &mut C) -> Option<u64>
 }
 
 // The pipeline that the settings file asks for.
-fn open_pipeline<D: Disk>(alloc: Global, disk: &mut D) -> Result<Pipeline, Fault>
+fn open_pipeline<D: Disk>(alloc: Global, disk: &mut D) -> Result<Pipeline, OpenFault>
     ensures made { IfOk result (IsPipeline D.meaning.images disk.old) }
     ensures fault { IfErr result (IsPipelineFault D.meaning.images disk.old) }
     ensures only_read { OnlyRead D.meaning disk.old disk.new }
-    ensures cause { HasDiskCause result (D.meaning.faults disk.old) (D.meaning.faults disk.new) }
+    ensures cause { HasOpenCause result (D.meaning.faults disk.old) (D.meaning.faults disk.new) }
 {
     let settings = read_settings(alloc, disk)?;
-    Ok(pipeline_of(alloc, &settings)?)
+    let pipeline = pipeline_of(alloc, &settings)?;
+    Ok(pipeline)
 }

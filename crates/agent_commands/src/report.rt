@@ -2,6 +2,7 @@
 ghost use Rattle.std.specs.Prelude.{◌≡◌, ◌++◌, codes, decimal, OnOk, IfOk, string_bytes};
 ghost use Rattle.outside.specs.Count.{HasCause};
 ghost use Rattle.outside.specs.World.{Told};
+ghost use Rattle.agent_commands.specs.AdoptedLine.{adopted_line};
 ghost use Rattle.agent_commands.specs.Committed.{length_line};
 ghost use Rattle.agent_commands.specs.DemoLine.{demo_line};
 ghost use Rattle.agent_commands.specs.Refusal.{settings_words, build_words, cause_words, graph_words};
@@ -15,7 +16,7 @@ use graph_core::GraphFault;
 use op_kinds::OpCause;
 use outside::{CallFault, Sink};
 use pipeline::BuildFault;
-use poll_core::Summary;
+use poll_core::{Adopted, Summary};
 use settings_text::SettingsFault;
 use std::alloc::{AllocError, Global};
 
@@ -59,85 +60,120 @@ fn line_of(alloc: Global, fault: &Fault) -> Result<String, AllocError>
         Fault::ControlLine { number } => format!(in alloc; "fault 12 control-line {number}\n"),
         Fault::Worn => String::from_str(alloc, "fault 13 worn\n"),
         Fault::ControlLong => String::from_str(alloc, "fault 15 control-long\n"),
+        Fault::NothingKept => String::from_str(alloc, "fault 16 nothing-kept\n"),
+        Fault::Eras => String::from_str(alloc, "fault 17 eras\n"),
+        Fault::Fingerprint { kept, found } => {
+            format!(in alloc; "fault 18 fingerprint {kept} {found}\n")
+        }
+        Fault::KeptSettings(refused) => kept_settings_line(alloc, refused),
+        Fault::KeptBuild(refused) => kept_build_line(alloc, refused),
     }
 }
 
 fn settings_line(alloc: Global, refused: &SettingsFault) -> Result<String, AllocError>
     ensures { IfOk result (λ line. string_bytes line ≡ codes "fault 3 " ++ settings_words refused.now ++ codes "\n") }
 {
-    match refused {
-        SettingsFault::NotJson => String::from_str(alloc, "fault 3 settings not-json\n"),
-        SettingsFault::Missing { key } => format!(in alloc; "fault 3 settings missing {key}\n"),
-        SettingsFault::Unknown { key } => format!(in alloc; "fault 3 settings unknown {key}\n"),
-        SettingsFault::WrongKind { key } => {
-            format!(in alloc; "fault 3 settings wrong-kind {key}\n")
-        }
-        SettingsFault::OutOfRange { key } => {
-            format!(in alloc; "fault 3 settings out-of-range {key}\n")
-        }
-        SettingsFault::Fraction { key } => format!(in alloc; "fault 3 settings fraction {key}\n"),
-        SettingsFault::TooLong { length } => {
-            format!(in alloc; "fault 3 settings too-long {length}\n")
-        }
-        SettingsFault::Memory => String::from_str(alloc, "fault 3 settings memory\n"),
-    }
+    let told = settings_told(alloc, refused)?;
+    let words = told.as_str();
+    format!(in alloc; "fault 3 {words}\n")
 }
 
 fn build_line(alloc: Global, refused: &BuildFault) -> Result<String, AllocError>
     ensures { IfOk result (λ line. string_bytes line ≡ codes "fault 3 " ++ build_words refused.now ++ codes "\n") }
+{
+    let told = build_told(alloc, refused)?;
+    let words = told.as_str();
+    format!(in alloc; "fault 3 {words}\n")
+}
+
+fn kept_settings_line(alloc: Global, refused: &SettingsFault) -> Result<String, AllocError>
+    ensures { IfOk result (λ line. string_bytes line ≡ codes "fault 19 kept " ++ settings_words refused.now ++ codes "\n") }
+{
+    let told = settings_told(alloc, refused)?;
+    let words = told.as_str();
+    format!(in alloc; "fault 19 kept {words}\n")
+}
+
+fn kept_build_line(alloc: Global, refused: &BuildFault) -> Result<String, AllocError>
+    ensures { IfOk result (λ line. string_bytes line ≡ codes "fault 19 kept " ++ build_words refused.now ++ codes "\n") }
+{
+    let told = build_told(alloc, refused)?;
+    let words = told.as_str();
+    format!(in alloc; "fault 19 kept {words}\n")
+}
+
+// Why settings can't be read, in words.
+fn settings_told(alloc: Global, refused: &SettingsFault) -> Result<String, AllocError>
+    ensures { IfOk result (λ words. string_bytes words ≡ settings_words refused.now) }
+{
+    match refused {
+        SettingsFault::NotJson => String::from_str(alloc, "settings not-json"),
+        SettingsFault::Missing { key } => format!(in alloc; "settings missing {key}"),
+        SettingsFault::Unknown { key } => format!(in alloc; "settings unknown {key}"),
+        SettingsFault::WrongKind { key } => format!(in alloc; "settings wrong-kind {key}"),
+        SettingsFault::OutOfRange { key } => format!(in alloc; "settings out-of-range {key}"),
+        SettingsFault::Fraction { key } => format!(in alloc; "settings fraction {key}"),
+        SettingsFault::TooLong { length } => format!(in alloc; "settings too-long {length}"),
+        SettingsFault::Memory => String::from_str(alloc, "settings memory"),
+    }
+}
+
+// Why what they ask for can't be built, in words.
+fn build_told(alloc: Global, refused: &BuildFault) -> Result<String, AllocError>
+    ensures { IfOk result (λ words. string_bytes words ≡ build_words refused.now) }
 {
     match refused {
         BuildFault::Glob {
             exclude: false,
             place,
             ..
-        } => include_line(alloc, *place),
+        } => include_told(alloc, *place),
         BuildFault::Glob {
             exclude: true,
             place,
             ..
-        } => exclude_line(alloc, *place),
-        BuildFault::Multiline => String::from_str(alloc, "fault 3 multiline pattern\n"),
-        BuildFault::SameId { place } => format!(in alloc; "fault 3 same-id {place}\n"),
-        BuildFault::Operator { place, cause } => operator_line(alloc, *place, *cause),
-        BuildFault::Graph(fault) => graph_line(alloc, *fault),
-        BuildFault::Memory => String::from_str(alloc, "fault 3 memory\n"),
+        } => exclude_told(alloc, *place),
+        BuildFault::Multiline => String::from_str(alloc, "multiline pattern"),
+        BuildFault::SameId { place } => format!(in alloc; "same-id {place}"),
+        BuildFault::Operator { place, cause } => operator_told(alloc, *place, *cause),
+        BuildFault::Graph(fault) => graph_told(alloc, *fault),
+        BuildFault::Memory => String::from_str(alloc, "memory"),
     }
 }
 
-fn include_line(alloc: Global, place: u64) -> Result<String, AllocError>
-    ensures { IfOk result (λ line. string_bytes line ≡ codes "fault 3 include " ++ decimal place ++ codes " glob\n") }
+fn include_told(alloc: Global, place: u64) -> Result<String, AllocError>
+    ensures { IfOk result (λ words. string_bytes words ≡ codes "include " ++ decimal place ++ codes " glob") }
 {
-    format!(in alloc; "fault 3 include {place} glob\n")
+    format!(in alloc; "include {place} glob")
 }
 
-fn exclude_line(alloc: Global, place: u64) -> Result<String, AllocError>
-    ensures { IfOk result (λ line. string_bytes line ≡ codes "fault 3 exclude " ++ decimal place ++ codes " glob\n") }
+fn exclude_told(alloc: Global, place: u64) -> Result<String, AllocError>
+    ensures { IfOk result (λ words. string_bytes words ≡ codes "exclude " ++ decimal place ++ codes " glob") }
 {
-    format!(in alloc; "fault 3 exclude {place} glob\n")
+    format!(in alloc; "exclude {place} glob")
 }
 
-fn operator_line(alloc: Global, place: u64, cause: OpCause) -> Result<String, AllocError>
-    ensures { IfOk result (λ line. string_bytes line ≡ codes "fault 3 operator " ++ decimal place ++ codes " " ++ cause_words cause ++ codes "\n") }
+fn operator_told(alloc: Global, place: u64, cause: OpCause) -> Result<String, AllocError>
+    ensures { IfOk result (λ words. string_bytes words ≡ codes "operator " ++ decimal place ++ codes " " ++ cause_words cause) }
 {
     match cause {
-        OpCause::Path { .. } => format!(in alloc; "fault 3 operator {place} path\n"),
-        OpCause::Expr { .. } => format!(in alloc; "fault 3 operator {place} expr\n"),
-        OpCause::Pattern => format!(in alloc; "fault 3 operator {place} pattern\n"),
-        OpCause::Layout { .. } => format!(in alloc; "fault 3 operator {place} layout\n"),
-        OpCause::NoNames => format!(in alloc; "fault 3 operator {place} no-names\n"),
-        OpCause::Memory => format!(in alloc; "fault 3 operator {place} memory\n"),
+        OpCause::Path { .. } => format!(in alloc; "operator {place} path"),
+        OpCause::Expr { .. } => format!(in alloc; "operator {place} expr"),
+        OpCause::Pattern => format!(in alloc; "operator {place} pattern"),
+        OpCause::Layout { .. } => format!(in alloc; "operator {place} layout"),
+        OpCause::NoNames => format!(in alloc; "operator {place} no-names"),
+        OpCause::Memory => format!(in alloc; "operator {place} memory"),
     }
 }
 
-fn graph_line(alloc: Global, fault: GraphFault) -> Result<String, AllocError>
-    ensures { IfOk result (λ line. string_bytes line ≡ codes "fault 3 " ++ graph_words fault ++ codes "\n") }
+fn graph_told(alloc: Global, fault: GraphFault) -> Result<String, AllocError>
+    ensures { IfOk result (λ words. string_bytes words ≡ graph_words fault) }
 {
     match fault {
-        GraphFault::NoSuchNode { node } => format!(in alloc; "fault 3 graph no-such-node {node}\n"),
-        GraphFault::Cycle { node } => format!(in alloc; "fault 3 graph cycle {node}\n"),
-        GraphFault::TooManyPaths => String::from_str(alloc, "fault 3 graph too-many-paths\n"),
-        GraphFault::Memory => String::from_str(alloc, "fault 3 graph memory\n"),
+        GraphFault::NoSuchNode { node } => format!(in alloc; "graph no-such-node {node}"),
+        GraphFault::Cycle { node } => format!(in alloc; "graph cycle {node}"),
+        GraphFault::TooManyPaths => String::from_str(alloc, "graph too-many-paths"),
+        GraphFault::Memory => String::from_str(alloc, "graph memory"),
     }
 }
 
@@ -197,6 +233,34 @@ fn line_of_demo(alloc: Global, demo: &Demo) -> Result<String, AllocError>
     push_field(&mut line, " files=", demo.files)?;
     push_field(&mut line, " lines=", demo.lines)?;
     push_field(&mut line, " output=", demo.output)?;
+    line.push_str("\n")?;
+    Ok(line)
+}
+
+/// Reports that settings were adopted by its line.
+pub fn report_adopted<K: Sink>(
+    alloc: Global,
+    adopted: &Adopted,
+    report: &mut K,
+) -> Result<(), CallFault>
+    ensures ok { OnOk result (Told (Appends (adopted_line adopted.now)) (K.meaning.written report.old) (K.meaning.written report.new)) }
+    ensures part { Told (GrowsByPart (adopted_line adopted.now)) (K.meaning.written report.old) (K.meaning.written report.new) }
+    ensures cause { HasCause result (K.meaning.faults report.old) (K.meaning.faults report.new) }
+{
+    let line = line_of_adopted(alloc, adopted)?;
+    report_line(alloc, line.as_str(), report)
+}
+
+// The line has its LF.
+#[tactic(auto, unfolding(crate::specs::AdoptedLine::adopted_line))]
+fn line_of_adopted(alloc: Global, adopted: &Adopted) -> Result<String, AllocError>
+    ensures { IfOk result (λ line. string_bytes line ≡ adopted_line adopted.now) }
+{
+    let mut line = String::new(alloc);
+    push_field(&mut line, "adopted rows=", u64::from(adopted.rows))?;
+    push_field(&mut line, " lines=", adopted.lines)?;
+    push_field(&mut line, " eras=", u64::from(adopted.eras))?;
+    push_field(&mut line, " output=", adopted.output)?;
     line.push_str("\n")?;
     Ok(line)
 }

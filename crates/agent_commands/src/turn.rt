@@ -5,11 +5,11 @@ ghost use Rattle.outside.specs.Count.{Rose};
 ghost use Rattle.outside.specs.Crash.{Passes};
 ghost use Rattle.outside.specs.World.{Told, World};
 ghost use Rattle.poll_core.specs.IsSession.{IsSession};
+ghost use Rattle.poll_core.specs.PollCause.{HasPollCause};
 ghost use Rattle.poll_core.specs.Polled.{Polled};
 ghost use Rattle.poll_core.specs.SessionParts.{rules_of_session, checkpoint_of_session};
 ghost use Rattle.poll_core.specs.Since.{KeepsStandingSince};
 ghost use Rattle.poll_core.specs.StandsOn.{StandsOn};
-ghost use Rattle.agent_commands.specs.Cause.{HasDiskCause};
 ghost use Rattle.agent_commands.specs.Grows.{GrowsBy};
 ghost use Rattle.agent_commands.specs.Headline.{HoldsAll, KeepsFrom, StoodSince};
 ghost use Rattle.agent_commands.specs.Moment.{Moment, meanings, moment};
@@ -21,7 +21,7 @@ use outside::{CallFault, Clock, Disk, Sink, Tree};
 use poll_core::laws::{
     a_complete_poll_reaches_all, a_session_polls_by_rules, settings_give_one_set_of_rules,
 };
-use poll_core::{Session, Summary};
+use poll_core::{PollFault, Session, Summary};
 use std::alloc::Global;
 
 /// Reads the clock, makes a poll at its time and reports it. On Ok the session goes on; on Err the command ends with this status.
@@ -51,7 +51,7 @@ pub fn turn<T: Tree, D: Disk, K: Sink, C: Clock>(
     let session = at_reading(session, clock);
     let (next, summary) = match poll(alloc, session, tree, disk) {
         Ok(done) => done,
-        Err(fault) => return Err(refuse(alloc, fault, report)),
+        Err(fault) => return Err(refuse(alloc, Fault::from(fault), report)),
     };
     match report_summary(alloc, &summary, report) {
         Ok(()) => Ok(next),
@@ -76,7 +76,7 @@ fn poll<T: Tree, D: Disk>(
     session: Session,
     tree: &mut T,
     disk: &mut D,
-) -> Result<(Session, Summary), Fault>
+) -> Result<(Session, Summary), PollFault>
     requires session { IsSession session }
     requires stands { StandsOn D.meaning.images session disk.old }
     ensures session { IfOk result (λ done. IsSession done.0) }
@@ -88,10 +88,11 @@ fn poll<T: Tree, D: Disk>(
     ensures crash { Passes D.meaning.images (GrowsBy 1) disk.old disk.new }
     ensures standing { Told (KeepsStandingSince D.meaning.images (rules_of_session session).front_size disk.old disk.new) (T.meaning.world tree.old) (T.meaning.world tree.new) }
     ensures later { Told GoesLater (T.meaning.world tree.old) (T.meaning.world tree.new) }
-    ensures cause { HasDiskCause result (D.meaning.faults disk.old) (D.meaning.faults disk.new) }
+    ensures cause { HasPollCause result (D.meaning.faults disk.old) (D.meaning.faults disk.new) }
 {
     settings_give_one_set_of_rules();
     a_session_polls_by_rules(&session);
     a_complete_poll_reaches_all();
-    Ok(session.poll(alloc, tree, disk)?)
+    let done = session.poll(alloc, tree, disk)?;
+    Ok(done)
 }

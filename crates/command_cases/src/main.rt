@@ -3,7 +3,9 @@
 
 mod control;
 mod damage;
+mod parts;
 mod steps;
+mod stops;
 mod world;
 
 use case_files::{Answers, Case, check_files};
@@ -18,6 +20,9 @@ impl Answers for Commands {
         match case.call {
             "commands" => steps::answer(alloc, case.text),
             "damage" => damage::answer(alloc, case.words, case.text),
+            "stops" => stops::answer(alloc, case.words, case.text),
+            "parts" => parts::answer(alloc, case.words, case.text),
+            "part_stops" => parts::stops(alloc, case.text),
             "control" => control::answer(alloc, case.words, &case.input),
             _ => String::from_str(alloc, "no such call"),
         }

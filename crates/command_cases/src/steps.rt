@@ -34,13 +34,20 @@ pub fn played(alloc: Global, text: &str, piece: usize) -> Result<(World, String)
     requires { 0 < piece }
 {
     let mut world = World::new(alloc)?;
+    let told = play(alloc, &mut world, text, piece)?;
+    Ok((world, told))
+}
+
+/// What the steps print that are made in the world as it is, with reads of the control input of so many bytes.
+pub fn play(alloc: Global, world: &mut World, text: &str, piece: usize) -> Result<String, StepFault>
+    requires { 0 < piece }
+{
     let mut told = String::new(alloc);
     for line in text.split('\n') {
-        step(alloc, &mut world, &mut told, line, piece)?;
+        step(alloc, world, &mut told, line, piece)?;
     }
     let trimmed = told.as_str().trim_end_matches('\n');
-    let told = String::from_str(alloc, trimmed)?;
-    Ok((world, told))
+    Ok(String::from_str(alloc, trimmed)?)
 }
 
 fn step(
@@ -102,7 +109,7 @@ fn change(alloc: Global, world: &mut World, step: &str, rest: &str) -> Result<()
         "settings" => put(alloc, world, DiskFile::Settings, rest),
         "kept" => put(alloc, world, DiskFile::Output, rest),
         "checkpoint" => put(alloc, world, DiskFile::SlotA, rest),
-        "crash" => world.crash(alloc),
+        "crash" => world.crash(alloc, small(rest)),
         part => {
             let part = part.strip_prefix("fail_").unwrap_or(part);
             Ok(world.fail(alloc, part, small(rest))?)

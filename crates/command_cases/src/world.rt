@@ -7,7 +7,7 @@ use std::alloc::{AllocError, Global};
 use std::mem;
 
 /// The settings that a world begins with.
-const SETTINGS: &[u8] = b"{\"include\":[\"app.log*\"],\"start_at\":\"beginning\"}";
+pub const SETTINGS: &[u8] = b"{\"include\":[\"app.log*\"],\"start_at\":\"beginning\"}";
 
 /// A tree with one file, `app.log`, a disk, a control input, a report and a clock. The steps of others are those on the newest file.
 #[derive(Drop)]
@@ -78,12 +78,26 @@ impl World {
         self.tree.spoil(FileName(self.newest), size as usize);
     }
 
-    /// The disk is what a crash leaves that keeps no write which no sync followed.
-    pub fn crash(&mut self, alloc: Global) -> Result<(), StepFault> {
+    /// The disk is what a crash leaves, by its outcome. That with the number 0 keeps no write which no sync followed.
+    pub fn crash(&mut self, alloc: Global, outcome: u32) -> Result<(), StepFault> {
         let empty = MemDisk::new(alloc)?;
         let stopped = mem::replace(&mut self.disk, empty);
-        self.disk = stopped.crash(alloc, 0)?;
+        self.disk = stopped.crash(alloc, outcome)?;
         Ok(())
+    }
+
+    /// The command of these words is stopped once it has made so many calls on the disk, and a crash leaves what its outcome says.
+    pub fn stop(
+        &mut self,
+        alloc: Global,
+        words: &str,
+        calls: u32,
+        outcome: u32,
+    ) -> Result<(), StepFault> {
+        self.disk.fuse(calls);
+        self.run(alloc, words)?;
+        self.report = MemSink::new(alloc)?;
+        self.crash(alloc, outcome)
     }
 
     /// The call with this number fails, from 1, of the part that the word names.
@@ -98,10 +112,7 @@ impl World {
 
     /// The status with which the command ends that these words are, with a space between two.
     pub fn run(&mut self, alloc: Global, words: &str) -> Result<u8, AllocError> {
-        let mut given = Vec::new(alloc);
-        for word in words.split(' ') {
-            given.push(String::from_str(alloc, word)?)?;
-        }
+        let given = split_words(alloc, words)?;
         Ok(run_agent(
             alloc,
             &given,
@@ -112,4 +123,19 @@ impl World {
             &mut self.clock,
         ))
     }
+
+    /// What is reported from now on is a new report.
+    pub fn new_report(&mut self, alloc: Global) -> Result<(), AllocError> {
+        self.report = MemSink::new(alloc)?;
+        Ok(())
+    }
+}
+
+/// The words of a text that has a space between two.
+pub fn split_words(alloc: Global, text: &str) -> Result<Vec<String>, AllocError> {
+    let mut words = Vec::new(alloc);
+    for word in text.split(' ') {
+        words.push(String::from_str(alloc, word)?)?;
+    }
+    Ok(words)
 }

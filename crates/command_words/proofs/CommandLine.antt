@@ -73,6 +73,10 @@ pub follow_enters : (rest : List Text) → Enters (codes "follow") (plain_leaf (
 unfolding walked
 follow_enters rest = enters (codes "follow") (plain_leaf (codes "follow")) rest refl refl refl
 
+pub adopt_enters : (rest : List Text) → Enters (codes "adopt") (plain_leaf (codes "adopt")) rest
+unfolding walked
+adopt_enters rest = enters (codes "adopt") (plain_leaf (codes "adopt")) rest refl refl refl
+
 pub committed_enters : (rest : List Text) → Enters (codes "committed") (plain_leaf (codes "committed")) rest
 unfolding walked
 committed_enters rest = enters (codes "committed") (plain_leaf (codes "committed")) rest refl refl refl

@@ -15,8 +15,8 @@ use Rattle.command_words.specs.IsCommand.{IsCommand}
 use Rattle.command_words.specs.Program.{program}
 use Rattle.command_words.specs.Rounds.{AnswersDemo}
 use Rattle.command_words.specs.declared.command.Command.{Command}
-use Rattle.command_words.specs.declared.command.Command.TheVariants.{Once, Follow, Committed, Pipe, Demo}
-use Rattle.command_words.proofs.CommandLine.{Enters, agent, committed_enters, demo_enters, follow_enters, no_number_fails, none_more_passes, number_is, number_passes, once_enters, pipe_enters, plain_leaf, unnamed_fails, word_after_number_fails, word_more_fails, words_missing_fail}
+use Rattle.command_words.specs.declared.command.Command.TheVariants.{Once, Follow, Adopt, Committed, Pipe, Demo}
+use Rattle.command_words.proofs.CommandLine.{Enters, adopt_enters, agent, committed_enters, demo_enters, follow_enters, no_number_fails, none_more_passes, number_is, number_passes, once_enters, pipe_enters, plain_leaf, unnamed_fails, word_after_number_fails, word_more_fails, words_missing_fail}
 use Rattle.command_words.proofs.Commands.{letter_is, plain_decimal}
 use Rattle.command_words.proofs.Faults.{first_passes}
 
@@ -25,25 +25,27 @@ use Rattle.command_words.proofs.Faults.{first_passes}
 data Named (word : Text) : Type 0 where
   once : word ≡ codes "once" → Named word
   follow : word ≡ codes "follow" → Named word
+  adopt : word ≡ codes "adopt" → Named word
   committed : word ≡ codes "committed" → Named word
   pipe : word ≡ codes "pipe" → Named word
   demo : word ≡ codes "demo" → Named word
   unnamed : find (answers_to word) (names_of agent) ≡ None → Named word
 
 named : (word : Text) → Named word
-named word = go (bytes_eq (codes "once") word) refl (bytes_eq (codes "follow") word) refl (bytes_eq (codes "committed") word) refl (bytes_eq (codes "pipe") word) refl (bytes_eq (codes "demo") word) refl
+named word = go (bytes_eq (codes "once") word) refl (bytes_eq (codes "follow") word) refl (bytes_eq (codes "adopt") word) refl (bytes_eq (codes "committed") word) refl (bytes_eq (codes "pipe") word) refl (bytes_eq (codes "demo") word) refl
   where
     same : (name : Text) → bytes_eq name word ≡ true → word ≡ name
     same name e = sym ((bytes_eq-Decides name word).0 e)
 
-    go : (a : Bool) → bytes_eq (codes "once") word ≡ a → (b : Bool) → bytes_eq (codes "follow") word ≡ b → (c : Bool) → bytes_eq (codes "committed") word ≡ c
-        → (d : Bool) → bytes_eq (codes "pipe") word ≡ d → (e : Bool) → bytes_eq (codes "demo") word ≡ e → Named word
-    go true is b _ c _ d _ e _ = once (same (codes "once") is)
-    go false _ true is c _ d _ e _ = follow (same (codes "follow") is)
-    go false _ false _ true is d _ e _ = committed (same (codes "committed") is)
-    go false _ false _ false _ true is e _ = pipe (same (codes "pipe") is)
-    go false _ false _ false _ false _ true is = demo (same (codes "demo") is)
-    go false a false b false c false d false e = unnamed (rw (a, b, c, d, e) refl)
+    go : (a : Bool) → bytes_eq (codes "once") word ≡ a → (b : Bool) → bytes_eq (codes "follow") word ≡ b → (c : Bool) → bytes_eq (codes "adopt") word ≡ c
+        → (d : Bool) → bytes_eq (codes "committed") word ≡ d → (e : Bool) → bytes_eq (codes "pipe") word ≡ e → (f : Bool) → bytes_eq (codes "demo") word ≡ f → Named word
+    go true is b _ c _ d _ e _ f _ = once (same (codes "once") is)
+    go false _ true is c _ d _ e _ f _ = follow (same (codes "follow") is)
+    go false _ false _ true is d _ e _ f _ = adopt (same (codes "adopt") is)
+    go false _ false _ false _ true is e _ f _ = committed (same (codes "committed") is)
+    go false _ false _ false _ false _ true is f _ = pipe (same (codes "pipe") is)
+    go false _ false _ false _ false _ false _ true is = demo (same (codes "demo") is)
+    go false a false b false c false d false e false f = unnamed (rw (a, b, c, d, e, f) refl)
 
 -- ---- taken
 
@@ -51,6 +53,7 @@ named word = go (bytes_eq (codes "once") word) refl (bytes_eq (codes "follow") w
 pub record AnswersEntered (entered : Option (Text × List Row)) (answer : Option Command) : Type 0 where
   pub once : (rows : List Row) → entered ≡ Some (codes "once", rows) → answer ≡ Some Once
   pub follow : (rows : List Row) → entered ≡ Some (codes "follow", rows) → answer ≡ Some Follow
+  pub adopt : (rows : List Row) → entered ≡ Some (codes "adopt", rows) → answer ≡ Some Adopt
   pub committed : (rows : List Row) → entered ≡ Some (codes "committed", rows) → answer ≡ Some Committed
   pub pipe : (rows : List Row) → entered ≡ Some (codes "pipe", rows) → answer ≡ Some Pipe
   pub demo : (rows : List Row) (text : Text) → entered ≡ Some (codes "demo", rows) → first_of (codes "rounds") rows ≡ Some text → AnswersDemo text answer
@@ -70,6 +73,7 @@ number_answers : (text : Text) (answer : Option Command) → AnswersDemo text an
 number_answers text (Some (Demo n)) h = (h.0, h.1, ap (λ t. codes "demo" ∷ t ∷ []) h.2)
 number_answers text (Some Once) h = absurd h
 number_answers text (Some Follow) h = absurd h
+number_answers text (Some Adopt) h = absurd h
 number_answers text (Some Committed) h = absurd h
 number_answers text (Some Pipe) h = absurd h
 number_answers text None h = go
@@ -78,6 +82,7 @@ number_answers text None h = go
     go (Demo n) spelled = h n (spelled.0, spelled.1, ap (λ (ws : List Text). get_or ws 1 []) spelled.2)
     go Once spelled = let same : 100 ≡ 111 = letter_is _ Once spelled in omega (arith, same)
     go Follow spelled = let same : 100 ≡ 102 = letter_is _ Follow spelled in omega (arith, same)
+    go Adopt spelled = let same : 100 ≡ 97 = letter_is _ Adopt spelled in omega (arith, same)
     go Committed spelled = let same : 100 ≡ 99 = letter_is _ Committed spelled in omega (arith, same)
     go Pipe spelled = let same : 100 ≡ 112 = letter_is _ Pipe spelled in omega (arith, same)
 
@@ -104,6 +109,7 @@ taken (word ∷ rest) plain none answer entered = go (named word)
     go : Named word → Answers (word ∷ rest) answer
     go (once is) = subst Goal (sym is) (λ n e. rw (e.once _ (once_enters rest).1) (ap (λ words. codes "once" ∷ words) (alone (codes "once") rest (once_enters rest) plains.1 n))) none entered
     go (follow is) = subst Goal (sym is) (λ n e. rw (e.follow _ (follow_enters rest).1) (ap (λ words. codes "follow" ∷ words) (alone (codes "follow") rest (follow_enters rest) plains.1 n))) none entered
+    go (adopt is) = subst Goal (sym is) (λ n e. rw (e.adopt _ (adopt_enters rest).1) (ap (λ words. codes "adopt" ∷ words) (alone (codes "adopt") rest (adopt_enters rest) plains.1 n))) none entered
     go (committed is) = subst Goal (sym is) (λ n e. rw (e.committed _ (committed_enters rest).1) (ap (λ words. codes "committed" ∷ words) (alone (codes "committed") rest (committed_enters rest) plains.1 n))) none entered
     go (pipe is) = subst Goal (sym is) (λ n e. rw (e.pipe _ (pipe_enters rest).1) (ap (λ words. codes "pipe" ∷ words) (alone (codes "pipe") rest (pipe_enters rest) plains.1 n))) none entered
     go (demo is) = subst Goal (sym is) (λ n e. demo_taken rest plains.1 n answer e) none entered
@@ -114,6 +120,7 @@ taken (word ∷ rest) plain none answer entered = go (named word)
 passes : (words : List Text) (command : Command) → IsCommand words command → fault_of program words ≡ []
 passes words Once spelled = ap (fault_of program) spelled ∙ (once_enters []).0 ∙ none_more_passes (codes "once")
 passes words Follow spelled = ap (fault_of program) spelled ∙ (follow_enters []).0 ∙ none_more_passes (codes "follow")
+passes words Adopt spelled = ap (fault_of program) spelled ∙ (adopt_enters []).0 ∙ none_more_passes (codes "adopt")
 passes words Committed spelled = ap (fault_of program) spelled ∙ (committed_enters []).0 ∙ none_more_passes (codes "committed")
 passes words Pipe spelled = ap (fault_of program) spelled ∙ (pipe_enters []).0 ∙ none_more_passes (codes "pipe")
 passes words (Demo n) spelled =

@@ -10,6 +10,8 @@ pub enum Command {
     Once,
     /// `follow`: a poll whenever the control input asks for one.
     Follow,
+    /// `adopt`: lets the settings file follow the settings that are kept.
+    Adopt,
     /// `committed`: tells how much of the output is kept.
     Committed,
     /// `pipe`: prints the lines of the control input.

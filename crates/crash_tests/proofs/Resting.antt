@@ -8,7 +8,7 @@ use Rattle.outside.specs.declared.disk.DiskFile.TheVariants.{SlotA, SlotB}
 use Rattle.slot_store.specs.OnlyRead.{OnlyRead}
 use Rattle.slot_store.specs.Synced.{EachLeft, LeavesChanged}
 use Rattle.mem_world.specs.DiskImages.{LeavesImage}
-use Rattle.mem_world.specs.DiskLog as story
+use Rattle.out_segments.specs.MemLog as story
 use Rattle.mem_world.specs.MemDisk.{disk_images, disk_meaning, history_of, seen_of}
 use Rattle.mem_world.specs.declared.disk.MemDisk.{MemDisk}
 use Rattle.record_log.specs.Appended.{appended, GainsRecord}

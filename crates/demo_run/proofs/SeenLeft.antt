@@ -1,11 +1,12 @@
 -- What reads give of a disk in memory may be left by a crash.
 use Rattle.std.proofs.Common.{ℕ, List, [], ◌∷◌, length, Bool, true, false, refl, inl, inr, arith}
 use Rattle.std.specs.Prelude.{if◌then◌else◌}
-use Rattle.mem_world.specs.DiskLog.{Log, Leaves, LeavesBy, calls_of, changed, content}
+use Rattle.mem_world.specs.DiskFiles.{calls_of}
+use Rattle.out_segments.specs.MemLog.{Log, Leaves, LeavesBy, changed, content}
 use Rattle.mem_world.specs.MemDisk.{MayLeave, history_of, seen_of}
 use Rattle.mem_world.specs.declared.disk.MemDisk.{MemDisk}
-use Rattle.mem_world.specs.declared.disk.log.Change.{Change}
-use Rattle.mem_world.specs.declared.disk.log.Change.TheVariants.{Put, Write, Cut, Sync}
+use Rattle.out_segments.specs.declared.memory.log.Change.{Change}
+use Rattle.out_segments.specs.declared.memory.log.Change.TheVariants.{Put, Write, Cut, Sync}
 use Rattle.outside.specs.Image.{Torn}
 
 untouched : (offset size : ℕ) (old : List ℕ) → Torn offset size old old

@@ -24,5 +24,6 @@ mod taking;
 
 pub use counts::Counts;
 pub use fault::PassFault;
+pub use output::{past_limit, write_behind};
 pub use setup::Setup;
 pub use taking::{Taking, take_all};

@@ -22,6 +22,7 @@
 
 ghost use Rattle.std.specs.Prelude.{◌≡◌, ℕ, ◌≤◌, [], ◌∷◌, ◌++◌, List, length, IfOk, IfErr, OnOk};
 ghost use Rattle.graph_core.specs.Wiring.{wiring_of, edges_of};
+ghost use Rattle.graph_core.specs.Closing.{closing_order};
 ghost use Rattle.graph_core.specs.Faults.{IsAccepted, IsCause};
 ghost use Rattle.graph_core.specs.Traces.{network_of, start_states, inputs, closings, Served};
 
@@ -240,6 +241,13 @@ impl<O: Step> Graph<O> {
         ensures fresh { OnOk result (states.new.items ≡ start_states (network_of O.behavior self.now)) }
     {
         walk::close_all(self, alloc, states, out)
+    }
+
+    /// The places of the nodes in the order in which [`close`](Graph::close) closes them.
+    pub fn closing(&self) -> &[u16]
+        ensures { result.now ≡ closing_order (edges_of (wiring_of self.now)) }
+    {
+        self.order.as_slice()
     }
 
     /// The nodes, as they were handed in.

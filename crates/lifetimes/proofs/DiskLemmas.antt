@@ -8,7 +8,7 @@ use Rattle.lifetimes.specs.OneEra.{one_era}
 use Rattle.lifetimes.specs.Past.{Past, Failures, IsLeftAt, LeavesAt, IsDiskAt, IsOpened, IsWell, dropped, polled}
 use Rattle.mem_world.specs.DiskImages.{LeavesImage, LeftSince}
 use Rattle.mem_world.specs.DiskLaws.{left_now, left_only_now}
-use Rattle.mem_world.specs.DiskLog.{Log}
+use Rattle.out_segments.specs.MemLog.{Log}
 use Rattle.mem_world.specs.MemDisk.{disk_images, faults_of, history_of, seen_of, moment_of, MayLeave, IsFresh}
 use Rattle.mem_world.specs.declared.disk.MemDisk.{MemDisk}
 use Rattle.outside.specs.Crash.{Passes, IsDurable}

@@ -25,12 +25,14 @@ use Rattle.lifetimes.specs.Ended.{history_of}
 use Rattle.lifetimes.specs.Past.{Past, Failures, Waits, LeavesAt, IsDiskAt, IsWell, IsReady, IsOpened, IsTreeAt, IsTreePolled, MayPoll, GoesOn, dropped, polled}
 use Rattle.lifetimes.specs.Script.{Halt, is_early}
 use Rattle.lifetimes.specs.Stopped.{IsStopped}
-use Rattle.mem_world.specs.CrashOutcome.{left_by, tear_of}
-use Rattle.mem_world.specs.DiskCount.{done_count}
+use Rattle.mem_world.specs.DiskFiles.{tear_of}
+use Rattle.out_segments.specs.CrashOutcome.{left_by}
+use Rattle.out_segments.specs.MemCount.{done_count}
 use Rattle.mem_world.specs.DiskLaws.{leaves_shown}
-use Rattle.mem_world.specs.DiskLog.{Log, calls_of}
-use Rattle.mem_world.specs.DiskPlans.{bound_of, is_reached}
-use Rattle.mem_world.specs.declared.disk.fuse.Fuse.{Fuse}
+use Rattle.mem_world.specs.DiskFiles.{calls_of}
+use Rattle.out_segments.specs.MemLog.{Log}
+use Rattle.mem_calls.specs.CallPlans.{bound_of, is_reached}
+use Rattle.mem_calls.specs.declared.fuse.Fuse.{Fuse}
 use Rattle.mem_world.specs.DiskImages.{LeavesImage}
 use Rattle.mem_world.specs.MemDisk.{disk_images, disk_meaning, history_of as log_of, seen_of, moment_of, base_of, failures_of, faults_of, fuse_of, most_faults, done_of, most_done}
 use Rattle.mem_world.specs.MemTree.{state_of, tree_meaning}

@@ -2,9 +2,10 @@
 use Rattle.std.specs.Prelude.{◌≡◌, ◌+◌, ◌≤◌, Some}
 use Rattle.lifetimes.specs.Script.{Halt}
 use Rattle.lifetimes.specs.declared.stopping.Stopping.{Stopping}
-use Rattle.mem_world.specs.CrashOutcome.{left_by, tear_of}
-use Rattle.mem_world.specs.DiskCount.{done_count}
-use Rattle.mem_world.specs.DiskLog.{calls_of}
+use Rattle.mem_world.specs.DiskFiles.{tear_of}
+use Rattle.out_segments.specs.CrashOutcome.{left_by}
+use Rattle.out_segments.specs.MemCount.{done_count}
+use Rattle.mem_world.specs.DiskFiles.{calls_of}
 use Rattle.mem_world.specs.MemDisk.{history_of, most_done, moment_of, seen_of}
 use Rattle.mem_world.specs.declared.disk.MemDisk.{MemDisk}
 use Rattle.outside.specs.declared.disk.DiskFile.{DiskFile}

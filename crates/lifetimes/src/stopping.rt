@@ -1,8 +1,9 @@
 // Stops, and what a crash makes of a disk.
 ghost use Rattle.std.specs.Prelude.{◌≡◌, OnOk};
 ghost use Rattle.lifetimes.specs.Past.{Failures, IsDiskAt, LeavesAt, Past, dropped};
-ghost use Rattle.mem_world.specs.CrashOutcome.{left_by, tear_of};
-ghost use Rattle.mem_world.specs.DiskLog.{calls_of};
+ghost use Rattle.mem_world.specs.DiskFiles.{tear_of};
+ghost use Rattle.out_segments.specs.CrashOutcome.{left_by};
+ghost use Rattle.mem_world.specs.DiskFiles.{calls_of};
 ghost use Rattle.mem_world.specs.MemDisk.{history_of, seen_of};
 ghost use Rattle.outside.specs.declared.disk.DiskFile.{DiskFile};
 ghost use Rattle.standing.specs.Rules.{Rules};

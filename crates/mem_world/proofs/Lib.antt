@@ -13,9 +13,4 @@ mod TreeCutting
 mod TreeFolders
 mod TreeListings
 mod StreamTaking
-mod DiskFiles
-mod CrashLeaves
-mod DiskBounds
-mod CrashCalls
-mod DiskSteps
-mod CrashTearing
+mod DiskCalls

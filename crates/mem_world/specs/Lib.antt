@@ -16,16 +16,9 @@ pub mod TreeCalls
 pub mod TreeSpoiled
 pub mod MemTree
 pub mod TreeListing
-pub mod DiskFailures
 pub mod MemSource
 pub mod MemSink
-pub mod DiskLog
+pub mod DiskFiles
 pub mod DiskImages
-pub mod DiskContents
-pub mod DiskStore
 pub mod DiskLaws
-pub mod DiskPlans
-pub mod DiskPlansOf
-pub mod DiskCount
 pub mod MemDisk
-pub mod CrashOutcome

@@ -1,56 +1,41 @@
 // A disk in memory.
-ghost use Rattle.std.specs.Prelude.{◌≡◌, ℕ, ◌+◌, ◌≤◌, ◌∷◌, ◌++◌, [], true, false, IfSome, IsOk, IfOk, OnOk, OnErr, None, Some, option_map, if◌then◌else◌};
-ghost use Rattle.outside.specs.Count.{Rose};
-ghost use Rattle.std.proofs.Props.{props};
+ghost use Rattle.std.specs.Prelude.{◌≡◌, ℕ, ◌+◌, ◌∷◌, ◌++◌, [], IsOk, IfOk, OnOk, OnErr, None, Some, option_map, if◌then◌else◌};
+ghost use Rattle.mem_calls.specs.CallPlans.{new_fuse, is_reached};
 ghost use Rattle.outside.specs.declared.disk.DiskFile.{DiskFile};
-ghost use Rattle.outside.specs.DiskCalls.{written_after};
 ghost use Rattle.outside.specs.Image.{AtFile};
 ghost use Rattle.outside.specs.Crash.{Passes, IsDurable};
-ghost use Rattle.mem_world.specs.DiskLog.{Log, Leaves, calls_of};
-ghost use Rattle.mem_world.specs.DiskStore.{log_of};
-ghost use Rattle.mem_world.specs.DiskCount.{done_count};
-ghost use Rattle.mem_world.specs.DiskPlans.{limit_of, left_of, failed, new_fuse, is_reached};
+ghost use Rattle.out_segments.specs.CrashOutcome.{left_by, without_unsynced, with_unsynced};
+ghost use Rattle.out_segments.specs.MemCount.{done_count};
+ghost use Rattle.out_segments.specs.MemLog.{Log};
+ghost use Rattle.mem_world.specs.DiskFiles.{own_file, calls_of, tear_of};
 
 mod calls;
-mod contents;
-pub(crate) mod failures;
-mod fuse;
-mod log;
-mod plans;
-mod store;
-mod tear;
 
-use log::Change;
-use outside::{CallFault, DiskFile, Failed};
-use plans::Plans;
+use out_segments::{MemParts, PartFile};
+use outside::DiskFile;
 use std::alloc::{AllocError, Global};
-use store::Store;
-use tear::Tear;
 
 /// The agent's four files in memory. It tells its images, and may be stopped inside any call.
+#[derive(Drop)]
 pub struct MemDisk {
-    store: Store,
-    plans: Plans,
-    // The bytes that writes to the slots were given.
-    written: u64,
-    ghost in_range: { written ≤ 18446744073709551615 },
-    ghost limited: { IfSome (limit_of plans.fuse) (λ most. done_count (log_of store) + left_of plans.fuse ≤ most) } by { Prim.hlevel props },
+    // Of its files four are used.
+    parts: MemParts,
 }
 
-// By hand, so that what drops one goes by this call, and not by what each field may hold.
-impl Drop for MemDisk {
-    fn drop(self) {
-        let MemDisk {
-            store: _store,
-            plans: _plans,
-            written: _,
-        } = self;
+// The file of the Parts that stands for one of the four.
+fn own_file(file: DiskFile) -> PartFile
+    ensures { result ≡ own_file file }
+{
+    match file {
+        DiskFile::Settings => PartFile::Settings,
+        DiskFile::Output => PartFile::Part(0),
+        DiskFile::SlotA => PartFile::SlotA,
+        DiskFile::SlotB => PartFile::SlotB,
     }
 }
 
 impl MemDisk {
-    ghost use Rattle.mem_world.specs.MemDisk.{history_of, fuse_of, failures_of, faults_of, seen_of, MayLeave, most_faults, done_of, most_done, written_of, written_then, disk_images, next_fate, IsFresh, KeepsPlans, Counts, Calls};
-    ghost use Rattle.mem_world.specs.CrashOutcome.{left_by, tear_of, without_unsynced, with_unsynced};
+    ghost use Rattle.mem_world.specs.MemDisk.{history_of, fuse_of, failures_of, faults_of, seen_of, MayLeave, most_faults, done_of, most_done, written_of, disk_images, IsFresh, KeepsPlans};
 
     /// Four empty files.
     pub fn new(alloc: Global) -> Result<Self, AllocError>
@@ -59,11 +44,8 @@ impl MemDisk {
         ensures durable { IfOk result (λ disk. (file : DiskFile) → IsDurable disk_images file disk) }
         ensures fresh { IfOk result IsFresh }
     {
-        Ok(MemDisk {
-            store: Store::new(alloc),
-            plans: Plans::new(alloc),
-            written: 0,
-        })
+        let parts = MemParts::new(alloc)?;
+        Ok(MemDisk { parts })
     }
 
     /// Sets a file, synced.
@@ -76,15 +58,14 @@ impl MemDisk {
         ensures written { written_of self.new ≡ written_of self.old }
         ensures err { OnErr result (history_of self.new ≡ history_of self.old) }
     {
-        let bytes = bytes.to_vec(alloc)?;
-        self.store.record(alloc, file, Change::Put { bytes }, true)
+        self.parts.put(alloc, own_file(file), bytes)
     }
 
     /// What reads give of a file.
     pub fn bytes(&self, file: DiskFile) -> &[u8]
         ensures { result.now ≡ seen_of self.now file }
     {
-        self.store.bytes(file)
+        self.parts.bytes(own_file(file))
     }
 
     /// Lets so many further calls pass. Each later one fails without effect, but the first of them counts as begun,
@@ -99,12 +80,12 @@ impl MemDisk {
         ensures failures { failures_of self.new ≡ failures_of self.old }
         ensures written { written_of self.new ≡ written_of self.old }
     {
-        self.plans.set_fuse(self.store.done(), calls);
+        self.parts.fuse(calls);
     }
 
     /// Makes the call with this number from now, where 1 is the next, fail without effect. No call has the number 0, and
     /// one for which memory runs out isn't counted.
-    pub fn fail(&mut self, _alloc: Global, call: u32) -> Result<(), AllocError>
+    pub fn fail(&mut self, alloc: Global, call: u32) -> Result<(), AllocError>
         ensures ok { OnOk result (failures_of self.new ≡ failures_of self.old ++ call ∷ []) }
         ensures bound { OnOk result (most_faults self.new ≡ option_map (λ most. most + 1) (most_faults self.old)) }
         ensures err { OnErr result (KeepsPlans self.old self.new) }
@@ -113,7 +94,7 @@ impl MemDisk {
         ensures fuse { fuse_of self.new ≡ fuse_of self.old }
         ensures written { written_of self.new ≡ written_of self.old }
     {
-        self.plans.fail(call)
+        self.parts.fail(alloc, call)
     }
 
     /// Drops the failures that weren't reached, and the fuse where it wasn't. One that was reached stays.
@@ -126,7 +107,7 @@ impl MemDisk {
         ensures faults { faults_of self.new ≡ faults_of self.old }
         ensures written { written_of self.new ≡ written_of self.old }
     {
-        self.plans.clear();
+        self.parts.clear_plans();
     }
 
     /// The disk after a crash, with no faults and nothing planned. Nothing is left to sync.
@@ -150,80 +131,15 @@ impl MemDisk {
         ensures fresh { IfOk result IsFresh }
         ensures torn { IfOk result (λ disk. (file : DiskFile) → seen_of disk file ≡ left_by (tear_of outcome file) (calls_of file (history_of self))) }
     {
-        let settings = self.left(alloc, DiskFile::Settings, outcome)?;
-        let output = self.left(alloc, DiskFile::Output, outcome)?;
-        let slot_a = self.left(alloc, DiskFile::SlotA, outcome)?;
-        let slot_b = self.left(alloc, DiskFile::SlotB, outcome)?;
-        let mut disk = MemDisk::new(alloc)?;
-        disk.put(alloc, DiskFile::Settings, &settings)?;
-        disk.put(alloc, DiskFile::Output, &output)?;
-        disk.put(alloc, DiskFile::SlotA, &slot_a)?;
-        disk.put(alloc, DiskFile::SlotB, &slot_b)?;
-        Ok(disk)
+        let parts = self.parts.crash(alloc, outcome)?;
+        Ok(MemDisk { parts })
     }
 
     /// Outcome 0 leaves nothing of the writes and cuts that no sync followed, and outcome 1 all of them.
     pub fn outcomes_leave_nothing_or_all()
         ensures nothing { (file : DiskFile) (log : Log) → left_by (tear_of 0 file) log ≡ without_unsynced log }
         ensures all { (file : DiskFile) (log : Log) → left_by (tear_of 1 file) log ≡ with_unsynced log }
-    {}
-
-    // What the outcome leaves of a file.
-    fn left(&self, alloc: Global, file: DiskFile, outcome: u32) -> Result<Vec<u8>, AllocError>
-        ensures left { IfOk result (λ left. Leaves (calls_of file (history_of self.now)) left.items) }
-        ensures torn { IfOk result (λ left. left.items ≡ left_by (tear_of outcome file) (calls_of file (history_of self.now))) }
     {
-        self.store.left(alloc, file, Tear::of(outcome, file))
-    }
-
-    // The bytes that writes to the slots were given, with those of this write.
-    fn written_given(&self, file: DiskFile, size: usize) -> u64
-        ensures { Some result ≡ written_after file size (Some (written_of self.now)) }
-    {
-        match file {
-            DiskFile::Settings | DiskFile::Output => self.written,
-            DiskFile::SlotA | DiskFile::SlotB => self.written.saturating_add(size as u64),
-        }
-    }
-
-    // The same with those of this call.
-    fn written_with(&self, file: DiskFile, change: &Change) -> u64
-        ensures { Some result ≡ written_then change.now file (Some (written_of self.now)) }
-    {
-        match change {
-            Change::Write { offset: _, bytes } => self.written_given(file, bytes.len()),
-            Change::Put { .. } | Change::Cut { .. } | Change::Sync => self.written,
-        }
-    }
-
-    // A write, a cut or a sync. Where memory runs out nothing is done, and the call isn't counted.
-    fn call(&mut self, alloc: Global, file: DiskFile, change: Change) -> Result<(), CallFault>
-        ensures calls { Calls file change result self.old self.new }
-        ensures written { Some (written_of self.new) ≡ written_then change file (Some (written_of self.old)) }
-    {
-        self.written = self.written_with(file, &change);
-        let fate = self.plans.fate();
-        self.store.record_by(alloc, fate, file, change)?;
-        self.plans.count();
-        if fate.fails() {
-            return Err(CallFault::Failed);
-        }
-        Ok(())
-    }
-
-    // A call that changes nothing.
-    fn look(&mut self) -> Result<(), Failed>
-        ensures ok { OnOk result (failed (next_fate self.old) ≡ false) }
-        ensures err { OnErr result ((failed (next_fate self.old) ≡ true) × Rose (faults_of self.old) (faults_of self.new)) }
-        ensures counts { Counts self.old self.new }
-        ensures history { history_of self.new ≡ history_of self.old }
-        ensures written { written_of self.new ≡ written_of self.old }
-    {
-        let fate = self.plans.fate();
-        self.plans.count();
-        if fate.fails() {
-            return Err(Failed);
-        }
-        Ok(())
+        MemParts::outcomes_leave_nothing_or_all();
     }
 }

@@ -3,9 +3,9 @@ ghost use Rattle.std.specs.Prelude.{◌≡◌, ◌↔◌, ◌++◌, ◌∷◌, [
 ghost use Rattle.outside.specs.Count.{HasCause};
 ghost use Rattle.outside.specs.Stream.{Grows};
 ghost use Rattle.outside.specs.World.{Told};
-ghost use Rattle.mem_world.specs.DiskFailures.{is_due, after_call};
+ghost use Rattle.mem_calls.specs.CallFailures.{is_due, after_call};
 
-use crate::disk::failures::Failures;
+use mem_calls::Failures;
 use outside::{CallFault, Sink};
 use std::alloc::{AllocError, Global};
 

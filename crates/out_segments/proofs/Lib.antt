@@ -7,3 +7,12 @@ pub mod Ends
 pub mod Writes
 pub mod Segments
 pub mod Settling
+pub mod Keeps
+mod MemFiles
+mod MemContents
+mod MemStoring
+mod CrashLeaves
+pub mod CrashCalls
+pub mod MemSteps
+mod CrashTearing
+mod MemCrashing

@@ -1,5 +1,6 @@
 -- Changes of one Part, as changes of the output.
-use Rattle.std.proofs.Common.{◌≡◌, ◌≢◌, ◌⊎◌, ℕ, suc, ◌+◌, ◌*◌, ◌-◌, ◌<◌, ◌≤◌, List, ◌++◌, length, take, refl, sym, ◌∙◌, ap, subst, arith, length-append, inl, inr}
+use Rattle.std.proofs.Common.{◌≡◌, ◌≢◌, ◌⊎◌, ℕ, suc, ◌+◌, ◌*◌, ◌-◌, ◌<◌, ◌≤◌, max, List, ◌++◌, length, take, refl, sym, ◌∙◌, ap, subst, arith, length-append, inl, inr}
+use Rattle.std.proofs.lemmas.Bool.{cases_eq}
 use Rattle.std.proofs.lemmas.List.{take_all, length-take, get_or-take, get_or-append-add}
 use Rattle.std.proofs.lemmas.Grind.{same_number_lists}
 use Rattle.outside.specs.Image.{Image, AtFile, Torn, Holds, IsCut}
@@ -140,14 +141,24 @@ output_unreached size place number image within early short =
     let total : place + (4294967296 - place) ≡ 4294967296 = omega arith in
     subst (λ t. length (joined size (numbered image) 0 t) < place * size) total (joined_short size (numbered image) 0 place (4294967296 - place) number (omega arith) (omega arith) short)
 
--- A change of one Part leaves what isn't output.
-pub at_output : {size place : ℕ} {first change : List ℕ → List ℕ → Type 0} {old new : Image PartFile} → AtFile (Part place) first old new → change (output_of size old) (output_of size new) → AtOutput size place change old new
-at_output at here = record {
+-- a Part that changed, among the others
+part_length : (size place number : ℕ) (old new : Image PartFile) → length (new (Part place)) ≤ max size (length (old (Part place))) → (number ≢ place → new (Part number) ≡ old (Part number)) → length (new (Part number)) ≤ max size (length (old (Part number)))
+part_length size place number old new fits alike = elim (cases_eq number place) [
+  | inl same ↦
+      (let P : ℕ → Type 0 = λ n. length (new (Part n)) ≤ max size (length (old (Part n))) in
+      subst P (sym same) fits)
+  | inr apart ↦ omega (arith, ap length (alike apart))
+]
+
+-- A change of one Part, which doesn't become longer than a full one, leaves what isn't output.
+pub at_output : {size place : ℕ} {first change : List ℕ → List ℕ → Type 0} {old new : Image PartFile} → (first (old (Part place)) (new (Part place)) → length (new (Part place)) ≤ max size (length (old (Part place)))) → AtFile (Part place) first old new → change (output_of size old) (output_of size new) → AtOutput size place change old new
+at_output {size} {place} {first} {change} {old} {new} fits at here = record {
   here = here;
   before = λ number early. part_alike at number (omega arith);
   settings = at.others Settings (λ e. cc);
   slot_a = at.others SlotA (λ e. cc);
   slot_b = at.others SlotB (λ e. cc);
+  lengths = λ number. part_length size place number old new (fits at.here) (λ apart. part_alike at number apart);
 }
 
 -- the output as a file of a disk
@@ -167,17 +178,18 @@ at_output_then a b join = record {
   settings = b.settings ∙ a.settings;
   slot_a = b.slot_a ∙ a.slot_a;
   slot_b = b.slot_b ∙ a.slot_b;
+  lengths = λ number. omega (arith, a.lengths number, b.lengths number);
 }
 
 pub at_output_weaker : {size first : ℕ} {change weaker : List ℕ → List ℕ → Type 0} {old new : Image PartFile} → AtOutput size first change old new → (change (output_of size old) (output_of size new) → weaker (output_of size old) (output_of size new)) → AtOutput size first weaker old new
-at_output_weaker at weaken = record { here = weaken at.here; before = at.before; settings = at.settings; slot_a = at.slot_a; slot_b = at.slot_b }
+at_output_weaker at weaken = record { here = weaken at.here; before = at.before; settings = at.settings; slot_a = at.slot_a; slot_b = at.slot_b; lengths = at.lengths }
 
 -- fewer Parts before it
 pub at_output_from : {size less first : ℕ} {change : List ℕ → List ℕ → Type 0} {old new : Image PartFile} → less ≤ first → AtOutput size first change old new → AtOutput size less change old new
-at_output_from fewer at = record { here = at.here; before = λ number early. at.before number (omega arith); settings = at.settings; slot_a = at.slot_a; slot_b = at.slot_b }
+at_output_from fewer at = record { here = at.here; before = λ number early. at.before number (omega arith); settings = at.settings; slot_a = at.slot_a; slot_b = at.slot_b; lengths = at.lengths }
 
 pub output_idle : (size first : ℕ) (change : List ℕ → List ℕ → Type 0) (image : Image PartFile) → change (output_of size image) (output_of size image) → AtOutput size first change image image
-output_idle size first change image idle = record { here = idle; before = λ _ _. refl; settings = refl; slot_a = refl; slot_b = refl }
+output_idle size first change image idle = record { here = idle; before = λ _ _. refl; settings = refl; slot_a = refl; slot_b = refl; lengths = λ number. omega arith }
 
 pub kept_then : {size first : ℕ} {change : List ℕ → List ℕ → Type 0} {old mid new : Image PartFile} → AtOutput size first IsKept old mid → AtOutput size first change mid new → AtOutput size first change old new
 kept_then {size} {first} {change} {old} {mid} {new} kept at = at_output_then kept at (λ same step. subst (λ bytes. change bytes (output_of size new)) same step)

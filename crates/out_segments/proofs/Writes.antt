@@ -17,20 +17,20 @@ module _ (size at count : ℕ) (some : 1 ≤ size) (within : at / size < 4294967
   pub torn_part : HasRoom size (at / size) (at % size + count) old → AtFile (Part (at / size)) (Torn (at % size) count) old new → AtOutput size (at / size) (Torn at count) old new
   torn_part room torn =
       let Q : ℕ → Type 0 = λ place. AtOutput size (at / size) (Torn place count) old new in
-      subst Q (div-add-mod' at size) (at_output torn (output_torn size (at / size) some within (at % size) count fits room torn))
+      subst Q (div-add-mod' at size) (at_output (λ t. omega (arith, t.no_longer, fits)) torn (output_torn size (at / size) some within (at % size) count fits room torn))
 
 pub holds_part : (size at : ℕ) (bytes : List ℕ) (old new : Image PartFile) → 1 ≤ size → at / size < 4294967296 → at % size + length bytes ≤ size → at ≤ length (output_of size old) → HasRoom size (at / size) (at % size + length bytes) old → AtFile (Part (at / size)) (Holds (at % size) bytes) old new → AtOutput size (at / size) (Holds at bytes) old new
 holds_part size at bytes old new some within fits begins room holds =
     let Q : ℕ → Type 0 = λ place. AtOutput size (at / size) (Holds place bytes) old new in
     let whole = div-add-mod' at size in
-    subst Q whole (at_output holds (output_holds size (at / size) some within (at % size) bytes fits (omega (arith, whole, begins)) room holds))
+    subst Q whole (at_output (λ h. omega (arith, h.outside.no_longer, fits)) holds (output_holds size (at / size) some within (at % size) bytes fits (omega (arith, whole, begins)) room holds))
 
 -- nothing of it was written yet
 pub torn_kept : (size first at count : ℕ) (old new : Image PartFile) → AtOutput size first IsKept old new → AtOutput size first (Torn at count) old new
 torn_kept size first at count old new kept = at_output_weaker kept (λ same. subst (λ bytes. Torn at count (output_of size old) bytes) (sym same) (torn_idle at count (output_of size old)))
 
 pub torn_idle_output : (size at count : ℕ) (image : Image PartFile) → AtOutput size (at / size) (Torn at count) image image
-torn_idle_output size at count image = record { here = torn_idle at count (output_of size image); before = λ _ _. refl; settings = refl; slot_a = refl; slot_b = refl }
+torn_idle_output size at count image = record { here = torn_idle at count (output_of size image); before = λ _ _. refl; settings = refl; slot_a = refl; slot_b = refl; lengths = λ number. omega arith }
 
 -- a later place lies in no earlier Part
 part_later : (size offset at : ℕ) → 1 ≤ size → offset ≤ at → offset / size ≤ at / size

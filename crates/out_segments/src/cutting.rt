@@ -1,8 +1,8 @@
 // Cuts of the output.
-ghost use Rattle.std.specs.Prelude.{◌≡◌, ◌≤◌, ◌<◌, ◌*◌, ◌/◌, ◌+◌, ◌^◌, [], length, IsTrue, OnOk};
+ghost use Rattle.std.specs.Prelude.{◌≡◌, ◌≤◌, ◌<◌, ◌*◌, ◌/◌, ◌+◌, ◌^◌, [], ℕ, false, length, IsTrue, IfOk, OnOk};
 ghost use Rattle.outside.specs.Count.{HasCause};
 ghost use Rattle.outside.specs.Image.{AtFile, MayCut, IsCut, IsWithin};
-ghost use Rattle.out_segments.specs.AtOutput.{AtOutput, IsKept, IsShort, EachLeft};
+ghost use Rattle.out_segments.specs.AtOutput.{AtOutput, IsKept, IsShort, EachLeft, EmptiesBehind};
 ghost use Rattle.out_segments.specs.Joined.{IsPartSize, output_of};
 ghost use Rattle.out_segments.specs.Keeping.{Changes};
 ghost use Rattle.out_segments.specs.declared.parts.PartFile.TheVariants.{Part};
@@ -25,6 +25,8 @@ pub(crate) fn cut_output<P: Parts>(
     requires within { IsTrue (P.meaning.images.tells parts.old) → IsWithin length (output_of size (P.meaning.images.seen parts.old)) }
     ensures cut { OnOk result (IsTrue (P.meaning.images.tells parts.old)
         → AtOutput size (length / size) (IsCut length) (P.meaning.images.seen parts.old) (P.meaning.images.seen parts.new)) }
+    ensures emptied { OnOk result (IsTrue (P.meaning.images.tells parts.old)
+        → EmptiesBehind (length / size) (P.meaning.images.seen parts.old) (P.meaning.images.seen parts.new)) }
     ensures changes { Changes P.meaning (AtOutput size (length / size) (MayCut length)) parts.old parts.new }
     ensures cause { HasCause result (P.meaning.faults parts.old) (P.meaning.faults parts.new) }
 {
@@ -49,6 +51,8 @@ fn cut_last<P: Parts>(
     requires within { IsTrue (P.meaning.images.tells parts.old) → IsWithin (place * size + inside) (output_of size (P.meaning.images.seen parts.old)) }
     ensures cut { OnOk result (IsTrue (P.meaning.images.tells parts.old)
         → AtOutput size place (IsCut (place * size + inside)) (P.meaning.images.seen parts.old) (P.meaning.images.seen parts.new)) }
+    ensures others { OnOk result (IsTrue (P.meaning.images.tells parts.old)
+        → AtFile (Part place) (IsCut inside) (P.meaning.images.seen parts.old) (P.meaning.images.seen parts.new)) }
     ensures changes { Changes P.meaning (AtOutput size place (MayCut (place * size + inside))) parts.old parts.new }
     ensures short { OnOk result (EachLeft P.meaning.images parts.new (IsShort size place)) }
     ensures cause { HasCause result (P.meaning.faults parts.old) (P.meaning.faults parts.new) }
@@ -62,14 +66,17 @@ fn cut_last<P: Parts>(
 fn cut_later<P: Parts>(alloc: Global, parts: &mut P, size: u64, place: u32) -> Result<(), CallFault>
     requires size { IsPartSize size }
     requires short { EachLeft P.meaning.images parts.old (IsShort size place) }
+    ensures emptied { OnOk result (IsTrue (P.meaning.images.tells parts.old)
+        → EmptiesBehind place (P.meaning.images.seen parts.old) (P.meaning.images.seen parts.new)) }
     ensures changes { Changes P.meaning (AtOutput size place IsKept) parts.old parts.new }
     ensures cause { HasCause result (P.meaning.faults parts.old) (P.meaning.faults parts.new) }
 {
     let mut number = place;
     while number < u32::MAX {
         number += 1;
-        if !empty_part(alloc, parts, size, place, number)? {
-            break;
+        let had_bytes = empty_part(alloc, parts, size, place, number)?;
+        if !had_bytes {
+            return Ok(());
         }
     }
     Ok(())
@@ -87,6 +94,10 @@ pub(crate) fn empty_part<P: Parts>(
     requires behind { place < number }
     requires short { EachLeft P.meaning.images parts.old (IsShort size place) }
     ensures empty { OnOk result (IsTrue (P.meaning.images.tells parts.old) → P.meaning.images.seen parts.new (Part number) ≡ []) }
+    ensures was_empty { IfOk result (λ had_bytes. had_bytes ≡ false
+        → IsTrue (P.meaning.images.tells parts.old) → P.meaning.images.seen parts.old (Part number) ≡ []) }
+    ensures others { IsTrue (P.meaning.images.tells parts.old)
+        → AtFile (Part number) (MayCut 0) (P.meaning.images.seen parts.old) (P.meaning.images.seen parts.new) }
     ensures changes { Changes P.meaning (AtOutput size place IsKept) parts.old parts.new }
     ensures short { EachLeft P.meaning.images parts.new (IsShort size place) }
     ensures cause { HasCause result (P.meaning.faults parts.old) (P.meaning.faults parts.new) }

@@ -1,10 +1,11 @@
 // The agent's files, with the output in Parts.
-ghost use Rattle.std.specs.Prelude.{◌≡◌, ◌≤◌, ◌+◌, ◌/◌, min, ℕ, length, IsTrue, OnOk, IfOk, IfSome, IfNone};
+ghost use Rattle.std.specs.Prelude.{◌≡◌, ◌≤◌, ◌+◌, ◌/◌, min, ℕ, length, None, IsTrue, OnOk, IfOk, IfSome, IfNone};
 ghost use Rattle.outside.specs.Count.{HasCause, HasOneCause};
 ghost use Rattle.outside.specs.Content.{Gives};
 ghost use Rattle.outside.specs.Image.{AtFile, Torn, Holds, MayCut, IsCut, IsWithin, Same};
 ghost use Rattle.outside.specs.Crash.{Passes, IsDurable};
 ghost use Rattle.std.proofs.Props.{props};
+ghost use Rattle.out_segments.specs.AtOutput.{EmptiesBehind, KeepsLengths};
 ghost use Rattle.out_segments.specs.Joined.{IsPartSize, whole_file};
 ghost use Rattle.out_segments.specs.Settled.{AreSettled};
 
@@ -74,7 +75,8 @@ fn settled_before(settled: u32, size: u64, offset: u64) -> u32
 }
 
 impl<P: Parts> Disk for Segmented<P> {
-    ghost use Rattle.out_segments.specs.SegmentedMeaning.{segmented_meaning};
+    ghost use Rattle.out_segments.specs.SegmentedMeaning.{segmented_meaning, parts_of, size_of};
+    ghost use Rattle.outside.specs.DiskCalls.{last_end, done_after, written_after};
     ghost use Rattle.out_segments.specs.SegmentedLaws.{told_joined, shown_joined, now_joined, only_joined};
 
     ghost meaning = { segmented_meaning P.meaning };
@@ -93,14 +95,43 @@ impl<P: Parts> Disk for Segmented<P> {
 
     ghost within_limit = { λ _. tt };
 
-    fn length(&mut self, file: DiskFile) -> Result<u64, Failed> {
+    fn length(&mut self, file: DiskFile) -> Result<u64, Failed>
+        ensures length { IfOk result (λ size. IsTrue ((segmented_meaning P.meaning).images.tells self.old) → size ≡ length ((segmented_meaning P.meaning).images.seen self.old file)) }
+        ensures seen { (segmented_meaning P.meaning).images.seen self.new ≡ (segmented_meaning P.meaning).images.seen self.old }
+        ensures tells { (segmented_meaning P.meaning).images.tells self.new ≡ (segmented_meaning P.meaning).images.tells self.old }
+        ensures crash { Passes (segmented_meaning P.meaning).images Same self.old self.new }
+        ensures cause { HasOneCause result ((segmented_meaning P.meaning).faults self.old) ((segmented_meaning P.meaning).faults self.new) }
+        ensures bound { (segmented_meaning P.meaning).bound self.new ≡ (segmented_meaning P.meaning).bound self.old }
+        ensures done { (segmented_meaning P.meaning).done self.new ≡ (segmented_meaning P.meaning).done self.old }
+        ensures limit { (segmented_meaning P.meaning).limit self.new ≡ (segmented_meaning P.meaning).limit self.old }
+        ensures counted { (segmented_meaning P.meaning).written self.new ≡ (segmented_meaning P.meaning).written self.old }
+
+        // No Part becomes longer than a full one.
+        ensures size { size_of self.new ≡ size_of self.old }
+        ensures lengths { Passes P.meaning.images (KeepsLengths (size_of self.old)) (parts_of self.old) (parts_of self.new) }
+    {
         match whole_file(file) {
             None => output_length(&mut self.parts, self.size, self.settled),
             Some(file) => self.parts.length(file),
         }
     }
 
-    fn read(&mut self, file: DiskFile, offset: u64, buf: &mut [u8]) -> Result<usize, Failed> {
+    fn read(&mut self, file: DiskFile, offset: u64, buf: &mut [u8]) -> Result<usize, Failed>
+        ensures within { IfOk result (λ count. count ≤ length buf.new) }
+        ensures bytes { IfOk result (λ count. IsTrue ((segmented_meaning P.meaning).images.tells self.old) → Gives ((segmented_meaning P.meaning).images.seen self.old file) offset buf.new count) }
+        ensures seen { (segmented_meaning P.meaning).images.seen self.new ≡ (segmented_meaning P.meaning).images.seen self.old }
+        ensures tells { (segmented_meaning P.meaning).images.tells self.new ≡ (segmented_meaning P.meaning).images.tells self.old }
+        ensures crash { Passes (segmented_meaning P.meaning).images Same self.old self.new }
+        ensures cause { HasOneCause result ((segmented_meaning P.meaning).faults self.old) ((segmented_meaning P.meaning).faults self.new) }
+        ensures bound { (segmented_meaning P.meaning).bound self.new ≡ (segmented_meaning P.meaning).bound self.old }
+        ensures done { (segmented_meaning P.meaning).done self.new ≡ (segmented_meaning P.meaning).done self.old }
+        ensures limit { (segmented_meaning P.meaning).limit self.new ≡ (segmented_meaning P.meaning).limit self.old }
+        ensures counted { (segmented_meaning P.meaning).written self.new ≡ (segmented_meaning P.meaning).written self.old }
+
+        // No Part becomes longer than a full one.
+        ensures size { size_of self.new ≡ size_of self.old }
+        ensures lengths { Passes P.meaning.images (KeepsLengths (size_of self.old)) (parts_of self.old) (parts_of self.new) }
+    {
         match whole_file(file) {
             None => read_output(&mut self.parts, self.size, self.settled, offset, buf),
             Some(file) => self.parts.read(file, offset, buf),
@@ -113,7 +144,25 @@ impl<P: Parts> Disk for Segmented<P> {
         file: DiskFile,
         offset: u64,
         bytes: &[u8],
-    ) -> Result<(), CallFault> {
+    ) -> Result<(), CallFault>
+        requires begins { IsTrue ((segmented_meaning P.meaning).images.tells self.old) → offset ≤ length ((segmented_meaning P.meaning).images.seen self.old file) }
+        requires ends { offset + length bytes.now ≤ last_end file }
+        ensures written { OnOk result (IsTrue ((segmented_meaning P.meaning).images.tells self.old)
+            → AtFile file (Holds offset bytes.now) ((segmented_meaning P.meaning).images.seen self.old) ((segmented_meaning P.meaning).images.seen self.new)) }
+        ensures begun { IsTrue ((segmented_meaning P.meaning).images.tells self.old)
+            → AtFile file (Torn offset (length bytes.now)) ((segmented_meaning P.meaning).images.seen self.old) ((segmented_meaning P.meaning).images.seen self.new) }
+        ensures tells { (segmented_meaning P.meaning).images.tells self.new ≡ (segmented_meaning P.meaning).images.tells self.old }
+        ensures crash { Passes (segmented_meaning P.meaning).images (AtFile file (Torn offset (length bytes.now))) self.old self.new }
+        ensures cause { HasCause result ((segmented_meaning P.meaning).faults self.old) ((segmented_meaning P.meaning).faults self.new) }
+        ensures bound { (segmented_meaning P.meaning).bound self.new ≡ (segmented_meaning P.meaning).bound self.old }
+        ensures done { (segmented_meaning P.meaning).done self.new ≡ done_after result ((segmented_meaning P.meaning).done self.old) }
+        ensures limit { (segmented_meaning P.meaning).limit self.new ≡ (segmented_meaning P.meaning).limit self.old }
+        ensures counted { (segmented_meaning P.meaning).written self.new ≡ written_after file (length bytes.now) ((segmented_meaning P.meaning).written self.old) }
+
+        // No Part becomes longer than a full one.
+        ensures size { size_of self.new ≡ size_of self.old }
+        ensures lengths { Passes P.meaning.images (KeepsLengths (size_of self.old)) (parts_of self.old) (parts_of self.new) }
+    {
         match whole_file(file) {
             None => {
                 self.settled = settled_before(self.settled, self.size, offset);
@@ -123,7 +172,25 @@ impl<P: Parts> Disk for Segmented<P> {
         }
     }
 
-    fn cut(&mut self, alloc: Global, file: DiskFile, length: u64) -> Result<(), CallFault> {
+    fn cut(&mut self, alloc: Global, file: DiskFile, length: u64) -> Result<(), CallFault>
+        requires { IsTrue ((segmented_meaning P.meaning).images.tells self.old) → IsWithin length ((segmented_meaning P.meaning).images.seen self.old file) }
+        ensures cut { OnOk result (IsTrue ((segmented_meaning P.meaning).images.tells self.old)
+            → AtFile file (IsCut length) ((segmented_meaning P.meaning).images.seen self.old) ((segmented_meaning P.meaning).images.seen self.new)) }
+        ensures begun { IsTrue ((segmented_meaning P.meaning).images.tells self.old) → AtFile file (MayCut length) ((segmented_meaning P.meaning).images.seen self.old) ((segmented_meaning P.meaning).images.seen self.new) }
+        ensures tells { (segmented_meaning P.meaning).images.tells self.new ≡ (segmented_meaning P.meaning).images.tells self.old }
+        ensures crash { Passes (segmented_meaning P.meaning).images (AtFile file (MayCut length)) self.old self.new }
+        ensures cause { HasCause result ((segmented_meaning P.meaning).faults self.old) ((segmented_meaning P.meaning).faults self.new) }
+        ensures bound { (segmented_meaning P.meaning).bound self.new ≡ (segmented_meaning P.meaning).bound self.old }
+        ensures done { (segmented_meaning P.meaning).done self.new ≡ done_after result ((segmented_meaning P.meaning).done self.old) }
+        ensures limit { (segmented_meaning P.meaning).limit self.new ≡ (segmented_meaning P.meaning).limit self.old }
+        ensures counted { (segmented_meaning P.meaning).written self.new ≡ (segmented_meaning P.meaning).written self.old }
+
+        // No Part becomes longer than a full one.
+        ensures size { size_of self.new ≡ size_of self.old }
+        ensures lengths { Passes P.meaning.images (KeepsLengths (size_of self.old)) (parts_of self.old) (parts_of self.new) }
+        ensures emptied { OnOk result (whole_file file ≡ None → IsTrue (P.meaning.images.tells (parts_of self.old))
+            → EmptiesBehind (length / size_of self.old) (P.meaning.images.seen (parts_of self.old)) (P.meaning.images.seen (parts_of self.new))) }
+    {
         match whole_file(file) {
             None => {
                 self.settled = settled_before(self.settled, self.size, length);
@@ -133,7 +200,21 @@ impl<P: Parts> Disk for Segmented<P> {
         }
     }
 
-    fn sync(&mut self, alloc: Global, file: DiskFile) -> Result<(), CallFault> {
+    fn sync(&mut self, alloc: Global, file: DiskFile) -> Result<(), CallFault>
+        ensures durable { OnOk result (IsDurable (segmented_meaning P.meaning).images file self.new) }
+        ensures seen { (segmented_meaning P.meaning).images.seen self.new ≡ (segmented_meaning P.meaning).images.seen self.old }
+        ensures tells { (segmented_meaning P.meaning).images.tells self.new ≡ (segmented_meaning P.meaning).images.tells self.old }
+        ensures crash { Passes (segmented_meaning P.meaning).images Same self.old self.new }
+        ensures cause { HasCause result ((segmented_meaning P.meaning).faults self.old) ((segmented_meaning P.meaning).faults self.new) }
+        ensures bound { (segmented_meaning P.meaning).bound self.new ≡ (segmented_meaning P.meaning).bound self.old }
+        ensures done { (segmented_meaning P.meaning).done self.new ≡ done_after result ((segmented_meaning P.meaning).done self.old) }
+        ensures limit { (segmented_meaning P.meaning).limit self.new ≡ (segmented_meaning P.meaning).limit self.old }
+        ensures counted { (segmented_meaning P.meaning).written self.new ≡ (segmented_meaning P.meaning).written self.old }
+
+        // No Part becomes longer than a full one.
+        ensures size { size_of self.new ≡ size_of self.old }
+        ensures lengths { Passes P.meaning.images (KeepsLengths (size_of self.old)) (parts_of self.old) (parts_of self.new) }
+    {
         match whole_file(file) {
             None => {
                 self.settled = sync_output(alloc, &mut self.parts, self.size, self.settled)?;

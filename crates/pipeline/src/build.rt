@@ -69,6 +69,13 @@ impl Pipeline {
         &self.exclude
     }
 
+    /// The operators, with where each of them sends.
+    pub fn graph(&self) -> &Graph<AnyOp>
+        ensures { result.now ≡ self.now.graph }
+    {
+        &self.graph
+    }
+
     /// Whether each line has the time at which it was made.
     pub fn stamps(&self) -> bool
         ensures { result ≡ (settings_of self.now).include_observed_time }

@@ -13,7 +13,7 @@ ghost use Rattle.pipeline.specs.Origin.{Origin, origin_of};
 ghost use Rattle.pipeline.specs.Parts.{settings_of, network, HaveKinds};
 ghost use Rattle.pipeline.specs.Sources.{IsShared, IsSource};
 ghost use Rattle.line_splitter.specs.Cuts.{cuts, texts, used_by};
-ghost use Rattle.pipeline.specs.Tokens.{rule_of, tokens_of, used_of};
+ghost use Rattle.pipeline.specs.Tokens.{first_cut_of, rule_of, tokens_of, used_of};
 ghost use Rattle.pipeline.specs.declared.source.Source.TheVariants.{Lines};
 
 use crate::buffers::Buffers;
@@ -112,6 +112,13 @@ impl Pipeline {
             at += token.after;
         }
         Ok(at)
+    }
+
+    /// The first token of the bytes; `None` where more bytes are needed to decide it.
+    pub fn first_token(&self, alloc: Global, bytes: &[u8]) -> Result<Option<Token>, AllocError>
+        ensures { IfOk result (IsNext (first_cut_of (settings_of self.now)) bytes.now) }
+    {
+        self.next_token(alloc, Cutting::Whole, bytes)
     }
 
     // The first of these tokens of the bytes.

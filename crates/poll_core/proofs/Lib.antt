@@ -27,3 +27,9 @@ pub mod PutLemmas
 pub mod SaveLemmas
 pub mod PassLemmas
 pub mod StoodLemmas
+pub mod AdoptLaws
+pub mod AdoptDisk
+pub mod AdoptPut
+pub mod AdoptStands
+pub mod AdoptWhole
+pub mod AdoptRefusals

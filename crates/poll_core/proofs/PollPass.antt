@@ -1,5 +1,5 @@
 -- A walk, and a pass over the paths that it found, are a pass of the rules, and the numbers are those of its looks.
-use Rattle.std.proofs.Common.{◌≡◌, ◌⊎◌, ℕ, ◌+◌, ◌≤◌, List, [], ◌∷◌, ◌++◌, length, map, refl, sym, ap, subst, ◌∙◌, arith, inl, inr}
+use Rattle.std.proofs.Common.{◌≡◌, ◌⊎◌, ℕ, ◌+◌, ◌≤◌, List, [], ◌∷◌, ◌++◌, length, map, refl, sym, ap, ◌∙◌, arith, inl, inr}
 use Rattle.std.specs.Prelude.{Contains, min}
 use Rattle.file_pass.proofs.Turned.{looks_ascend, none_left_out}
 use Rattle.file_pass.specs.AllTaken.{AllTaken}

@@ -49,7 +49,7 @@ all_at P (y ∷ ys) (suc place) x all at = all_at P ys place x (All-tail P y ys 
 
 -- ---- before
 
-state_at : (rules : Rules) (rows : List Row) (place : ℕ) (row : Row) → KeepStates rules rows → slice_get rows place ≡ Some row → IsTrue (rules.is_state row.state)
+pub state_at : (rules : Rules) (rows : List Row) (place : ℕ) (row : Row) → KeepStates rules rows → slice_get rows place ≡ Some row → IsTrue (rules.is_state row.state)
 state_at rules [] place row states at = absurd (none-some row at)
 state_at rules (saved ∷ rows) zero row states at =
     subst (λ (r : Row). IsTrue (rules.is_state r.state)) (same_Some saved row at) (All-head (λ (r : Row). IsTrue (rules.is_state r.state)) saved rows states)

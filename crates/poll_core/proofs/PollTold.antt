@@ -1,5 +1,5 @@
 -- What a pass that came to its end is, over a tree that may tell its history.
-use Rattle.std.proofs.Common.{◌≡◌, ◌⊎◌, ℕ, ◌+◌, ◌≤◌, List, [], ◌∷◌, length, Bool, true, false, Option, None, Some, refl, sym, ap, subst, ◌∙◌, arith, inl, inr}
+use Rattle.std.proofs.Common.{◌≡◌, ◌⊎◌, ℕ, ◌+◌, ◌≤◌, List, length, Option, None, Some, sym, ap, subst, ◌∙◌, arith}
 use Rattle.file_pass.specs.AllTaken.{AllTaken}
 use Rattle.file_pass.specs.Fed.{poll_of}
 use Rattle.file_pass.specs.Full.{lines_text}

@@ -41,7 +41,7 @@ one_least : (rules : Rules) (rows : List Row) (id other : ℕ) → IsLeastForeig
 one_least rules rows id other first second =
     omega (arith, first.least second.place second.row second.there second.foreign, second.least first.place first.row first.there first.foreign, first.id_is, second.id_is)
 
-same_saved : (image : Image DiskFile) (one other : Checkpoint) → HasCheckpoint (Some one) image → HasCheckpoint (Some other) image → other ≡ one
+pub same_saved : (image : Image DiskFile) (one other : Checkpoint) → HasCheckpoint (Some one) image → HasCheckpoint (Some other) image → other ≡ one
 same_saved image one other has have = one_said image has.0 have.0 one other has.1 have.1
 
 not_bad : (image : Image DiskFile) (at : ℕ) (saved : Checkpoint) → IsBadAt at image → HasCheckpoint (Some saved) image → ⊥

@@ -48,7 +48,7 @@ lasts old new image later stood = by stood.there stood.are stood.stands stood.fo
     by (found own) are stands has = record { there = found own; found = has; eras = stood.eras; are = are; stands = standing_lasts stood.eras are.laws old new (found own) (image Output) later stands }
 
 -- bytes past what is kept don't count
-moved : (eras : Eras) (history : History) (checkpoint : Checkpoint) (file other : List ℕ) → checkpoint.output_length ≤ length other → take checkpoint.output_length other ≡ take checkpoint.output_length file
+pub moved : (eras : Eras) (history : History) (checkpoint : Checkpoint) (file other : List ℕ) → checkpoint.output_length ≤ length other → take checkpoint.output_length other ≡ take checkpoint.output_length file
     → CheckpointStands eras history checkpoint file → CheckpointStands eras history checkpoint other
 moved eras history checkpoint file other long same stands = record {
   sound = record { texts = stands.sound.texts; states = stands.sound.states; ids = stands.sound.ids; long_enough = long };
@@ -57,12 +57,12 @@ moved eras history checkpoint file other long same stands = record {
 }
 
 -- what an image that was found stands by
-record StandsBy (history : History) (saved : Checkpoint) (file : List ℕ) : Type 0 where
-  eras : Eras
-  are : AreErasOf saved.eras eras
-  stands : CheckpointStands eras history saved file
+pub record StandsBy (history : History) (saved : Checkpoint) (file : List ℕ) : Type 0 where
+  pub eras : Eras
+  pub are : AreErasOf saved.eras eras
+  pub stands : CheckpointStands eras history saved file
 
-stands_by : (history : History) (image : Image DiskFile) (saved : Checkpoint) → IsFound image (found saved) → IsStanding history image → StandsBy history saved (image Output)
+pub stands_by : (history : History) (image : Image DiskFile) (saved : Checkpoint) → IsFound image (found saved) → IsStanding history image → StandsBy history saved (image Output)
 stands_by history image saved was stood = by stood.there stood.found stood.are stood.stands
   where
     by : (there : Found) → IsFound image there → AreErasIn there stood.eras → Standing stood.eras history there (image Output) → StandsBy history saved (image Output)

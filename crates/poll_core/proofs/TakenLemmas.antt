@@ -1,6 +1,6 @@
 -- The rows of what was taken, one after another, and how long they are.
 use Rattle.std.proofs.Common.{◌≡◌, ℕ, suc, ◌+◌, ◌*◌, ◌^◌, ◌≤◌, Bool, true, false, List, [], ◌++◌, ◌∷◌, length, take, Some, refl, ap, ◌∙◌, arith, length-append, add-one, subst, zero}
-use Rattle.std.proofs.lemmas.List.{append-nil, take_more}
+use Rattle.std.proofs.lemmas.List.{append-nil}
 use Rattle.std.proofs.lemmas.List.Concat.{flat_map-append, length-flat_map}
 use Rattle.std.proofs.lemmas.List.Folds.{length-flat_map-take}
 use Rattle.std.proofs.lemmas.List.Sums.{sum_by-cons}
@@ -17,16 +17,13 @@ use Rattle.checkpoint_store.specs.declared.Checkpoint.{Checkpoint}
 use Rattle.checkpoint_store.specs.declared.beside.Beside.{Beside}
 use Rattle.file_pass.specs.declared.taking.Taking.{Taking}
 use Rattle.file_tracker.specs.declared.row.Row.{Row}
+use Rattle.part_closing.proofs.ClosingLemmas.{take_next}
 use Rattle.poll_core.specs.Taken.{flagged, taken_change, taken_checkpoint}
 use Rattle.poll_core.specs.declared.heading.Heading.{Heading}
 use Rattle.state_codec.proofs.Numbers.{wide32}
 use Rattle.state_codec.specs.Spelling.{bytes_spelling}
 
 -- ---- one more row
-
-pub take_next : {X : Type 0} (xs : List X) (place : ℕ) (x : X) → slice_get xs place ≡ Some x → take (place + 1) xs ≡ take place xs ++ x ∷ []
-take_next xs place x is =
-    take_more xs place x (slice_get_within xs place x is) ∙ ap (λ y. take place xs ++ y ∷ []) (get_or_from_slice_get xs place x x is)
 
 flagged_with : (flags : List Bool) (rows : List Row) (place : ℕ) (row : Row) → slice_get flags place ≡ Some true → slice_get rows place ≡ Some row
     → flagged (take (suc place) flags) (take (suc place) rows) ≡ flagged (take place flags) (take place rows) ++ row ∷ []

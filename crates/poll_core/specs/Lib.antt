@@ -23,3 +23,8 @@ pub mod Passed
 pub mod Kept
 pub mod LeavesTree
 pub mod Since
+pub mod AdoptCause
+pub mod AdoptFaults
+pub mod Adopting
+pub mod Adoption
+pub mod Unmade

@@ -11,8 +11,18 @@
 //! output is a pass of `standing` over a tree that tells its history (`Polled` of `specs/Polled`). Whatever it answers, at
 //! each moment a crash leaves the session's checkpoint, or that of the pass beside its lines (`Stays`, `MayGain`); so what
 //! stood for the files before stands for them afterwards (`KeepsStandingSince` of `specs/Since`).
+//!
+//! [`Session::adopt`] has the settings of a text follow those that a disk keeps. On Ok they are in force, each file that is known
+//! has one part more, and the lines of what the operators before held back stand behind the output (`IsAdopted` of
+//! `specs/Adopting`); or it is the one refusal of the settings (`IsNextRefusal`) or of what stands on the disk (`IsUnadopted` of
+//! `specs/AdoptFaults`). Whatever it answers, at each moment a crash leaves what stood, or what is adopted beside its lines
+//! (`MayAdopt`); so what stood for the files before stands for them afterwards.
 #![tactic(auto)]
 
+mod adopt_fault;
+mod adopted;
+mod adopting;
+mod adoption;
 mod cutting;
 mod fault;
 mod heading;
@@ -24,7 +34,10 @@ mod polling;
 mod saving;
 mod session;
 mod summary;
+mod unmade;
 
+pub use adopt_fault::AdoptFault;
+pub use adopted::Adopted;
 pub use fault::OpenFault;
 pub use opening::pipeline_of;
 pub use poll_fault::PollFault;

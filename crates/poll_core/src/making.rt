@@ -1,5 +1,5 @@
 // A session of a checkpoint that was found.
-ghost use Rattle.std.specs.Prelude.{◌≡◌, ℕ, ◌≤◌, List, [], ◌∷◌, length, IfOk, IfErr, IfSome, IfNone, OnOk};
+ghost use Rattle.std.specs.Prelude.{◌≡◌, ℕ, ◌≤◌, List, [], ◌∷◌, length, Some, IfOk, IfErr, IfSome, IfNone, OnOk};
 ghost use Rattle.checkpoint_store.specs.Rules.{IsCheckpoint};
 ghost use Rattle.checkpoint_store.specs.Limits.{newest, output_limit};
 ghost use Rattle.file_tracker.specs.Limits.{row_limit};
@@ -55,19 +55,41 @@ impl Session {
             }),
             Some((journal, checkpoint)) => {
                 check(alloc, &pipeline, settings, &checkpoint)?;
-                let tracker = tracker_of(alloc, checkpoint.rows)?;
-                Ok(Session {
-                    pipeline,
-                    eras: checkpoint.eras,
-                    limit,
-                    journal: Some(journal),
-                    kept: checkpoint.output_length,
-                    observed: checkpoint.observed,
-                    time: checkpoint.observed,
-                    tracker,
-                })
+                let session = Session::of_checkpoint(alloc, pipeline, limit, journal, checkpoint)?;
+                Ok(session)
             }
         }
+    }
+
+    /// The session that goes on from a journal and its checkpoint, of whose last settings the operators are.
+    pub(crate) fn of_checkpoint(
+        alloc: Global,
+        pipeline: Pipeline,
+        limit: u64,
+        journal: Journal,
+        checkpoint: Checkpoint,
+    ) -> Result<Session, AllocError>
+        requires made { IsMadeOf (last_text checkpoint.eras) pipeline }
+        requires states { KeepStates (rules_of (last_text checkpoint.eras) pipeline) checkpoint.rows }
+        requires limit { limit ≤ output_limit }
+        requires lawful { IsCheckpoint newest checkpoint }
+        requires short { IsShort journal }
+        ensures session { IfOk result IsSession }
+        ensures limit { IfOk result (λ session. session.limit ≡ limit) }
+        ensures time { IfOk result (λ session. time_of_session session ≡ (checkpoint_of_session session).observed) }
+        ensures found { IfOk result (IsOfFound (Some (journal, checkpoint))) }
+    {
+        let tracker = tracker_of(alloc, checkpoint.rows)?;
+        Ok(Session {
+            pipeline,
+            eras: checkpoint.eras,
+            limit,
+            journal: Some(journal),
+            kept: checkpoint.output_length,
+            observed: checkpoint.observed,
+            time: checkpoint.observed,
+            tracker,
+        })
     }
 }
 
@@ -102,8 +124,8 @@ fn check(
     }
 }
 
-// The first place at which two texts differ, where nothing stands past the end of a text.
-fn first_difference(one: &[u8], other: &[u8]) -> Option<u64>
+/// The first place at which two texts differ, where nothing stands past the end of a text.
+pub(crate) fn first_difference(one: &[u8], other: &[u8]) -> Option<u64>
     ensures same { IfNone result (one.now ≡ other.now) }
     ensures differs { IfSome result (DiffersAt one.now other.now) }
 {
@@ -120,8 +142,8 @@ fn first_difference(one: &[u8], other: &[u8]) -> Option<u64>
     }
 }
 
-// The id of the first row whose state isn't one of these operators.
-fn first_foreign(
+/// The id of the first row whose state isn't one of these operators.
+pub(crate) fn first_foreign(
     alloc: Global,
     pipeline: &Pipeline,
     rows: &[Row],

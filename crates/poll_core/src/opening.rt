@@ -116,8 +116,8 @@ pub fn pipeline_of(alloc: Global, settings: &[u8]) -> Result<Pipeline, OpenFault
     Ok(pipeline)
 }
 
-// Syncs all files that the agent writes.
-fn settle<D: Disk>(alloc: Global, disk: &mut D) -> Result<(), CallFault>
+/// Syncs all files that the agent writes.
+pub(crate) fn settle<D: Disk>(alloc: Global, disk: &mut D) -> Result<(), CallFault>
     ensures settled { OnOk result (IsSettled D.meaning.images disk.new) }
     ensures crash { Passes D.meaning.images Same disk.old disk.new }
     ensures seen { D.meaning.images.seen disk.new ≡ D.meaning.images.seen disk.old }

@@ -138,8 +138,8 @@ impl Session {
     }
 }
 
-// The time of lines that are made now, where they have one.
-fn stamp_of(pipeline: &Pipeline, time: u64) -> Option<u64>
+/// The time of lines that are made now, where they have one.
+pub(crate) fn stamp_of(pipeline: &Pipeline, time: u64) -> Option<u64>
     ensures { result ≡ stamp_at (settings_of pipeline.now).include_observed_time time }
 {
     if pipeline.stamps() { Some(time) } else { None }

@@ -282,8 +282,8 @@ fn checkpoint_of(
     })
 }
 
-// The same texts.
-fn copy_eras(alloc: Global, eras: &Eras) -> Result<Eras, AllocError>
+/// The same texts.
+pub(crate) fn copy_eras(alloc: Global, eras: &Eras) -> Result<Eras, AllocError>
     ensures { IfOk result (λ copy. copy ≡ eras.now) }
 {
     let mut texts = Vec::new(alloc);

@@ -1,6 +1,7 @@
 // Each adapter once.
+use out_segments::{PartFile, Parts};
 use outside::{Clock, Disk, DiskFile, Kind, Listed, Opened, Sink, Source, Tree};
-use real_world::{RealClock, RealDisk, RealSink, RealSource, RealTree};
+use real_world::{RealClock, RealDisk, RealParts, RealSink, RealSource, RealTree};
 use std::fs;
 use std::test::Fail;
 
@@ -49,6 +50,26 @@ fn disk_writes_cuts_and_syncs(rt: HostRuntime) -> Result<(), Fail> {
     assert_eq!(rt; disk.read(DiskFile::SlotB, 1, &mut buf)?, 4);
     assert_eq!(rt; buf, *b"ellp\0\0\0\0");
     fs::remove_file(&rt, "checkpoint.b")?;
+    Ok(())
+}
+
+#[test]
+fn parts_write_cut_and_sync(rt: HostRuntime) -> Result<(), Fail> {
+    let alloc = rt.alloc();
+    let mut parts = RealParts::new(&rt);
+    assert_eq!(rt; parts.length(PartFile::Part(1))?, 0);
+    parts.sync(alloc, PartFile::Part(1))?;
+    parts.write_at(alloc, PartFile::Part(1), 0, b"hello")?;
+    parts.write_at(alloc, PartFile::Part(12), 0, b"further")?;
+    parts.write_at(alloc, PartFile::Part(1), 4, b"p!")?;
+    parts.cut(alloc, PartFile::Part(1), 5)?;
+    parts.sync(alloc, PartFile::Part(1))?;
+    let mut buf = [0; 8];
+    assert_eq!(rt; parts.read(PartFile::Part(1), 1, &mut buf)?, 4);
+    assert_eq!(rt; buf, *b"ellp\0\0\0\0");
+    assert_eq!(rt; parts.length(PartFile::Part(12))?, 7);
+    fs::remove_file(&rt, "output.1.jsonl")?;
+    fs::remove_file(&rt, "output.12.jsonl")?;
     Ok(())
 }
 

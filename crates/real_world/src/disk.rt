@@ -1,24 +1,10 @@
 // The agent's own four files, in the working folder.
-ghost use Rattle.std.specs.Prelude.{◌≤◌, IfOk};
-ghost use Rattle.std.specs.Io.{ReadsAtMost};
+ghost use Rattle.std.specs.Prelude.{◌≤◌};
 
-use crate::{TRIES, counted, counted_call};
+use crate::own_file::{OUTPUT, OwnFile, SETTINGS, SLOT_A, SLOT_B};
+use crate::{counted, counted_call};
 use outside::{CallFault, Disk, DiskFile, Failed};
 use std::alloc::Global;
-use std::fs::{File, OpenOptions};
-use std::io::ErrorKind;
-use std::os::unix::fs::FileExt;
-use std::{fs, io};
-
-// One of the four files, from its first use on.
-#[derive(Drop)]
-struct OwnFile {
-    path: &'static str,
-    is_written: bool,
-    file: Option<File>,
-    // Its name is known to last.
-    is_named: bool,
-}
 
 /// The machine's disk.
 #[derive(Drop)]
@@ -40,114 +26,12 @@ impl<'a> RealDisk<'a> {
     {
         RealDisk {
             rt,
-            settings: OwnFile::new("settings.json", false),
-            output: OwnFile::new("output.jsonl", true),
-            slot_a: OwnFile::new("checkpoint.a", true),
-            slot_b: OwnFile::new("checkpoint.b", true),
+            settings: OwnFile::new(false),
+            output: OwnFile::new(true),
+            slot_a: OwnFile::new(true),
+            slot_b: OwnFile::new(true),
             faults: 0,
         }
-    }
-}
-
-impl OwnFile {
-    fn new(path: &'static str, is_written: bool) -> Self {
-        OwnFile {
-            path,
-            is_written,
-            file: None,
-            is_named: false,
-        }
-    }
-
-    // Opens the file where it is there. What is no plain file in its place is an error: to open a pipe waits for a writer.
-    fn open(&mut self, rt: &HostRuntime) -> io::Result<()> {
-        if self.file.is_some() {
-            return Ok(());
-        }
-        match fs::metadata(rt, self.path) {
-            Ok(found) if found.is_file() => {}
-            Ok(_) => return Err(io::Error::from(ErrorKind::InvalidInput)),
-            Err(e) if e.kind() == ErrorKind::NotFound => return Ok(()),
-            Err(e) => return Err(e),
-        }
-        let file = OpenOptions::new()
-            .read(true)
-            .write(self.is_written)
-            .open(rt, self.path)?;
-        self.file = Some(file);
-        Ok(())
-    }
-
-    // Opens the file, and makes it where it isn't there.
-    fn make(&mut self, rt: &HostRuntime) -> io::Result<()> {
-        self.open(rt)?;
-        if self.file.is_none() {
-            let made = OpenOptions::new()
-                .read(true)
-                .write(true)
-                .create(true)
-                .open(rt, self.path)?;
-            self.file = Some(made);
-        }
-        Ok(())
-    }
-
-    fn length(&mut self, rt: &HostRuntime) -> io::Result<u64> {
-        self.open(rt)?;
-        match &self.file {
-            Some(file) => Ok(file.metadata()?.len()),
-            None => Ok(0),
-        }
-    }
-
-    fn read(&mut self, rt: &HostRuntime, offset: u64, buf: &mut [u8]) -> io::Result<usize>
-        ensures { ReadsAtMost result buf.new }
-    {
-        self.open(rt)?;
-        let Some(file) = &self.file else {
-            return Ok(0);
-        };
-        for _ in 1..TRIES {
-            match file.read_at(buf, offset) {
-                Err(e) if e.kind() == ErrorKind::Interrupted => {}
-                given => return given,
-            }
-        }
-        file.read_at(buf, offset)
-    }
-
-    // To write nothing makes no file.
-    fn write(&mut self, rt: &HostRuntime, offset: u64, bytes: &[u8]) -> io::Result<()> {
-        if bytes.is_empty() {
-            return Ok(());
-        }
-        self.make(rt)?;
-        match &self.file {
-            Some(file) => file.write_all_at(bytes, offset),
-            None => Err(io::Error::from(ErrorKind::NotFound)),
-        }
-    }
-
-    fn cut(&mut self, rt: &HostRuntime, length: u64) -> io::Result<()> {
-        self.open(rt)?;
-        match &self.file {
-            Some(file) => file.set_len(length),
-            None => Ok(()),
-        }
-    }
-
-    // The first sync makes the file's name last too.
-    fn sync(&mut self, rt: &HostRuntime) -> io::Result<()> {
-        self.open(rt)?;
-        let Some(file) = &self.file else {
-            return Ok(());
-        };
-        file.sync_all()?;
-        if !self.is_named {
-            File::open(rt, ".")?.sync_all()?;
-            self.is_named = true;
-        }
-        Ok(())
     }
 }
 
@@ -174,10 +58,10 @@ impl Disk for RealDisk<'_> {
     fn length(&mut self, file: DiskFile) -> Result<u64, Failed> {
         let rt = self.rt;
         let given = match file {
-            DiskFile::Settings => self.settings.length(rt),
-            DiskFile::Output => self.output.length(rt),
-            DiskFile::SlotA => self.slot_a.length(rt),
-            DiskFile::SlotB => self.slot_b.length(rt),
+            DiskFile::Settings => self.settings.length(rt, SETTINGS),
+            DiskFile::Output => self.output.length(rt, OUTPUT),
+            DiskFile::SlotA => self.slot_a.length(rt, SLOT_A),
+            DiskFile::SlotB => self.slot_b.length(rt, SLOT_B),
         };
         counted(&mut self.faults, given)
     }
@@ -185,10 +69,10 @@ impl Disk for RealDisk<'_> {
     fn read(&mut self, file: DiskFile, offset: u64, buf: &mut [u8]) -> Result<usize, Failed> {
         let rt = self.rt;
         let given = match file {
-            DiskFile::Settings => self.settings.read(rt, offset, buf),
-            DiskFile::Output => self.output.read(rt, offset, buf),
-            DiskFile::SlotA => self.slot_a.read(rt, offset, buf),
-            DiskFile::SlotB => self.slot_b.read(rt, offset, buf),
+            DiskFile::Settings => self.settings.read(rt, SETTINGS, offset, buf),
+            DiskFile::Output => self.output.read(rt, OUTPUT, offset, buf),
+            DiskFile::SlotA => self.slot_a.read(rt, SLOT_A, offset, buf),
+            DiskFile::SlotB => self.slot_b.read(rt, SLOT_B, offset, buf),
         };
         counted(&mut self.faults, given)
     }
@@ -202,10 +86,10 @@ impl Disk for RealDisk<'_> {
     ) -> Result<(), CallFault> {
         let rt = self.rt;
         let given = match file {
-            DiskFile::Settings => self.settings.write(rt, offset, bytes),
-            DiskFile::Output => self.output.write(rt, offset, bytes),
-            DiskFile::SlotA => self.slot_a.write(rt, offset, bytes),
-            DiskFile::SlotB => self.slot_b.write(rt, offset, bytes),
+            DiskFile::Settings => self.settings.write(rt, SETTINGS, offset, bytes),
+            DiskFile::Output => self.output.write(rt, OUTPUT, offset, bytes),
+            DiskFile::SlotA => self.slot_a.write(rt, SLOT_A, offset, bytes),
+            DiskFile::SlotB => self.slot_b.write(rt, SLOT_B, offset, bytes),
         };
         counted_call(&mut self.faults, given)
     }
@@ -213,10 +97,10 @@ impl Disk for RealDisk<'_> {
     fn cut(&mut self, _alloc: Global, file: DiskFile, length: u64) -> Result<(), CallFault> {
         let rt = self.rt;
         let given = match file {
-            DiskFile::Settings => self.settings.cut(rt, length),
-            DiskFile::Output => self.output.cut(rt, length),
-            DiskFile::SlotA => self.slot_a.cut(rt, length),
-            DiskFile::SlotB => self.slot_b.cut(rt, length),
+            DiskFile::Settings => self.settings.cut(rt, SETTINGS, length),
+            DiskFile::Output => self.output.cut(rt, OUTPUT, length),
+            DiskFile::SlotA => self.slot_a.cut(rt, SLOT_A, length),
+            DiskFile::SlotB => self.slot_b.cut(rt, SLOT_B, length),
         };
         counted_call(&mut self.faults, given)
     }
@@ -224,10 +108,10 @@ impl Disk for RealDisk<'_> {
     fn sync(&mut self, _alloc: Global, file: DiskFile) -> Result<(), CallFault> {
         let rt = self.rt;
         let given = match file {
-            DiskFile::Settings => self.settings.sync(rt),
-            DiskFile::Output => self.output.sync(rt),
-            DiskFile::SlotA => self.slot_a.sync(rt),
-            DiskFile::SlotB => self.slot_b.sync(rt),
+            DiskFile::Settings => self.settings.sync(rt, SETTINGS),
+            DiskFile::Output => self.output.sync(rt, OUTPUT),
+            DiskFile::SlotA => self.slot_a.sync(rt, SLOT_A),
+            DiskFile::SlotB => self.slot_b.sync(rt, SLOT_B),
         };
         counted_call(&mut self.faults, given)
     }

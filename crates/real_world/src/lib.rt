@@ -10,6 +10,8 @@ ghost use Rattle.outside.specs.Count.{HasCause, HasOneCause};
 mod clock;
 mod control;
 mod disk;
+mod own_file;
+mod parts;
 mod report;
 mod tree;
 
@@ -17,6 +19,7 @@ pub use clock::RealClock;
 pub use control::RealSource;
 pub use disk::RealDisk;
 use outside::{CallFault, Failed};
+pub use parts::RealParts;
 pub use report::RealSink;
 use std::io;
 use std::io::ErrorKind;

@@ -1,6 +1,6 @@
 // Lines behind those that were printed.
-ghost use Rattle.std.specs.Prelude.{◌≡◌, ℕ, ◌+◌, ◌≤◌, ◌^◌, List, ◌++◌, length, take, Option, IfNone, IfSome, OnOk};
-ghost use Rattle.file_pass.specs.Full.{Crosses, lines_text};
+ghost use Rattle.std.specs.Prelude.{◌≡◌, ℕ, ◌+◌, ◌≤◌, ◌^◌, List, ◌++◌, length, take, Option, OnOk};
+ghost use Rattle.file_pass.specs.Full.{lines_text};
 ghost use Rattle.outside.specs.World.{Told};
 ghost use Rattle.standing.specs.Marks.{Mark};
 ghost use Rattle.stream_lines.specs.Causes.{HasReportCause};
@@ -9,7 +9,8 @@ ghost use Rattle.stream_lines.specs.Prints.{Prints, Tells};
 ghost use Rattle.stream_lines.specs.WholeFront.{IsWholeFront};
 
 use crate::fault::StreamFault;
-use memchr::{memchr, memrchr};
+use file_pass::past_limit;
+use memchr::memrchr;
 use otlp_json::laws::line_is_one_line;
 use outside::Sink;
 use std::alloc::Global;
@@ -38,7 +39,7 @@ pub(crate) fn print<K: Sink>(
     if lines.is_empty() {
         return Ok(());
     }
-    if let Some(length) = past_limit(lines, *printed) {
+    if let Some(length) = past_limit(lines, *printed, MOST_PRINTED) {
         let room = (MOST_PRINTED - *printed) as usize;
         let before = whole_front(&lines[..room]);
         report.write(alloc, &lines[..before])?;
@@ -47,26 +48,6 @@ pub(crate) fn print<K: Sink>(
     report.write(alloc, lines)?;
     *printed += lines.len() as u64;
     Ok(())
-}
-
-// The length of all lines up to the first of these that passes the limit, where those before have so many bytes.
-fn past_limit(lines: &[u8], printed: u64) -> Option<u64>
-    requires within { printed ≤ most_printed }
-    requires long { length lines.now ≤ 2 ^ 63 }
-    ensures none { IfNone result (printed + length lines.now ≤ most_printed) }
-    ensures some { IfSome result (λ size. (marks : List Mark) → lines.now ≡ lines_text marks → Crosses most_printed printed marks size) }
-    ensures room { IfSome result (λ size. most_printed ≤ printed + length lines.now) }
-{
-    line_is_one_line();
-    let room = (MOST_PRINTED - printed) as usize;
-    if lines.len() <= room {
-        return None;
-    }
-    match memchr(b'\n', &lines[room..]) {
-        Some(at) => Some(MOST_PRINTED + at as u64 + 1),
-        // Each line has its end.
-        None => Some(printed + lines.len() as u64),
-    }
 }
 
 // How many bytes the lines have that end within these bytes.

@@ -9,5 +9,6 @@ pub mod Pairs
 pub mod CsvRecords
 pub mod Plain
 pub mod Split
+pub mod FirstRecord
 pub mod Groups
 pub mod ReadByDefault

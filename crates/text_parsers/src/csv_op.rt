@@ -12,12 +12,14 @@ ghost use Rattle.text_parsers.specs.CsvRecords.{IsRecordText, IsRecordFault, nam
 ghost use Rattle.text_parsers.specs.TextValue.{IsTextWith, IsValueFault};
 
 use crate::ParseFault;
+use crate::members::put;
 use crate::parts::{first_part, part_count};
 use crate::records::{Split, has_plain_record, split_record};
 use csv::ByteRecord;
 use entry_model::{Fields, Text, Value};
 use std::alloc::{AllocError, Global};
 use std::marker::Model;
+use std::str;
 
 /// Takes the fields of a text that is one CSV record, by the names of a header.
 #[derive(Drop)]
@@ -138,7 +140,7 @@ fn name_parts(
             break;
         }
         let (part, behind, found) = first_part(rest, delimiter);
-        put_field(alloc, &mut members, name, part.as_bytes())?;
+        put_part(alloc, &mut members, name, part)?;
         rest = behind;
         more = found;
     }
@@ -159,6 +161,14 @@ fn name_fields(alloc: Global, names: &[Text], row: &ByteRecord) -> Result<Fields
     Ok(members)
 }
 
+fn put_part(alloc: Global, members: &mut Fields, name: &Text, part: &str) -> Result<(), AllocError>
+    ensures { OnOk result (seen members.new.entries ≡ insert_entry (slice_cmp nat_cmp) (seen members.old.entries) name.now (text_datum (utf8_lossy part.now))) }
+{
+    let key = name.share()?;
+    put(alloc, members, key, part)?;
+    Ok(())
+}
+
 fn put_field(
     alloc: Global,
     members: &mut Fields,
@@ -168,9 +178,19 @@ fn put_field(
     ensures { OnOk result (seen members.new.entries ≡ insert_entry (slice_cmp nat_cmp) (seen members.old.entries) name.now (text_datum (utf8_lossy field.now))) }
 {
     let key = name.share()?;
-    let value = Text::new(String::from_utf8_lossy(alloc, field)?)?;
+    let value = text_of(alloc, field)?;
     members.insert(key, Value::Text(value))?;
     Ok(())
+}
+
+/// Valid UTF-8 is taken as it is.
+fn text_of(alloc: Global, field: &[u8]) -> Result<Text, AllocError>
+    ensures { IfOk result (λ text. text ≡ utf8_lossy field.now) }
+{
+    match str::from_utf8(field) {
+        Ok(text) => Ok(Text::from_str(alloc, text)?),
+        Err(_) => Ok(Text::new(String::from_utf8_lossy(alloc, field)?)?),
+    }
 }
 
 /// The parts of the header.

@@ -65,6 +65,45 @@ consoles_show() {
 
 check_consoles() { each_document consoles_show; }
 
+# shell_blocks DOCUMENT: its blocks of commands, a line each: the section, and the block's number there.
+shell_blocks() { awk '/^## / { section = substr($0, 4); count = 0 } /^```sh$/ { print section "|" ++count }' "$1"; }
+
+# Each block of commands in the README is run as it is written: by packaging/debian/check, or it is of the repository itself.
+check_commands_are_run() {
+    local section number count=0
+    while IFS='|' read -r section number; do
+        [ "$section" = 'Building it' ] || tr -d "'" <"$root/packaging/debian/check" | grep -q "as_written $section $number\>" || {
+            echo "nothing runs block $number of $section"
+            return 1
+        }
+        count=$((count + 1))
+    done < <(shell_blocks "$root/README.md")
+    [ "$count" -gt 8 ] || return 1
+    # Of the repository itself: the theme `examples` runs the first, and the gate the last two.
+    sed -n '/^## Building it/,/^## What/p' "$root/README.md" | sed -n '/^```sh$/,/^```$/p' | grep -v '^```' >commands
+    diff <(sed 2d commands) <(printf '%s\n' examples/run .ci/run tests/run) || return 1
+    sed -n 2p commands >command && (cd "$root" && AGENT=$agent wait_for bash) <command >shown && grep -q '^1 | .*GET / HTTP/1.1.*, status="200" | ' shown
+}
+
+# So are those of the other documents, with logs that are here.
+check_commands_of_other_documents() {
+    python3 -c 'import yaml' 2>/dev/null || { skip "python3 has no yaml"; return 0; }
+    ln -s "$root/tools" tools && cp "$root/examples/nginx/settings.json" settings.json || return 1
+    cat "$root"/docs/*.md | sed -n '/^```sh$/,/^```$/p' | grep -v '^```' | sed "s#/var/log/nginx/#$root/examples/nginx/log/#
+        s#/etc/otelcol/config.yaml >#$root/tests/e2e/filelog/nginx/collector.yaml >converted-#" >commands
+    diff <(cut -d ' ' -f 1 commands | sort) <(printf '%s\n' tail tools/check-settings tools/from-filelog) || return 1
+    AGENT=$agent wait_for bash -eux commands >shown 2>said || { cat shown said && return 1; }
+    [ "$(grep -c '^1 | ' shown)" = 2 ] && [ -s converted-settings.json ]
+}
+
+# A loop of a shell as the README has it, with a `sleep` that is shorter. It ends when the agent can't report any more.
+check_loop_of_a_shell() {
+    local loop='while echo poll; do sleep 10; done | stanza_agent follow'
+    a_log && grep -q -F "\`$loop\`" "$root/README.md" && mkdir bin && printf '#!/bin/sh\nexec %s 0.1\n' "$(command -v sleep)" >bin/sleep && chmod +x bin/sleep &&
+        PATH=$PWD/bin:$work/bin:$PATH wait_for bash -c "$loop" 2>&1 | head -n 3 >report
+    diff report <(one_line && summary 1 0 0 326 && summary 1 0 0 326)
+}
+
 check_keys() {
     local keys body attributes resource count=0
     while IFS=$'\x1f' read -r keys body attributes resource; do
@@ -181,11 +220,11 @@ check_names() {
 
 # What isn't there is told.
 check_names_that_are_gone() {
-    printf '%s\n' '`docs/NONE.md` `stanza_agent::no_such_name` `stanza_agent frob` `examples/run none`' '[none](none.md)' >text.md
+    printf '%s\n' '`docs/NONE.md` `stanza_agent::no_such_name` `stanza_agent frob` `stanza_agent segments pipe` `examples/run none`' '[none](none.md)' >text.md
     printf '```sh\ntools/none x\nsystemctl start stanza-agent-none.timer\n```\n' >>text.md
     cp text.md DECISIONS.md && echo '`no_such_name` `NoSuchName`' >>DECISIONS.md
     document names "$root" text.md DECISIONS.md >names
-    [ "$(grep -c '^text.md: ' names)" = 7 ] && [ "$(grep -c '^DECISIONS.md: ' names)" = 9 ]
+    [ "$(grep -c '^text.md: ' names)" = 8 ] && [ "$(grep -c '^DECISIONS.md: ' names)" = 10 ]
 }
 
 # The indexes of the long documents lead to each of their sections.

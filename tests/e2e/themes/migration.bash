@@ -36,7 +36,7 @@ converts() {
 
 # is_observed NAME..: nothing is told but of the observed time of these receivers.
 is_observed() {
-    diff said <(printf 'receivers.%s: note: each record of the receiver has an observed time, so include_observed_time is set: a line has the time of the poll that took it\n' "$@")
+    diff said <(printf 'receivers.%s: note: each record of the receiver has an observed time, so include_observed_time is set: a line has the time of the poll that read it\n' "$@")
 }
 
 # A folder of tests/e2e/filelog has a Collector's configuration collector.yaml, the words in `arguments` that the tool is given
@@ -90,12 +90,12 @@ check_notes() {
     has_yaml || return 0
     converts 0 "$root/tests/e2e/filelog/nginx/collector.yaml" && from_filelog same given "$root/tests/e2e/filelog/nginx/settings.json" || return 1
     diff said - <<'T'
-receivers.filelog/nginx.include: note: a log that was renamed is taken only where a pattern matches its new name too, as app.log* does
+receivers.filelog/nginx.include: note: a log that was renamed is read only where a pattern matches its new name too, as app.log* does
 receivers.filelog/nginx.poll_interval: note: the agent polls when it is told to: let what tells it do so each 0.5 seconds
 receivers.filelog/nginx.storage: note: the agent always keeps its place in each file, in its folder
 receivers.filelog/nginx.operators[0].timestamp.layout: note: it reads no time with a fraction of a second: write %S.%L where the log has one
 receivers.filelog/nginx.operators[0]: note: a line whose time or severity isn't read stays unparsed; the receiver keeps what else is parsed
-receivers.filelog/nginx: note: each record of the receiver has an observed time, so include_observed_time is set: a line has the time of the poll that took it
+receivers.filelog/nginx: note: each record of the receiver has an observed time, so include_observed_time is set: a line has the time of the poll that read it
 T
 }
 
@@ -118,7 +118,7 @@ receivers.filelog/nginx.encoding: left out: logs are read as UTF-8: let the prog
 receivers.filelog/nginx.operators[1]: left out: there is no operator uri_parser: let a regex_parser cut it, or the Collector behind
 receivers.filelog/nginx.operators[2].regex: left out: the name 1st begins with a digit: let it begin with a letter or _
 receivers.filelog/nginx.operators[2].parse_from: left out: a field begins with body, attributes or resource
-receivers.filelog/nginx: note: each record of the receiver has an observed time, so include_observed_time is set: a line has the time of the poll that took it
+receivers.filelog/nginx: note: each record of the receiver has an observed time, so include_observed_time is set: a line has the time of the poll that read it
 T
     echo '{"include": ["/l/*"], "operators": [{"type": "noop"}, {"type": "noop", "id": "uri_parser"}, {"type": "noop", "id": "regex_parser"}], "include_observed_time": true}' >wanted
     from_filelog same given wanted

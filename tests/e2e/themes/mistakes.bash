@@ -35,7 +35,18 @@ check_keys() { answered keys 25; }
 
 check_texts() { answered texts 32; }
 
-check_files() { answered files 11; }
+check_files() { answered files 12; }
+
+# The package's settings have the package's folder, in which relative patterns begin, and what was handed on is its own too.
+check_folder_of_the_package() {
+    printf '{"include":["/var/**"]}' >settings.json
+    AGENT=$agent checked 1 --folder /var/lib/stanza_agent settings.json || return 1
+    diff <(grep -o '/var/[a-z]*/stanza_agent/[a-z0-9.]* is the agent.*' said) - <<'END' || return 1
+/var/lib/stanza_agent/output.jsonl is the agent's own file: exclude /var/lib/stanza_agent/**, or let the agent run in another folder
+/var/spool/stanza_agent/0000000000000.jsonl is the agent's own file: exclude /var/spool/stanza_agent/**, or let the agent run in another folder
+END
+    AGENT=$agent checked 0 --folder /var/lib/stanza_agent "$root/packaging/debian/settings.json"
+}
 
 check_logs() { answered logs 3; }
 

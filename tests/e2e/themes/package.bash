@@ -25,7 +25,7 @@ check_contents() {
     names_of files | grep -v -e ^DEBIAN/ -e ^usr/share/doc/ | diff - <(
         {
             (cd "$root/packaging/systemd" && ls | sed 's#^#lib/systemd/system/#')
-            printf '%s\n' etc/stanza_agent/settings.json usr/bin/stanza_agent usr/lib/stanza_agent/{hand_over,poll_each} \
+            printf '%s\n' etc/stanza_agent/settings.json usr/bin/stanza_agent usr/lib/stanza_agent/{adopt_changed,hand_over,poll_each} \
                 usr/share/bash-completion/completions/stanza_agent usr/share/lintian/overrides/stanza-agent \
                 usr/share/man/man5/stanza_agent.settings.5.gz usr/share/man/man8/stanza_agent.8.gz var/lib/stanza_agent/settings.json
         } | LC_ALL=C sort
@@ -51,9 +51,9 @@ check_paths_of_units() {
     done
 }
 
-# The settings that come with the package are taken, and leave what the agent writes alone.
+# The settings that come with the package are taken, and leave out what isn't a log.
 check_settings() {
-    mkdir -p state var/log/apt var/lib/stanza_agent var/spool/stanza_agent
+    mkdir -p state var/log/apt
     echo 'in a log' >var/log/dpkg.log
     echo 'in a rotated log' >var/log/dpkg.log.1
     echo packed | gzip >var/log/dpkg.log.2.gz
@@ -81,8 +81,12 @@ check_manual() {
         grep -q -F "\\fB$word\\fR" stanza_agent.settings.5 || { echo "setting $word" && return 1; }
     done
     grep -q -x -F '.IP 1. 4' stanza_agent.8 && grep -q -x -F '.IP \(bu 2' stanza_agent.8 || return 1
-    [ "$(sed -n '/^.SH SYNOPSIS/,/^.SH "DESC/p' stanza_agent.8 | grep -c '^\.B stanza_agent ')" = 5 ] &&
-        ! "$root/packaging/debian/manual" other.1 2>/dev/null
+    # Each command of the README's table, and what it says of changed settings and of an output in many files.
+    diff <(sed -n '/^.SH SYNOPSIS/,/^.SH "DESC/s/^\.B //p' stanza_agent.8) <(sed -n 's/^| `\(stanza_agent [^`]*\)` |.*/\1/p' "$root/README.md") || return 1
+    for word in 'CHANGING SETTINGS' 'AN OUTPUT IN MANY FILES'; do
+        grep -q -x -F ".SH \"$word\"" stanza_agent.8 || { echo "no section $word" && return 1; }
+    done
+    ! "$root/packaging/debian/manual" other.1 2>/dev/null
 }
 
 # roff reads the pages without a complaint, and nothing of Markdown is left in them.
@@ -107,14 +111,34 @@ check_completion() {
     local commands
     commands=$(sed -n 's/^| `stanza_agent \([a-z]*\).*/\1/p' "$root/README.md")
     [ "$(completed stanza_agent '' | tr ' ' '\n' | sort)" = "$(sort <<<"$commands")" ] && [ "$(completed stanza_agent f)" = follow ] &&
-        [ "$(completed stanza_agent once '')" = '' ]
+        [ "$(completed stanza_agent once '')" = '' ] || return 1
+    # Behind `segments` those that the README's row of it names.
+    commands=$(sed -n 's/^| `stanza_agent segments COMMAND` | is \(.*\) with .*/\1/p' "$root/README.md" | grep -o '`[a-z]*`' | tr -d '`')
+    [ "$(completed stanza_agent segments '' | tr ' ' '\n' | sort)" = "$(sort <<<"$commands")" ] && [ "$(completed stanza_agent segments a)" = adopt ] &&
+        [ "$(completed stanza_agent segments once '')" = '' ]
+}
+
+# The tools of the package find what they call, and the program that is installed.
+check_tools() {
+    local documents=files/usr/share/doc/stanza-agent sample='{"include":["*.log"],"start_at":"beginning"}'
+    a_package || { [ -e "$work/skipped" ]; return; }
+    echo "$sample" >settings.json && echo hello >app.log
+    [ "$(AGENT=$agent wait_for "$documents/tools/try-settings" settings.json app.log)" = '1 | hello | log.file.name=stdin' ] || return 1
+    [ "$(AGENT=$agent wait_for "$documents/tools/check-settings" settings.json app.log | grep hello)" = '1 | hello | log.file.name=app.log' ] || return 1
+    [ ! -e "$documents/tools/new-operator" ] || return 1
+    if [ ! -e /usr/bin/stanza_agent ]; then
+        env -u AGENT "$documents/examples/program" 2>said
+        [ $? = 1 ] && [ "$(cat said)" = 'There is no program at /usr/bin/stanza_agent.' ] || return 1
+    fi
+    printf 'receivers: {filelog: {include: [/var/log/app.log*], start_at: beginning}}\n' >collector.yaml
+    ! python3 -c 'import yaml' 2>/dev/null || wait_for "$documents/tools/from-filelog" collector.yaml 2>said | grep -q -F '"/var/log/app.log*"'
 }
 
 # The image has the program, the loop and their libraries, and nothing else that can be run; and the program runs there.
 check_image() {
     local file
     a_package || { [ -e "$work/skipped" ]; return; }
-    cp files/usr/lib/stanza_agent/poll_each "$agent" .
+    cp files/usr/lib/stanza_agent/poll_each poll_each && cp -L "$agent" stanza_agent || return 1
     "$root/packaging/container/image_root" "$PWD/image" "$PWD/stanza_agent" "$PWD/poll_each" || return 1
     for file in $(names_of image); do
         case /$file in

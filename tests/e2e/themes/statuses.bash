@@ -6,6 +6,7 @@ check_words() {
         run 2 "fault 2 usage$LF" frob &&
         run 2 "fault 2 usage$LF" once x &&
         run 2 "fault 2 usage$LF" follow x &&
+        run 2 "fault 2 usage$LF" adopt x &&
         run 2 "fault 2 usage$LF" committed x &&
         run 2 "fault 2 usage$LF" pipe x &&
         run 2 "fault 2 usage$LF" --help &&

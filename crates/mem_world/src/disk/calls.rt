@@ -6,17 +6,18 @@ ghost use Rattle.outside.specs.Image.{AtFile, Torn, Holds, MayCut, IsCut, IsWith
 ghost use Rattle.outside.specs.Crash.{Passes, IsDurable};
 ghost use Rattle.outside.specs.DiskCalls.{last_end, done_after, written_after};
 
-use super::MemDisk;
-use super::log::Change;
+use super::{MemDisk, own_file};
+use out_segments::Parts;
 use outside::{CallFault, Disk, DiskFile, Failed};
 use std::alloc::Global;
 
 impl Disk for MemDisk {
     ghost use Rattle.mem_world.specs.MemDisk.{history_of, fuse_of, failures_of, faults_of, seen_of, most_faults, done_of, most_done, written_of, disk_images, disk_meaning, next_fate, Counts, Calls, Writes};
-    ghost use Rattle.mem_world.specs.DiskLaws.{leaves_shown, left_now, left_only_now, within_part};
-    ghost use Rattle.mem_world.specs.DiskPlans.{failed, pending, left_of};
-    ghost use Rattle.mem_world.specs.DiskCount.{done_count};
-    ghost use Rattle.mem_world.specs.declared.disk.log.Change.TheVariants.{Cut, Sync};
+    ghost use Rattle.mem_calls.specs.CallPlans.{failed, pending, left_of};
+    ghost use Rattle.out_segments.specs.MemCount.{done_count};
+    ghost use Rattle.out_segments.specs.MemLaws.{within_part};
+    ghost use Rattle.out_segments.specs.declared.memory.log.Change.TheVariants.{Cut, Sync};
+    ghost use Rattle.mem_world.specs.DiskLaws.{leaves_shown, left_now, left_only_now};
 
     ghost meaning = { disk_meaning };
 
@@ -28,11 +29,11 @@ impl Disk for MemDisk {
 
     ghost only_now = { λ disk image left. left_only_now (history_of disk) image left };
 
-    ghost in_range = { λ disk. disk.plans.failures.in_range };
+    ghost in_range = { λ disk. disk.parts.plans.failures.in_range };
 
-    ghost within_bound = { λ disk. within_part (most_faults disk) (faults_of disk) (pending (failures_of disk)) disk.plans.within };
+    ghost within_bound = { λ disk. within_part (most_faults disk) (faults_of disk) (pending (failures_of disk)) disk.parts.plans.within };
 
-    ghost within_limit = { λ disk. within_part (most_done disk) (done_count (history_of disk)) (left_of (fuse_of disk)) disk.limited };
+    ghost within_limit = { λ disk. within_part (most_done disk) (done_count (history_of disk)) (left_of (fuse_of disk)) disk.parts.limited };
 
     fn length(&mut self, file: DiskFile) -> Result<u64, Failed>
         ensures length { IfOk result (λ size. size ≡ length (seen_of self.old file)) }
@@ -49,8 +50,7 @@ impl Disk for MemDisk {
         ensures counts { Counts self.old self.new }
         ensures history { history_of self.new ≡ history_of self.old }
     {
-        self.look()?;
-        Ok(self.bytes(file).len() as u64)
+        self.parts.length(own_file(file))
     }
 
     fn read(&mut self, file: DiskFile, offset: u64, buf: &mut [u8]) -> Result<usize, Failed>
@@ -69,15 +69,7 @@ impl Disk for MemDisk {
         ensures counts { Counts self.old self.new }
         ensures history { history_of self.new ≡ history_of self.old }
     {
-        self.look()?;
-        let bytes = self.bytes(file);
-        if offset >= bytes.len() as u64 {
-            return Ok(0);
-        }
-        let rest = &bytes[offset as usize..];
-        let count = rest.len().min(buf.len());
-        buf[..count].copy_from_slice(&rest[..count]);
-        Ok(count)
+        self.parts.read(own_file(file), offset, buf)
     }
 
     fn write_at(
@@ -101,12 +93,7 @@ impl Disk for MemDisk {
         // It does what its fate wants, or nothing where memory runs out.
         ensures calls { Writes file offset bytes.now result self.old self.new }
     {
-        let Ok(bytes) = bytes.to_vec(alloc) else {
-            self.written = self.written_given(file, bytes.len());
-            return Err(CallFault::Memory);
-        };
-        let offset = offset as usize;
-        self.call(alloc, file, Change::Write { offset, bytes })
+        self.parts.write_at(alloc, own_file(file), offset, bytes)
     }
 
     fn cut(&mut self, alloc: Global, file: DiskFile, length: u64) -> Result<(), CallFault>
@@ -123,8 +110,7 @@ impl Disk for MemDisk {
         // It does what its fate wants, or nothing where memory runs out.
         ensures calls { Calls file (Cut length) result self.old self.new }
     {
-        let length = length as usize;
-        self.call(alloc, file, Change::Cut { length })
+        self.parts.cut(alloc, own_file(file), length)
     }
 
     fn sync(&mut self, alloc: Global, file: DiskFile) -> Result<(), CallFault>
@@ -140,6 +126,6 @@ impl Disk for MemDisk {
         // It does what its fate wants, or nothing where memory runs out.
         ensures calls { Calls file Sync result self.old self.new }
     {
-        self.call(alloc, file, Change::Sync)
+        self.parts.sync(alloc, own_file(file))
     }
 }

@@ -1,8 +1,8 @@
 use Rattle.agent_commands.specs.Moment.{meanings}
 use Rattle.outside.proofs.Passing.{passes_none}
 use Rattle.agent_commands.proofs.DemoLemmas.{demo_status, demo_not_long}
-use Rattle.agent_commands.proofs.StandLemmas.{same_stands}
-use Rattle.agent_commands.proofs.StatusLemmas.{committed_status, follow_status, once_not_long, once_status, pipe_status}
+use Rattle.agent_commands.proofs.StandLemmas.{all_stands, same_stands}
+use Rattle.agent_commands.proofs.StatusLemmas.{adopt_not_long, adopt_status, committed_status, follow_status, once_not_long, once_status, pipe_status}
 use Rattle.agent_commands.proofs.agent.run.Goals as goal
 
 -- ---- once
@@ -23,6 +23,20 @@ returns-in-Follow-clause-answers g c = (follow_status (meanings g.T.Tree.meaning
 
 pub returns-in-Follow-clause-no_usage : goal.returns-in-Follow-clause-no_usage
 returns-in-Follow-clause-no_usage g c = (follow_status (meanings g.T.Tree.meaning g.D.Disk.meaning g.K.Sink.meaning g.C.Clock.meaning) _ _ _ _ _ c.follow.ensures.ends).1
+
+-- ---- adopt
+
+pub returns-in-Adopt-clause-answers : goal.returns-in-Adopt-clause-answers
+returns-in-Adopt-clause-answers g c = (adopt_status g.D.Disk.meaning.images _ _ _ _ _ c.adopt.ensures.ends).0
+
+pub returns-in-Adopt-clause-no_usage : goal.returns-in-Adopt-clause-no_usage
+returns-in-Adopt-clause-no_usage g c = (adopt_status g.D.Disk.meaning.images _ _ _ _ _ c.adopt.ensures.ends).1
+
+pub returns-in-Adopt-clause-control_long : goal.returns-in-Adopt-clause-control_long
+returns-in-Adopt-clause-control_long g c = λ is. absurd (adopt_not_long g.D.Disk.meaning.images _ _ _ _ _ c.adopt.ensures.ends is)
+
+pub returns-in-Adopt-clause-standing : goal.returns-in-Adopt-clause-standing
+returns-in-Adopt-clause-standing g c = all_stands g.D.Disk.meaning.images c.args.disk.now c.adopt.new.disk (g.T.Tree.meaning.world c.args.tree.now) c.adopt.ensures.standing
 
 -- ---- committed
 

@@ -1,9 +1,13 @@
 use Rattle.std.proofs.Common.{◌∙◌, ap, arith, refl}
-use Rattle.command_words.specs.declared.command.Command.TheVariants.{Once, Follow, Committed, Pipe, Demo}
+use Rattle.command_words.specs.declared.command.Command.TheVariants.{Once, Follow, Adopt, Committed, Pipe, Demo}
+use Rattle.checkpoint_journal.specs.declared.fault.JournalFault.TheVariants as journal
 use Rattle.outside.proofs.Passing.{passes_none, passes_weaker}
+use Rattle.poll_core.specs.declared.fault.OpenFault.TheVariants as opening
+use Rattle.agent_commands.proofs.AdoptLemmas.{same_adopts}
 use Rattle.agent_commands.proofs.DemoLemmas.{wants_memory}
 use Rattle.agent_commands.proofs.GrowLemmas.{grows_more, grows_same}
 use Rattle.agent_commands.proofs.StandLemmas.{same_stands}
+use Rattle.agent_commands.specs.Adopt as adopt
 use Rattle.agent_commands.specs.Committed.{unread}
 use Rattle.agent_commands.specs.DemoEnds.{unplayed}
 use Rattle.agent_commands.specs.Follow as follow
@@ -26,10 +30,10 @@ pub returns-in-Err-clause-once : goal.returns-in-Err-clause-once
 returns-in-Err-clause-once g c = λ is.
     let memory = wants_memory _ c.in-Err.fault Once c.in-Err.ensures.fault is in
     once.not_opened _ (record {
-      fault = c.in-Err.fault;
-      is = c.refuse.ensures.status;
-      cause = rw memory tt;
-      told = c.refuse.ensures.told;
+      fault = opening.Memory;
+      is = c.refuse.ensures.status ∙ ap status_of memory;
+      cause = tt;
+      told = rw memory at c.refuse.ensures.told;
       same_tree = refl;
       same_clock = refl;
       untouched = λ _. passes_none c.args.disk.now;
@@ -43,25 +47,33 @@ pub returns-in-Err-clause-follow : goal.returns-in-Err-clause-follow
 returns-in-Err-clause-follow g c = λ is.
     let memory = wants_memory _ c.in-Err.fault Follow c.in-Err.ensures.fault is in
     follow.not_opened (record {
-      fault = c.in-Err.fault;
-      is = c.refuse.ensures.status;
-      cause = rw memory tt;
-      told = c.refuse.ensures.told;
+      fault = opening.Memory;
+      is = c.refuse.ensures.status ∙ ap status_of memory;
+      cause = tt;
+      told = rw memory at c.refuse.ensures.told;
       same_tree = refl;
       same_clock = refl;
       untouched = λ _. passes_none c.args.disk.now;
       crash = passes_weaker (passes_none c.args.disk.now) (λ old new same. rw same (grows_same old));
     }) refl
 
+pub returns-in-Err-clause-adopt : goal.returns-in-Err-clause-adopt
+returns-in-Err-clause-adopt g c = λ is.
+    let memory = wants_memory _ c.in-Err.fault Adopt c.in-Err.ensures.fault is in
+    adopt.not_read _ (record { fault = opening.Memory; is = c.refuse.ensures.status ∙ ap status_of memory; cause = tt; told = rw memory at c.refuse.ensures.told; untouched = passes_none c.args.disk.now })
+
+pub returns-in-Err-clause-adopt_crash : goal.returns-in-Err-clause-adopt_crash
+returns-in-Err-clause-adopt_crash g c = λ _. same_adopts g.D.Disk.meaning.images c.args.disk.now c.args.disk.now (passes_none c.args.disk.now)
+
 pub returns-in-Err-clause-committed : goal.returns-in-Err-clause-committed
 returns-in-Err-clause-committed g c = λ is.
     let memory = wants_memory _ c.in-Err.fault Committed c.in-Err.ensures.fault is in
-    unread _ (record { fault = c.in-Err.fault; is = c.refuse.ensures.status; cause = rw memory tt; told = c.refuse.ensures.told })
+    unread _ (record { fault = journal.Memory; is = c.refuse.ensures.status ∙ ap status_of memory; cause = tt; told = rw memory at c.refuse.ensures.told })
 
 pub returns-in-Err-clause-pipe : goal.returns-in-Err-clause-pipe
 returns-in-Err-clause-pipe g c = λ is.
     let memory = wants_memory _ c.in-Err.fault Pipe c.in-Err.ensures.fault is in
-    not_piped _ (record { fault = c.in-Err.fault; is = c.refuse.ensures.status; cause = rw memory tt; told = c.refuse.ensures.told; untouched = refl; same_clock = refl })
+    not_piped _ (record { fault = opening.Memory; is = c.refuse.ensures.status ∙ ap status_of memory; cause = tt; told = rw memory at c.refuse.ensures.told; untouched = refl; same_clock = refl })
 
 pub returns-in-Err-clause-demo : goal.returns-in-Err-clause-demo
 returns-in-Err-clause-demo g c = λ rounds is.

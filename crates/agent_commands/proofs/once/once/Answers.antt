@@ -1,18 +1,19 @@
-use Rattle.std.proofs.Common.{ℕ, sym, ◌∙◌, arith, refl}
+use Rattle.std.proofs.Common.{ℕ, sym, ◌∙◌, ap, arith, refl}
 use Rattle.agent_commands.proofs.GrowLemmas.{opened_grows, opening_grows, passes_grow_more}
 use Rattle.poll_core.specs.SessionParts.{rules_of_session}
 use Rattle.agent_commands.proofs.StandLemmas.{closed_stands, keeps_opened, opened_stands}
-use Rattle.agent_commands.proofs.StatusLemmas.{count_of_fault, some_fault}
+use Rattle.agent_commands.proofs.StatusLemmas.{opening_count, some_fault}
 use Rattle.agent_commands.specs.Moment.{meanings, moment}
 use Rattle.agent_commands.specs.Once.{not_opened, polls, stops}
+use Rattle.agent_commands.specs.Status.{status_of}
 use Rattle.agent_commands.proofs.once.once.Goals as goal
 
 pub returns-in-Err-clause-ends : goal.returns-in-Err-clause-ends
 returns-in-Err-clause-ends g c = not_opened _ (record {
   fault = c.in-Err.fault;
-  is = c.refuse.ensures.status;
+  is = c.refuse.ensures.status ∙ ap status_of c.from.ensures;
   cause = c.in-Err.ensures.fault;
-  told = c.refuse.ensures.told;
+  told = rw c.from.ensures at c.refuse.ensures.told;
   same_tree = refl;
   same_clock = refl;
   untouched = c.in-Err.ensures.untouched;
@@ -26,16 +27,16 @@ pub returns-in-Err-clause-standing : goal.returns-in-Err-clause-standing
 returns-in-Err-clause-standing g c = closed_stands g.D.Disk.meaning.images _ _ _ (λ from image early left. g.met.D.Disk.counts_now c.args.disk.now from image early left) c.open_session.ensures.crash
 
 pub returns-in-Err-clause-disk_failed : goal.returns-in-Err-clause-disk_failed
-returns-in-Err-clause-disk_failed g c = λ is. (count_of_fault ℕ c.in-Err.fault _ _ c.in-Err.ensures.cause).0 (sym c.refuse.ensures.status ∙ is)
+returns-in-Err-clause-disk_failed g c = λ is. (opening_count ℕ c.in-Err.fault _ _ c.in-Err.ensures.cause).0 (sym (c.refuse.ensures.status ∙ ap status_of c.from.ensures) ∙ is)
 
 pub returns-in-Err-clause-disk_stood : goal.returns-in-Err-clause-disk_stood
-returns-in-Err-clause-disk_stood g c = λ other. (count_of_fault ℕ c.in-Err.fault _ _ c.in-Err.ensures.cause).1 (λ is. other (c.refuse.ensures.status ∙ is))
+returns-in-Err-clause-disk_stood g c = λ other. (opening_count ℕ c.in-Err.fault _ _ c.in-Err.ensures.cause).1 (λ is. other (c.refuse.ensures.status ∙ ap status_of c.from.ensures ∙ is))
 
 pub returns-in-Err-clause-report_failed : goal.returns-in-Err-clause-report_failed
-returns-in-Err-clause-report_failed g c = λ is. absurd ((some_fault c.in-Err.fault).0 (sym c.refuse.ensures.status ∙ is))
+returns-in-Err-clause-report_failed g c = λ is. absurd ((some_fault c.from.result).0 (sym c.refuse.ensures.status ∙ is))
 
 pub returns-in-Err-clause-report_stood : goal.returns-in-Err-clause-report_stood
-returns-in-Err-clause-report_stood g c = λ is. absurd ((some_fault c.in-Err.fault).1 (sym c.refuse.ensures.status ∙ is))
+returns-in-Err-clause-report_stood g c = λ is. absurd ((some_fault c.from.result).1 (sym c.refuse.ensures.status ∙ is))
 
 pub returns-in-Err-turn-clause-ends : goal.returns-in-Err-turn-clause-ends
 returns-in-Err-turn-clause-ends g c = stops c.in-Err-turn.status (record {

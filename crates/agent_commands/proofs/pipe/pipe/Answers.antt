@@ -1,9 +1,10 @@
-use Rattle.std.proofs.Common.{refl}
+use Rattle.std.proofs.Common.{refl, ◌∙◌, ap}
 use Rattle.agent_commands.specs.Pipe.{control_failed, full, no_memory, not_piped, report_failed, too_long, whole}
+use Rattle.agent_commands.specs.Status.{status_of}
 use Rattle.agent_commands.proofs.pipe.pipe.Goals as goal
 
 pub returns-in-Err-clause-ends : goal.returns-in-Err-clause-ends
-returns-in-Err-clause-ends g c = not_piped _ (record { fault = c.in-Err.fault; is = c.refuse.ensures.status; cause = c.in-Err.ensures.fault; told = c.refuse.ensures.told; untouched = refl; same_clock = refl })
+returns-in-Err-clause-ends g c = not_piped _ (record { fault = c.in-Err.fault; is = c.refuse.ensures.status ∙ ap status_of c.from.ensures; cause = c.in-Err.ensures.fault; told = rw c.from.ensures at c.refuse.ensures.told; untouched = refl; same_clock = refl })
 
 pub returns-in-Ok-print_lines-clause-ends : goal.returns-in-Ok-print_lines-clause-ends
 returns-in-Ok-print_lines-clause-ends g c = whole (record { pipeline = c.in-Ok.pipeline; is_pipeline = c.in-Ok.ensures.made; observed = c.stamp-observed.result; stamp = c.stamp-observed.ensures; told = c.in-Ok-print_lines.ensures.streams })

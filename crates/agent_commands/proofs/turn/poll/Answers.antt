@@ -1,24 +1,19 @@
-use Rattle.std.proofs.Common.{ℕ, ap}
+use Rattle.std.proofs.Common.{ap}
 use Rattle.std.specs.Prelude.{Err}
 use Rattle.std.proofs.lemmas.Result.{err_from_is_err_and}
 use Rattle.poll_core.proofs.EraLemmas.{session_eras}
-use Rattle.agent_commands.proofs.FaultLemmas.{poll_fault, polling_cause}
+use Rattle.agent_commands.proofs.FaultLemmas.{poll_fault}
 use Rattle.agent_commands.proofs.GrowLemmas.{poll_grows}
 use Rattle.agent_commands.proofs.StandLemmas.{told_holds_all}
 use Rattle.agent_commands.proofs.turn.poll.Goals as goal
 
-pub returns-in_err-poll-clause-fault : goal.returns-in_err-poll-clause-fault
-returns-in_err-poll-clause-fault g c =
+pub returns-in_err-done-clause-fault : goal.returns-in_err-done-clause-fault
+returns-in_err-done-clause-fault g c =
     let p = err_from_is_err_and c.from_residual.result c.from_residual.ensures.1 in
-    rw (p.1, p.2) (poll_fault g.T.Tree.meaning c.args.session c.args.tree.now c.poll.new.tree c.in_err-poll.field-0.0 (λ size is. c.in_err-poll.ensures.full size (ap Err is)) (λ sequence is. (c.in_err-poll.ensures.worn sequence (ap Err is)).1))
+    rw (p.1, p.2) (poll_fault g.T.Tree.meaning c.args.session c.args.tree.now c.poll.new.tree c.in_err-done.field-0.0 (λ size is. c.in_err-done.ensures.full size (ap Err is)) (λ sequence is. (c.in_err-done.ensures.worn sequence (ap Err is)).1))
 
-pub returns-in_err-poll-clause-cause : goal.returns-in_err-poll-clause-cause
-returns-in_err-poll-clause-cause g c =
-    let p = err_from_is_err_and c.from_residual.result c.from_residual.ensures.1 in
-    rw (p.1, p.2) (polling_cause ℕ ℕ c.in_err-poll.field-0.0 _ _ c.in_err-poll.ensures.cause)
-
-pub returns-in_err-poll-clause-crash : goal.returns-in_err-poll-clause-crash
-returns-in_err-poll-clause-crash g c = poll_grows g.T.Tree.meaning g.D.Disk.meaning c.args.session c.args.tree.now c.poll.new.tree c.args.disk.now c.poll.new.disk c.requires.session c.requires.stands c.poll.ensures.crash
+pub returns-in_err-done-clause-crash : goal.returns-in_err-done-clause-crash
+returns-in_err-done-clause-crash g c = poll_grows g.T.Tree.meaning g.D.Disk.meaning c.args.session c.args.tree.now c.poll.new.tree c.args.disk.now c.poll.new.disk c.requires.session c.requires.stands c.poll.ensures.crash
 
 pub returns-clause-crash : goal.returns-clause-crash
 returns-clause-crash g c = poll_grows g.T.Tree.meaning g.D.Disk.meaning c.args.session c.args.tree.now c.poll.new.tree c.args.disk.now c.poll.new.disk c.requires.session c.requires.stands c.poll.ensures.crash

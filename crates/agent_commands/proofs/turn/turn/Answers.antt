@@ -4,8 +4,9 @@ use Rattle.outside.specs.World.{Told}
 use Rattle.poll_core.specs.Polled.{Polled}
 use Rattle.poll_core.specs.SessionParts.{checkpoint_of_session}
 use Rattle.poll_core.specs.declared.session.Session.{Session}
+use Rattle.agent_commands.specs.Status.{status_of}
 use Rattle.agent_commands.proofs.StandLemmas.{holds_since}
-use Rattle.agent_commands.proofs.StatusLemmas.{count_of_fault, some_fault, status_of_poll}
+use Rattle.agent_commands.proofs.StatusLemmas.{polling_count, some_fault, status_of_poll}
 use Rattle.agent_commands.proofs.TimeLemmas.{keeps_at, kept_at, stands_at}
 use Rattle.agent_commands.specs.Headline.{HoldsAll, StoodSince}
 use Rattle.agent_commands.specs.Turn.{IsPollFault, IsTurnStatus}
@@ -25,9 +26,9 @@ returns-in-Err-clause-stops g c =
       now = at.now;
       read = at.read;
       fault = c.in-Err.fault;
-      is = c.refuse.ensures.status;
+      is = c.refuse.ensures.status ∙ ap status_of c.from.ensures;
       cause = subst (λ (s : Session). IsPollFault g.T.Tree.meaning s c.args.tree.now c.poll.new.tree c.in-Err.fault) at.is c.in-Err.ensures.fault;
-      told = c.refuse.ensures.told;
+      told = rw c.from.ensures at c.refuse.ensures.told;
     })
 
 pub returns-in-Err-clause-standing : goal.returns-in-Err-clause-standing
@@ -38,18 +39,18 @@ returns-in-Err-clause-standing g c =
 pub returns-in-Err-clause-disk_failed : goal.returns-in-Err-clause-disk_failed
 returns-in-Err-clause-disk_failed g c = λ is.
     let seven : c.refuse.result ≡ 7 = cc (is) in
-    (count_of_fault ℕ c.in-Err.fault _ _ c.in-Err.ensures.cause).0 (sym c.refuse.ensures.status ∙ seven)
+    (polling_count ℕ c.in-Err.fault _ _ c.in-Err.ensures.cause).0 (sym (c.refuse.ensures.status ∙ ap status_of c.from.ensures) ∙ seven)
 
 pub returns-in-Err-clause-disk_stood : goal.returns-in-Err-clause-disk_stood
-returns-in-Err-clause-disk_stood g c = λ other. (count_of_fault ℕ c.in-Err.fault _ _ c.in-Err.ensures.cause).1 (λ is. other (ap Err (c.refuse.ensures.status ∙ is)))
+returns-in-Err-clause-disk_stood g c = λ other. (polling_count ℕ c.in-Err.fault _ _ c.in-Err.ensures.cause).1 (λ is. other (ap Err (c.refuse.ensures.status ∙ ap status_of c.from.ensures ∙ is)))
 
 pub returns-in-Err-clause-report_failed : goal.returns-in-Err-clause-report_failed
 returns-in-Err-clause-report_failed g c = λ is.
     let nine : c.refuse.result ≡ 9 = cc (is) in
-    absurd ((some_fault c.in-Err.fault).0 (sym c.refuse.ensures.status ∙ nine))
+    absurd ((some_fault c.from.result).0 (sym c.refuse.ensures.status ∙ nine))
 
 pub returns-in-Err-clause-answers : goal.returns-in-Err-clause-answers
-returns-in-Err-clause-answers g c = subst (λ status. IsTurnStatus status) (sym c.refuse.ensures.status) (status_of_poll g.T.Tree.meaning c.at_reading-session.result c.args.tree.now _ c.in-Err.fault c.in-Err.ensures.fault)
+returns-in-Err-clause-answers g c = subst (λ status. IsTurnStatus status) (sym (c.refuse.ensures.status ∙ ap status_of c.from.ensures)) (status_of_poll c.in-Err.fault)
 
 -- ---- it came to its end
 

@@ -1,8 +1,9 @@
 use Rattle.std.proofs.Common.{◌≡◌, sym, subst}
 use Rattle.lifetimes.proofs.DiskLemmas.{leaves_crashed}
 use Rattle.lifetimes.specs.Past.{LeavesAt}
-use Rattle.mem_world.specs.CrashOutcome.{left_by, tear_of}
-use Rattle.mem_world.specs.DiskLog.{calls_of}
+use Rattle.mem_world.specs.DiskFiles.{tear_of}
+use Rattle.out_segments.specs.CrashOutcome.{left_by}
+use Rattle.mem_world.specs.DiskFiles.{calls_of}
 use Rattle.mem_world.specs.MemDisk.{history_of, seen_of}
 use Rattle.mem_world.specs.declared.disk.MemDisk.{MemDisk}
 use Rattle.lifetimes.proofs.stopping.crash.Goals as goal

@@ -1,5 +1,5 @@
 use Rattle.std.proofs.Common.{◌≡◌, ◌+◌, ◌*◌, IsTrue, arith, subst, sym, ap, ◌∙◌}
-use Rattle.outside.specs.Image.{Image, IsCut}
+use Rattle.outside.specs.Image.{Image, AtFile, IsCut}
 use Rattle.out_segments.specs.AtOutput.{AtOutput}
 use Rattle.out_segments.specs.declared.parts.PartFile.{PartFile}
 use Rattle.out_segments.specs.declared.parts.PartFile.TheVariants.{Part}
@@ -36,3 +36,9 @@ returns-clause-short g c = record {
       let at : seen c.sync_part.new.parts (Part c.args.place) ≡ seen c.cut_part.new.parts (Part c.args.place) = ap (λ (i : Image PartFile). i (Part c.args.place)) c.sync_part.ensures.only_read.seen in
       short_cut c.args.size c.args.inside (seen c.args.parts.now (Part c.args.place)) (seen c.cut_part.new.parts (Part c.args.place)) (image (Part c.args.place)) c.requires.inside (c.in_ok-cut_part.ensures.cut told).here (same ∙ at);
 }
+
+pub returns-clause-others : goal.returns-clause-others
+returns-clause-others g c told =
+    let seen = g.P.Parts.meaning.images.seen in
+    let Q : Image PartFile → Type 0 = λ image. AtFile (Part c.args.place) (IsCut c.args.inside) (seen c.args.parts.now) image in
+    subst Q (sym c.sync_part.ensures.only_read.seen) (c.in_ok-cut_part.ensures.cut told)

@@ -1,5 +1,5 @@
-use Rattle.std.proofs.Common.{◌-◌, ◌≡◌, ◌≤◌}
-use Rattle.out_segments.specs.AtOutput.{AtOutput, IsKept, IsShort, EachLeft}
+use Rattle.std.proofs.Common.{◌-◌, ◌≡◌, ◌≤◌, IsTrue}
+use Rattle.out_segments.specs.AtOutput.{AtOutput, IsKept, IsShort, EachLeft, EmptiedTo}
 use Rattle.out_segments.specs.Keeping.{Changes}
 use Rattle.out_segments.proofs.cutting.cut_later.Given as goal
 
@@ -9,6 +9,7 @@ invariant-loop-number g l =
     record {
       behind : l.place ≤ l.number;
       changes : Changes meaning (AtOutput l.size l.place IsKept) l.fn.parts l.parts;
+      emptied : IsTrue (meaning.images.tells l.fn.parts) → EmptiedTo l.place l.number (meaning.images.seen l.fn.parts) (meaning.images.seen l.parts);
       short : EachLeft meaning.images l.parts (IsShort l.size l.place);
       cause : meaning.faults l.parts ≡ meaning.faults l.fn.parts;
     }

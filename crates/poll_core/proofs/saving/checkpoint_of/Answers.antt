@@ -1,4 +1,4 @@
-use Rattle.poll_core.proofs.TakenLemmas.{take_next}
+use Rattle.part_closing.proofs.ClosingLemmas.{take_next}
 use Rattle.poll_core.proofs.saving.checkpoint_of.Goals as goal
 
 pub loop-place-preserved : goal.loop-place-preserved

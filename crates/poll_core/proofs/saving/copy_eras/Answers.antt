@@ -1,7 +1,7 @@
 use Rattle.std.proofs.Common.{◌≡◌, ℕ, List, Some, length, refl, subst}
 use Rattle.std.proofs.lemmas.Option.{slice_get_read}
 use Rattle.std.specs.Prelude.{slice_get}
-use Rattle.poll_core.proofs.TakenLemmas.{take_next}
+use Rattle.part_closing.proofs.ClosingLemmas.{take_next}
 use Rattle.poll_core.proofs.saving.copy_eras.Goals as goal
 
 pub loop-text-preserved : goal.loop-text-preserved

@@ -15,4 +15,4 @@ returns c =
     let one = value.Text c.in_ok-value.value in
     sym (seen_put c.insert.new.self.entries old c.in_ok-key.key one c.in_ok-insert.ensures.entries)
     ∙ ap (λ (name : List ℕ). insert_entry (slice_cmp nat_cmp) (seen old) name (datum one)) c.in_ok-key.ensures
-    ∙ ap (λ (d : Datum). insert_entry (slice_cmp nat_cmp) (seen old) c.args.name.now d) (datum_text c.in_ok-value.value ∙ ap text (c.in_ok-value.ensures ∙ c.in_ok-from_utf8_lossy.ensures.lossy))
+    ∙ ap (λ (d : Datum). insert_entry (slice_cmp nat_cmp) (seen old) c.args.name.now d) (datum_text c.in_ok-value.value ∙ ap text c.in_ok-value.ensures)

@@ -1,8 +1,8 @@
-use Rattle.mem_world.proofs.CrashTearing.{nothing_left, all_left}
+use Rattle.mem_world.specs.DiskFiles.{own_file}
 use Rattle.mem_world.proofs.disk.MemDisk.outcomes_leave_nothing_or_all.Goals as goal
 
 pub returns-clause-nothing : goal.returns-clause-nothing
-returns-clause-nothing c = λ file log. nothing_left 0 file log
+returns-clause-nothing c = λ file log. c.outcomes_leave_nothing_or_all.ensures.nothing (own_file file) log
 
 pub returns-clause-all : goal.returns-clause-all
-returns-clause-all c = λ file log. all_left 0 file log
+returns-clause-all c = λ file log. c.outcomes_leave_nothing_or_all.ensures.all (own_file file) log

@@ -1,9 +1,11 @@
-use Rattle.std.proofs.Common.{◌≡◌}
-use Rattle.mem_world.proofs.DiskSteps.{put_moves}
+use Rattle.mem_world.proofs.DiskCalls.{at_own_ok, durable_own_ok, put_own}
 use Rattle.mem_world.proofs.disk.MemDisk.put.Goals as goal
 
+pub returns-clause-seen : goal.returns-clause-seen
+returns-clause-seen c = at_own_ok c.put.result c.args.file c.own_file.result _ c.args.self.now (record { parts = c.put.new.self }) c.own_file.ensures c.put.ensures.seen
+
+pub returns-clause-durable : goal.returns-clause-durable
+returns-clause-durable c = durable_own_ok c.put.result c.args.file c.own_file.result (record { parts = c.put.new.self }) c.own_file.ensures c.put.ensures.durable
+
 pub returns-clause-crash : goal.returns-clause-crash
-returns-clause-crash c =
-    let bytes = c.in_ok-bytes.bytes in
-    let same : bytes.items ≡ c.args.bytes.now = c.in_ok-bytes.ensures.items_if_clones_equal (λ x y e. e) in
-    put_moves c.args.file bytes c.args.bytes.now c.record.result c.args.self.now _ same c.record.ensures.ok
+returns-clause-crash c = put_own c.put.result c.args.file c.own_file.result c.args.bytes.now c.args.self.now (record { parts = c.put.new.self }) c.own_file.ensures c.put.ensures.puts

@@ -1,6 +1,7 @@
 use Rattle.std.proofs.Common.{arith, ◌/◌, refl, sym, ◌∙◌}
 use Rattle.std.proofs.lemmas.Result.{on_ok_weaker}
 use Rattle.out_segments.proofs.Settling.{settled_fewer, settled_changes}
+use Rattle.out_segments.proofs.Keeps.{lengths_output, lengths_whole}
 use Rattle.out_segments.proofs.Segments.{passes_joined, whole_at, output_at}
 use Rattle.out_segments.proofs.segmented.SegmentedDisk.cut.Goals as goal
 
@@ -25,3 +26,15 @@ invariant_of-self g c =
       sized = c.args.self.now.sized;
       known = settled_changes size less (c.args.length / size) (omega (arith, c.settled_before-self.ensures)) (g.met.P.Parts.told c.cut_output.new.parts) known c.cut_output.ensures.changes;
     }
+
+pub returns-in-None-clause-lengths : goal.returns-in-None-clause-lengths
+returns-in-None-clause-lengths g c = lengths_output c.args.self.now.size c.cut_output.ensures.changes.crash
+
+pub returns-in-Some-clause-lengths : goal.returns-in-Some-clause-lengths
+returns-in-Some-clause-lengths g c = lengths_whole c.args.self.now.size c.args.file c.in-Some.file (sym c.whole_file.ensures ∙ c.in-Some.is) c.cut.ensures.crash
+
+pub returns-in-None-clause-emptied : goal.returns-in-None-clause-emptied
+returns-in-None-clause-emptied g c = on_ok_weaker c.cut_output.result (λ emptied whole told. emptied told) c.cut_output.ensures.emptied
+
+pub returns-in-Some-clause-emptied : goal.returns-in-Some-clause-emptied
+returns-in-Some-clause-emptied g c = on_ok_weaker c.cut.result (λ _ whole. absurd (let is = sym whole ∙ sym c.whole_file.ensures ∙ c.in-Some.is in cc)) c.cut.ensures.cut

@@ -1,6 +1,7 @@
 use Rattle.std.proofs.Common.{arith, ◌/◌, refl, sym, ◌∙◌}
 use Rattle.std.proofs.lemmas.Result.{on_ok_weaker}
 use Rattle.out_segments.proofs.Settling.{settled_fewer, settled_changes}
+use Rattle.out_segments.proofs.Keeps.{lengths_output, lengths_whole}
 use Rattle.out_segments.proofs.Segments.{passes_joined, whole_at, output_at}
 use Rattle.out_segments.proofs.segmented.SegmentedDisk.write_at.Goals as goal
 
@@ -25,3 +26,9 @@ invariant_of-self g c =
       sized = c.args.self.now.sized;
       known = settled_changes size less (c.args.offset / size) (omega (arith, c.settled_before-self.ensures)) (g.met.P.Parts.told c.write_output.new.parts) known c.write_output.ensures.changes;
     }
+
+pub returns-in-None-clause-lengths : goal.returns-in-None-clause-lengths
+returns-in-None-clause-lengths g c = lengths_output c.args.self.now.size c.write_output.ensures.changes.crash
+
+pub returns-in-Some-clause-lengths : goal.returns-in-Some-clause-lengths
+returns-in-Some-clause-lengths g c = lengths_whole c.args.self.now.size c.args.file c.in-Some.file (sym c.whole_file.ensures ∙ c.in-Some.is) c.write_at.ensures.crash

@@ -1,30 +1,29 @@
-use Rattle.std.proofs.Common.{◌≡◌, length, refl}
-use Rattle.mem_world.proofs.DiskSteps.{idle_moves, write_moves, write_begun, write_written, writes_by}
+use Rattle.std.proofs.Common.{◌+◌, ◌∙◌, Some, length}
+use Rattle.out_segments.proofs.MemSteps.{writes_moves}
+use Rattle.mem_world.specs.DiskFiles.{own_file}
+use Rattle.mem_world.specs.MemDisk.{written_of}
+use Rattle.mem_world.proofs.DiskCalls.{at_own, at_own_ok, disk_moves, ends_within, given_own, own_one}
 use Rattle.mem_world.proofs.disk.calls.MemDiskDisk.write_at.Goals as goal
 
-pub returns-in_default-clause-crash : goal.returns-in_default-clause-crash
-returns-in_default-clause-crash c = idle_moves c.args.file c.args.offset (length c.args.bytes.now) c.args.self.now _ refl
+pub write_at-requires-clause-begins : goal.write_at-requires-clause-begins
+write_at-requires-clause-begins c = rw c.own_file.ensures c.requires.begins
+
+pub write_at-requires-clause-ends : goal.write_at-requires-clause-ends
+write_at-requires-clause-ends c = ends_within c.args.file (c.args.offset + length c.args.bytes.now) c.requires.ends
+
+pub returns-clause-written : goal.returns-clause-written
+returns-clause-written c = at_own_ok c.write_at.result c.args.file c.own_file.result _ c.args.self.now (record { parts = c.write_at.new.self }) c.own_file.ensures c.write_at.ensures.written
+
+pub returns-clause-begun : goal.returns-clause-begun
+returns-clause-begun c = at_own c.args.file c.own_file.result c.args.self.now (record { parts = c.write_at.new.self }) c.own_file.ensures c.write_at.ensures.begun
 
 pub returns-clause-crash : goal.returns-clause-crash
 returns-clause-crash c =
-    let bytes = c.in-Ok.bytes in
-    let same : bytes.items ≡ c.args.bytes.now = c.in-Ok.ensures.items_if_clones_equal (λ x y e. e) in
-    write_moves c.args.file c.args.offset bytes c.args.bytes.now c.call.result c.args.self.now c.call.new.self same c.call.ensures.calls
+    let writes = rw c.own_file.ensures at c.write_at.ensures.calls in
+    disk_moves c.args.self.now (record { parts = c.write_at.new.self }) (writes_moves own_file own_one c.args.file c.args.offset c.args.bytes.now c.write_at.result c.args.self.now.parts c.write_at.new.self writes)
 
-pub returns-clause-begun : goal.returns-clause-begun
-returns-clause-begun c =
-    let bytes = c.in-Ok.bytes in
-    let same : bytes.items ≡ c.args.bytes.now = c.in-Ok.ensures.items_if_clones_equal (λ x y e. e) in
-    write_begun c.args.file c.args.offset bytes c.args.bytes.now c.call.result c.args.self.now c.call.new.self same c.call.ensures.calls
-
-pub returns-clause-written : goal.returns-clause-written
-returns-clause-written c =
-    let bytes = c.in-Ok.bytes in
-    let same : bytes.items ≡ c.args.bytes.now = c.in-Ok.ensures.items_if_clones_equal (λ x y e. e) in
-    write_written c.args.file c.args.offset bytes c.args.bytes.now c.call.result c.args.self.now c.call.new.self same c.requires.begins c.call.ensures.calls
+pub returns-clause-counted : goal.returns-clause-counted
+returns-clause-counted c = (rw c.own_file.ensures at c.write_at.ensures.counted) ∙ given_own c.args.file (length c.args.bytes.now) (Some (written_of c.args.self.now))
 
 pub returns-clause-calls : goal.returns-clause-calls
-returns-clause-calls c =
-    let bytes = c.in-Ok.bytes in
-    let same : bytes.items ≡ c.args.bytes.now = c.in-Ok.ensures.items_if_clones_equal (λ x y e. e) in
-    writes_by c.args.file c.args.offset bytes c.args.bytes.now c.call.result c.args.self.now c.call.new.self same c.call.ensures.calls
+returns-clause-calls c = rw c.own_file.ensures at c.write_at.ensures.calls

@@ -1,0 +1,3 @@
+pub mod CallFailures
+pub mod CallPlans
+pub mod PlansOf

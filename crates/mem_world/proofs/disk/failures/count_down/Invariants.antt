@@ -1,6 +1,0 @@
-use Rattle.std.proofs.Common.{◌≡◌, ◌++◌, take, drop}
-use Rattle.mem_world.specs.DiskFailures.{after_call}
-use Rattle.mem_world.proofs.disk.failures.count_down.Given as goal
-
-abbrev pub invariant-loop-calls : goal.invariant-loop-calls
-invariant-loop-calls l = l.ahead ≡ after_call (take l.calls-index l.initial.ahead) ++ drop l.calls-index l.initial.ahead

@@ -1,5 +1,0 @@
-use Rattle.mem_world.proofs.CrashTearing.{Tears}
-use Rattle.mem_world.proofs.disk.store.Store.left.Given as goal
-
-abbrev pub invariant-loop-entry : goal.invariant-loop-entry
-invariant-loop-entry l = Tears l.tear l.file l.self.log.items l.entry-index l.shown.items l.left.items

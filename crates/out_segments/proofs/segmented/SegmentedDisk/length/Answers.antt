@@ -1,0 +1,8 @@
+use Rattle.out_segments.proofs.Keeps.{lengths_read}
+use Rattle.out_segments.proofs.segmented.SegmentedDisk.length.Goals as goal
+
+pub returns-in-None-clause-lengths : goal.returns-in-None-clause-lengths
+returns-in-None-clause-lengths g c = lengths_read c.args.self.now.size c.output_length.ensures.only_read.crash
+
+pub returns-in-Some-clause-lengths : goal.returns-in-Some-clause-lengths
+returns-in-Some-clause-lengths g c = lengths_read c.args.self.now.size c.length.ensures.crash

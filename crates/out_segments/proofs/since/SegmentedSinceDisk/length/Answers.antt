@@ -1,0 +1,26 @@
+use Rattle.out_segments.proofs.Keeps.{passes_segments, since_more}
+use Rattle.out_segments.proofs.since.SegmentedSinceDisk.length.Goals as goal
+
+pub returns-clause-length : goal.returns-clause-length
+returns-clause-length g c = rw (← c.self.view_is) c.length.ensures.length
+
+pub returns-clause-seen : goal.returns-clause-seen
+returns-clause-seen g c = rw (← c.self.view_is) c.length.ensures.seen
+
+pub returns-clause-tells : goal.returns-clause-tells
+returns-clause-tells g c = rw (← c.self.view_is) c.length.ensures.tells
+
+pub returns-clause-cause : goal.returns-clause-cause
+returns-clause-cause g c = rw (← c.self.view_is) c.length.ensures.cause
+
+pub returns-clause-bound : goal.returns-clause-bound
+returns-clause-bound g c = rw (← c.self.view_is) c.length.ensures.bound
+
+pub returns-clause-counted : goal.returns-clause-counted
+returns-clause-counted g c = rw (← c.self.view_is) c.length.ensures.counted
+
+pub returns-clause-crash : goal.returns-clause-crash
+returns-clause-crash g c = rw (← c.self.view_is) (passes_segments g.P.Parts.meaning.images c.self.inside.disk c.length.new.self c.length.ensures.crash)
+
+pub invariant_of-self : goal.invariant_of-self
+invariant_of-self g c = since_more g.P.Parts.meaning.images c.self.inside.disk c.length.new.self g.met.P.Parts.counts_now c.length.ensures.size c.length.ensures.lengths c.self.invariant
