@@ -29,4 +29,4 @@ module _ {T D K C : Type 0} (meanings : Meanings T D K C) (begun : Moment T D K 
 -- the same, whenever the command began
 abbrev pub LeadsFrom : {T D K C : Type 0} → Meanings T D K C → Session → Option (List ℕ) → Moment T D K C → ℕ → ℕ → Session → Option (List ℕ) → Moment T D K C → Type 0
 LeadsFrom {T} {D} {K} {C} meanings first begin old number left session rest now =
-    (begun : Moment T D K C) → KeepsFrom meanings (rules_of_session first).front_size begun old → Leads meanings begun first begin old number left session rest now
+    (begun : Moment T D K C) → KeepsFrom meanings (rules_of_session first) begun old → Leads meanings begun first begin old number left session rest now

@@ -14,8 +14,10 @@ use Rattle.outside.specs.TreeMeaning.{TreeMeaning}
 use Rattle.outside.specs.DiskMeaning.{DiskMeaning}
 use Rattle.outside.specs.declared.disk.DiskFile.{DiskFile}
 use Rattle.outside.specs.declared.disk.DiskFile.TheVariants.{Output}
-use Rattle.poll_core.proofs.ImageLemmas.{found_kept, kept_stays, one_sequence, sequence_kept, sound_still}
-use Rattle.poll_core.proofs.SafeLemmas.{gains_kept, stays_kept, steps_sound, stays_sound}
+use Rattle.poll_core.proofs.ImageLemmas.{found_kept, kept_stays, one_sequence, sequence_kept}
+use Rattle.poll_core.proofs.RuleLemmas.{OneSet}
+use Rattle.poll_core.proofs.SafeLemmas.{gains_kept, stays_kept}
+use Rattle.poll_core.proofs.SoundLemmas.{gains_sound, image_still, stays_sound}
 use Rattle.poll_core.specs.Found.{IsFound}
 use Rattle.poll_core.specs.IsSession.{IsSession}
 use Rattle.poll_core.specs.Next.{sequence_after}
@@ -85,13 +87,7 @@ reopens_grows old new reopens = record {
     more = [];
     longer = kept_stays old new there reopens found ∙ sym (append-nil (kept there (old Output)));
   };
-  sound = λ sound. record {
-    there = sound.there;
-    found = found_kept reopens.logs sound.there sound.found;
-    eras = sound.eras;
-    last = sound.last;
-    sound = sound_still sound.eras old new sound.there reopens sound.found sound.sound;
-  };
+  sound = image_still old new reopens;
   sequence = λ number has. record { after = number; has = sequence_kept reopens.logs number has; no_lower = omega arith; within = omega arith };
 }
 
@@ -121,7 +117,7 @@ memory_found : (journal : Option Journal) (saved : Checkpoint) (image : Image Di
 memory_found None saved image memory = (nothing, memory.0)
 memory_found (Some journal) saved image memory = (found saved, (journal, memory))
 
-module _ (session : Session) (old new : Image DiskFile) (is : IsSession session) (left : IsLeftBy session old) where
+module _ (one_set : OneSet) (session : Session) (old new : Image DiskFile) (is : IsSession session) (left : IsLeftBy session old) where
   had : (number : ℕ) → HasSequence old number → number ≡ number_of (journal_of_session session)
   had number has = one_sequence old number (number_of (journal_of_session session)) has (ending_number (journal_of_session session) (checkpoint_of_session session) old left.memory)
 
@@ -136,7 +132,7 @@ module _ (session : Session) (old new : Image DiskFile) (is : IsSession session)
           more = [];
           longer = stays_kept session old new there after.0 left stays has after.1 ∙ sym (append-nil (kept there (old Output)));
         };
-        sound = λ _. stays_sound session old new is left stays;
+        sound = λ sound. stays_sound one_set session old new is left sound stays;
         sequence = λ number has. record {
           after = number_of (journal_of_session session);
           has = memory_number (journal_of_session session) (checkpoint_of_session session) new stays.memory;
@@ -157,7 +153,7 @@ module _ (session : Session) (old new : Image DiskFile) (is : IsSession session)
           more = lines_text added;
           longer = gains_kept session next added old new there after comes left gains has is_found;
         };
-        sound = λ _. steps_sound session next added old new is comes left (inr gains);
+        sound = λ sound. gains_sound one_set session old new is left sound next added comes gains;
         sequence = λ number has. record {
           after = gains.memory.0.sequence;
           has = journal_number gains.memory.0 next new gains.memory.1;
@@ -197,10 +193,10 @@ module _ {D : Type 0} {images : Images DiskFile D} where
   opened_grows most old mid new opens grows = subst (λ (n : ℕ). Passes images (GrowsBy n) old new) (omega arith) (passes_grow_then 0 most old mid new (opening_grows old mid opens) grows)
 
 -- whatever a poll answers
-pub poll_grows : {T D : Type 0} (trees : TreeMeaning T) (disks : DiskMeaning D) (session : Session) (tree tree_after : T) (disk disk_after : D) → IsSession session → StandsOn disks.images session disk
+pub poll_grows : {T D : Type 0} (one_set : OneSet) (trees : TreeMeaning T) (disks : DiskMeaning D) (session : Session) (tree tree_after : T) (disk disk_after : D) → IsSession session → StandsOn disks.images session disk
     → Passes disks.images (Stays session) disk disk_after ⊎ MayGain trees disks session tree tree_after disk disk_after
     → Passes disks.images (GrowsBy 1) disk disk_after
-poll_grows trees disks session tree tree_after disk disk_after is stands answered = elim answered [
-  | inl stays ↦ passes_by stays (λ x y left step. grows_more 0 1 x y (omega arith) (stays_grows session x y is (stands.each.each x left) step))
-  | inr gains ↦ passes_by gains.crash (λ x y left step. steps_grows session x y is (stands.each.each x left) gains.after gains.added gains.comes step)
+poll_grows one_set trees disks session tree tree_after disk disk_after is stands answered = elim answered [
+  | inl stays ↦ passes_by stays (λ x y left step. grows_more 0 1 x y (omega arith) (stays_grows one_set session x y is (stands.each.each x left) step))
+  | inr gains ↦ passes_by gains.crash (λ x y left step. steps_grows one_set session x y is (stands.each.each x left) gains.after gains.added gains.comes step)
 ]

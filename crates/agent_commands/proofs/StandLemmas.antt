@@ -30,7 +30,7 @@ use Rattle.standing.specs.Eras.{Eras}
 use Rattle.standing.specs.Look.{Look, size}
 use Rattle.standing.specs.Marks.{Mark}
 use Rattle.standing.specs.Moments.{IsLater, IsNamed, KeepsNames}
-use Rattle.standing.specs.Rules.{Includes}
+use Rattle.standing.specs.Rules.{Includes, Rules}
 use Rattle.standing.specs.Stands.{Stands}
 use Rattle.standing.specs.Sums.{IsReached}
 use Rattle.standing.specs.Times.{AreBefore}
@@ -73,27 +73,27 @@ module _ {D : Type 0} (images : Images DiskFile D) where
 
   -- ---- polls, one after another
 
-  pub stands_then : (front_size : ℕ) (old mid new : D) (before between after : World) → GoesLater between after → images.moment old ≤ images.moment mid
-      → KeepsStandingSince images front_size old mid before between → KeepsStandingSince images front_size mid new between after → KeepsStandingSince images front_size old new before after
-  stands_then front_size old mid new before between after goes later a b apart from early stood =
-      b apart from (omega (arith, early, later)) (a (apart_before front_size between.history after.history goes apart) from early stood)
+  pub stands_then : (rules : Rules) (old mid new : D) (before between after : World) → GoesLater between after → images.moment old ≤ images.moment mid
+      → KeepsStandingSince images rules old mid before between → KeepsStandingSince images rules mid new between after → KeepsStandingSince images rules old new before after
+  stands_then rules old mid new before between after goes later a b never apart from early stood =
+      b never apart from (omega (arith, early, later)) (a never (apart_before rules.front_size between.history after.history goes apart) from early stood)
 
-  pub told_stands_then : (front_size : ℕ) (old mid new : D) (before between after : Option World) → Told GoesLater between after → images.moment old ≤ images.moment mid
-      → Told (KeepsStandingSince images front_size old mid) before between → Told (KeepsStandingSince images front_size mid new) between after → Told (KeepsStandingSince images front_size old new) before after
-  told_stands_then front_size old mid new None None None goes later a b = tt
-  told_stands_then front_size old mid new None None (Some z) goes later a b = b
-  told_stands_then front_size old mid new None (Some y) after goes later a b = absurd a
-  told_stands_then front_size old mid new (Some x) None after goes later a b = absurd a
-  told_stands_then front_size old mid new (Some x) (Some y) None goes later a b = b
-  told_stands_then front_size old mid new (Some x) (Some y) (Some z) goes later a b = stands_then front_size old mid new x y z goes later a b
+  pub told_stands_then : (rules : Rules) (old mid new : D) (before between after : Option World) → Told GoesLater between after → images.moment old ≤ images.moment mid
+      → Told (KeepsStandingSince images rules old mid) before between → Told (KeepsStandingSince images rules mid new) between after → Told (KeepsStandingSince images rules old new) before after
+  told_stands_then rules old mid new None None None goes later a b = tt
+  told_stands_then rules old mid new None None (Some z) goes later a b = b
+  told_stands_then rules old mid new None (Some y) after goes later a b = absurd a
+  told_stands_then rules old mid new (Some x) None after goes later a b = absurd a
+  told_stands_then rules old mid new (Some x) (Some y) None goes later a b = b
+  told_stands_then rules old mid new (Some x) (Some y) (Some z) goes later a b = stands_then rules old mid new x y z goes later a b
 
-  pub told_stands_none : (front_size : ℕ) (disk : D) (now : Option World) → Told (KeepsStandingSince images front_size disk disk) now now
-  told_stands_none front_size disk None = tt
-  told_stands_none front_size disk (Some world) = λ apart from early stood. stood
+  pub told_stands_none : (rules : Rules) (disk : D) (now : Option World) → Told (KeepsStandingSince images rules disk disk) now now
+  told_stands_none rules disk None = tt
+  told_stands_none rules disk (Some world) = λ never apart from early stood. stood
 
-  pub told_reopened : (front_size : ℕ) (old new : D) (now : Option World) → CountsNow old → Passes images Reopens old new → Told (KeepsStandingSince images front_size old new) now now
-  told_reopened front_size old new None counts passes = tt
-  told_reopened front_size old new (Some x) counts passes = λ apart from early stood. all_reopened x.history old new counts passes from early stood
+  pub told_reopened : (rules : Rules) (old new : D) (now : Option World) → CountsNow old → Passes images Reopens old new → Told (KeepsStandingSince images rules old new) now now
+  told_reopened rules old new None counts passes = tt
+  told_reopened rules old new (Some x) counts passes = λ never apart from early stood. all_reopened x.history old new counts passes from early stood
 
   -- ---- a command
 
@@ -104,27 +104,28 @@ module _ {D : Type 0} (images : Images DiskFile D) where
 
   -- a session was opened, and what it did keeps what stood
   pub opened_stands : (session : Session) (old mid new : D) (before after : Option World) → CountsNow old → Opens images session old mid → Passes images Reopens old mid
-      → Told (KeepsStandingSince images (rules_of_session session).front_size mid new) before after → Told (KeepsStanding images old new) before after
+      → Told (KeepsStandingSince images (rules_of_session session) mid new) before after → Told (KeepsStanding images old new) before after
   opened_stands session old mid new None None counts opens passes keeps = tt
   opened_stands session old mid new None (Some y) counts opens passes keeps = keeps
   opened_stands session old mid new (Some x) None counts opens passes keeps = keeps
-  opened_stands session old mid new (Some x) (Some y) counts opens passes keeps = λ tells apart from early stood.
-      keeps (apart (rules_of_session session) (opened_rules session old mid opens tells)) from (omega (arith, early, passes.later)) (all_reopened x.history old mid counts passes from early stood)
+  opened_stands session old mid new (Some x) (Some y) counts opens passes keeps = λ tells never apart from early stood.
+      let own = opened_rules session old mid opens tells in
+      keeps (never (rules_of_session session) own) (apart (rules_of_session session) own) from (omega (arith, early, passes.later)) (all_reopened x.history old mid counts passes from early stood)
 
   -- no session was opened
   pub closed_stands : (old new : D) (now : Option World) → CountsNow old → Passes images Reopens old new → Told (KeepsStanding images old new) now now
   closed_stands old new None counts passes = tt
-  closed_stands old new (Some x) counts passes = λ tells apart from early stood. all_reopened x.history old new counts passes from early stood
+  closed_stands old new (Some x) counts passes = λ tells never apart from early stood. all_reopened x.history old new counts passes from early stood
 
   -- nothing was written
   pub same_stands : (old new : D) (now : Option World) → CountsNow old → Passes images Same old new → Told (KeepsStanding images old new) now now
   same_stands old new None counts passes = tt
-  same_stands old new (Some x) counts passes = λ tells apart from early stood. all_same x.history old new counts passes from early stood
+  same_stands old new (Some x) counts passes = λ tells never apart from early stood. all_same x.history old new counts passes from early stood
 
   -- whatever the history is, what stood stands
   pub all_stands : (old new : D) (now : Option World) → ((history : History) → KeepsStandingIn images history old new) → Told (KeepsStanding images old new) now now
   all_stands old new None keeps = tt
-  all_stands old new (Some x) keeps = λ tells apart from early stood. keeps x.history from early stood
+  all_stands old new (Some x) keeps = λ tells never apart from early stood. keeps x.history from early stood
 
 -- ---- complete polls
 
@@ -132,7 +133,7 @@ module _ {D : Type 0} (images : Images DiskFile D) where
 abbrev pub ReachesAll : Type 0
 ReachesAll = (session : Session) (next : Checkpoint) (added : List Mark) (summary : Summary) (counts counts_after : TreeCounts)
     (old new : World) (summed : IsSummed session next added summary counts counts_after old new)
-    → TellsAll summary → (output path : List ℕ) (file : ℕ) (eras : Eras) → IsSession session
+    → TellsAll summary → (rules_of_session session).flush_after ≡ 0 → (output path : List ℕ) (file : ℕ) (eras : Eras) → IsSession session
     → AreErasOf session.eras eras
     → IsLater old.history new.history → Apart (rules_of_session session).front_size new.history
     → IsLawful new.history → KeepsNames old.history new.history
@@ -170,7 +171,7 @@ module _ {D : Type 0} (images : Images DiskFile D) (shown : (disk : D) → IsTru
       → HoldsAll session after summary (StoodSince images old.history disk disk) old new
   holds_all after summary disk old new stands added counts counts_after summed complete stood path file included named =
       let before = stood_rows images shown session own disk old.history stands stood in
-      let found = law session after added summary counts counts_after old new summed complete.tells_all before.output path file before.eras is before.are complete.later complete.apart complete.lawful complete.names_kept before.stands (before_poll session is before.stands.marks before.times) included named in
+      let found = law session after added summary counts counts_after old new summed complete.tells_all complete.never before.output path file before.eras is before.are complete.later complete.apart complete.lawful complete.names_kept before.stands (before_poll session is before.stands.marks before.times) included named in
       record { here = found.0; looked = found.1; file_is = found.2; eras = before.eras; are = before.are; reached = found.3 }
 
   pub told_holds_all : (after : Checkpoint) (summary : Summary) (disk : D) (old new : Option World) → StandsOn images session disk → Told GoesLater old new
@@ -183,12 +184,12 @@ module _ {D : Type 0} (images : Images DiskFile D) (shown : (disk : D) → IsTru
 
 module _ {D : Type 0} (images : Images DiskFile D) (only_now : (disk : D) (image : Image DiskFile) → images.left_since disk (images.moment disk) image → images.may_leave disk image) (counts : (disk : D) → CountsNow images disk) where
   -- what stood at the begin stands now
-  stood_now : (front_size : ℕ) (begun now : D) (first old new : World) → images.moment begun ≤ images.moment now → KeepsStandingSince images front_size begun now first old → IsLater old.history new.history → Apart front_size new.history
+  stood_now : (rules : Rules) (begun now : D) (first old new : World) → images.moment begun ≤ images.moment now → KeepsStandingSince images rules begun now first old → rules.flush_after ≡ 0 → IsLater old.history new.history → Apart rules.front_size new.history
       → StoodSince images first.history begun now → StoodSince images old.history now now
-  stood_now front_size begun now first old new later keeps goes apart stood = record {
+  stood_now rules begun now first old new later keeps never goes apart stood = record {
     each = record {
       each = λ image left.
-          keeps (apart_before front_size old.history new.history goes apart) (images.moment begun) (omega arith) (λ one since. stood.each.each one (only_now begun one since))
+          keeps never (apart_before rules.front_size old.history new.history goes apart) (images.moment begun) (omega arith) (λ one since. stood.each.each one (only_now begun one since))
           image (counts now (images.moment begun) image later left);
     };
     tells = stood.tells;
@@ -196,35 +197,35 @@ module _ {D : Type 0} (images : Images DiskFile D) (only_now : (disk : D) (image
 
   -- what a poll holds where the images stood at its begin, it holds where they stood when the command began
   pub holds_since : (session : Session) (after : Checkpoint) (summary : Summary) (begun now : D) (first : World) (earlier old new : Option World) → images.moment begun ≤ images.moment now
-      → Told (KeepsStandingSince images (rules_of_session session).front_size begun now) earlier old → earlier ≡ Some first → Told GoesLater old new
+      → Told (KeepsStandingSince images (rules_of_session session) begun now) earlier old → earlier ≡ Some first → Told GoesLater old new
       → ((own : World) → old ≡ Some own → Told (HoldsAll session after summary (StoodSince images own.history now now)) old new)
       → Told (HoldsAll session after summary (StoodSince images first.history begun now)) old new
   holds_since session after summary begun now first earlier None None later keeps is goes own = tt
   holds_since session after summary begun now first earlier None (Some y) later keeps is goes own = goes
   holds_since session after summary begun now first earlier (Some x) None later keeps is goes own = goes
   holds_since session after summary begun now first earlier (Some x) (Some y) later keeps is goes own = λ added count count_after summed complete stood.
-      let front_size : ℕ = (rules_of_session session).front_size in
-      let kept : KeepsStandingSince images front_size begun now first x = subst (λ (world : Option World). Told (KeepsStandingSince images front_size begun now) world (Some x)) is keeps in
-      own x refl added count count_after summed complete (stood_now front_size begun now first x y later kept complete.later complete.apart stood)
+      let rules : Rules = rules_of_session session in
+      let kept : KeepsStandingSince images rules begun now first x = subst (λ (world : Option World). Told (KeepsStandingSince images rules begun now) world (Some x)) is keeps in
+      own x refl added count count_after summed complete (stood_now rules begun now first x y later kept complete.never complete.later complete.apart stood)
 
 -- ---- from the command's begin on
 
 module _ {T D K C : Type 0} (meanings : Meanings T D K C) where
-  pub keeps_none : (front_size : ℕ) (now : Moment T D K C) → KeepsFrom meanings front_size now now
-  keeps_none front_size now = record { later = omega arith; goes = told_later_same (meanings.trees.world now.tree); standing = told_stands_none meanings.disks.images front_size now.disk (meanings.trees.world now.tree) }
+  pub keeps_none : (rules : Rules) (now : Moment T D K C) → KeepsFrom meanings rules now now
+  keeps_none rules now = record { later = omega arith; goes = told_later_same (meanings.trees.world now.tree); standing = told_stands_none meanings.disks.images rules now.disk (meanings.trees.world now.tree) }
 
-  pub keeps_then : (front_size : ℕ) (begun mid now : Moment T D K C) → KeepsFrom meanings front_size begun mid → KeepsFrom meanings front_size mid now → KeepsFrom meanings front_size begun now
-  keeps_then front_size begun mid now a b = record {
+  pub keeps_then : (rules : Rules) (begun mid now : Moment T D K C) → KeepsFrom meanings rules begun mid → KeepsFrom meanings rules mid now → KeepsFrom meanings rules begun now
+  keeps_then rules begun mid now a b = record {
     later = omega (arith, a.later, b.later);
     goes = told_later_then (meanings.trees.world begun.tree) (meanings.trees.world mid.tree) (meanings.trees.world now.tree) a.goes b.goes;
-    standing = told_stands_then meanings.disks.images front_size begun.disk mid.disk now.disk (meanings.trees.world begun.tree) (meanings.trees.world mid.tree) (meanings.trees.world now.tree) b.goes a.later a.standing b.standing;
+    standing = told_stands_then meanings.disks.images rules begun.disk mid.disk now.disk (meanings.trees.world begun.tree) (meanings.trees.world mid.tree) (meanings.trees.world now.tree) b.goes a.later a.standing b.standing;
   }
 
   -- a session was opened, and no file was looked at
-  pub keeps_opened : (front_size : ℕ) (tree : T) (old mid : D) (report : K) (clock : C) → CountsNow meanings.disks.images old → Passes meanings.disks.images Reopens old mid
-      → KeepsFrom meanings front_size (moment tree old report clock) (moment tree mid report clock)
-  keeps_opened front_size tree old mid report clock counts passes = record {
+  pub keeps_opened : (rules : Rules) (tree : T) (old mid : D) (report : K) (clock : C) → CountsNow meanings.disks.images old → Passes meanings.disks.images Reopens old mid
+      → KeepsFrom meanings rules (moment tree old report clock) (moment tree mid report clock)
+  keeps_opened rules tree old mid report clock counts passes = record {
     later = passes.later;
     goes = told_later_same (meanings.trees.world tree);
-    standing = told_reopened meanings.disks.images front_size old mid (meanings.trees.world tree) counts passes;
+    standing = told_reopened meanings.disks.images rules old mid (meanings.trees.world tree) counts passes;
   }

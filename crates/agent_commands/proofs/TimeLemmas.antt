@@ -22,10 +22,10 @@ module _ {D : Type 0} (images : Images DiskFile D) (session at : Session) (now :
   same_rules : rules_of_session at ≡ rules_of_session session
   same_rules = subst (λ (s : Session). rules_of_session s ≡ rules_of_session session) (sym is) refl
 
-  pub keeps_at : (begun disk : D) (old new : Option World) → Told (KeepsStandingSince images (rules_of_session session).front_size begun disk) old new
-      → Told (KeepsStandingSince images (rules_of_session at).front_size begun disk) old new
-  keeps_at begun disk old new = subst (λ (r : Rules). Told (KeepsStandingSince images r.front_size begun disk) old new) (sym same_rules)
+  pub keeps_at : (begun disk : D) (old new : Option World) → Told (KeepsStandingSince images (rules_of_session session) begun disk) old new
+      → Told (KeepsStandingSince images (rules_of_session at) begun disk) old new
+  keeps_at begun disk old new = subst (λ (r : Rules). Told (KeepsStandingSince images r begun disk) old new) (sym same_rules)
 
-  pub kept_at : (begun disk : D) (old new : Option World) → Told (KeepsStandingSince images (rules_of_session at).front_size begun disk) old new
-      → Told (KeepsStandingSince images (rules_of_session session).front_size begun disk) old new
-  kept_at begun disk old new = subst (λ (r : Rules). Told (KeepsStandingSince images r.front_size begun disk) old new) same_rules
+  pub kept_at : (begun disk : D) (old new : Option World) → Told (KeepsStandingSince images (rules_of_session at) begun disk) old new
+      → Told (KeepsStandingSince images (rules_of_session session) begun disk) old new
+  kept_at begun disk old new = subst (λ (r : Rules). Told (KeepsStandingSince images r begun disk) old new) same_rules

@@ -4,8 +4,8 @@ use Rattle.outside.specs.Image.{Image}
 use Rattle.outside.specs.declared.disk.DiskFile.{DiskFile}
 use Rattle.outside.specs.declared.disk.DiskFile.TheVariants.{Settings, Output}
 use Rattle.poll_core.specs.Found.{IsFound}
-use Rattle.poll_core.specs.Polled.{IsSoundImage}
 use Rattle.poll_core.specs.Sequence.{HasSequence}
+use Rattle.poll_core.specs.Sound.{IsSoundImage}
 use Rattle.standing.specs.Standing.{Found, kept}
 
 -- what is found there keeps all that was kept of the output, with more behind it

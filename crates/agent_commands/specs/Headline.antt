@@ -31,23 +31,28 @@ use Rattle.agent_commands.specs.Moment.{Moment, Meanings}
 abbrev pub AreApartBySettings : Image DiskFile → History → Type 0
 AreApartBySettings image history = (rules : Rules) → HasRules (image Settings) rules → Apart rules.front_size history
 
+-- the settings file asks for no flush of what waits; where no settings can be read of it, this is no condition
+abbrev pub FlushesNothing : Image DiskFile → Type 0
+FlushesNothing image = (rules : Rules) → HasRules (image Settings) rules → rules.flush_after ≡ 0
+
 -- Where each image that a crash may have left since some moment stood at the begin, each that it may have left since then stands
 -- at the end, whatever settings were in force, and whether or not the settings file has the last of them.
 abbrev pub KeepsStanding : {D : Type 0} → Images DiskFile D → D → D → World → World → Type 0
 KeepsStanding {D} images disk disk_after old new =
-    IsTrue (images.tells disk) → AreApartBySettings (images.seen disk) new.history → (from : ℕ) → from ≤ images.moment disk
+    IsTrue (images.tells disk) → FlushesNothing (images.seen disk) → AreApartBySettings (images.seen disk) new.history → (from : ℕ) → from ≤ images.moment disk
     → ((image : Image DiskFile) → images.left_since disk from image → IsStanding old.history image)
     → (image : Image DiskFile) → images.left_since disk_after from image → IsStanding new.history image
 
--- What stood at the first moment stands at the second, where files are known by so many bytes.
-pub record KeepsFrom {T D K C : Type 0} (meanings : Meanings T D K C) (front_size : ℕ) (begun now : Moment T D K C) : Type 0 where
+-- What stood at the first moment stands at the second, by the settings with these rules.
+pub record KeepsFrom {T D K C : Type 0} (meanings : Meanings T D K C) (rules : Rules) (begun now : Moment T D K C) : Type 0 where
   pub later : meanings.disks.images.moment begun.disk ≤ meanings.disks.images.moment now.disk
   pub goes : Told GoesLater (meanings.trees.world begun.tree) (meanings.trees.world now.tree)
-  pub standing : Told (KeepsStandingSince meanings.disks.images front_size begun.disk now.disk) (meanings.trees.world begun.tree) (meanings.trees.world now.tree)
+  pub standing : Told (KeepsStandingSince meanings.disks.images rules begun.disk now.disk) (meanings.trees.world begun.tree) (meanings.trees.world now.tree)
 
--- No file was left unread or passed over, and no name was given or taken.
+-- No file was left unread or passed over, no name was given or taken, and nothing that waits is flushed.
 pub record IsComplete (session : Session) (summary : Summary) (old new : World) : Type 0 where
   pub tells_all : TellsAll summary
+  pub never : (rules_of_session session).flush_after ≡ 0
   pub lawful : IsLawful new.history
   pub later : IsLater old.history new.history
   pub apart : Apart (rules_of_session session).front_size new.history

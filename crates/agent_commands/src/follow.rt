@@ -64,9 +64,9 @@ fn serve<T: Tree, D: Disk, S: Source, K: Sink, C: Clock>(
 ) -> u8
     requires session { IsSession session }
     requires stands { StandsOn D.meaning.images session disk.old }
-    ensures served { (begun : Moment T D K C) → KeepsFrom (meanings T.meaning D.meaning K.meaning C.meaning) (rules_of_session session).front_size begun (moment tree.old disk.old report.old clock.old)
+    ensures served { (begun : Moment T D K C) → KeepsFrom (meanings T.meaning D.meaning K.meaning C.meaning) (rules_of_session session) begun (moment tree.old disk.old report.old clock.old)
         → IsServed (meanings T.meaning D.meaning K.meaning C.meaning) begun session (S.meaning.rest control.old) (S.meaning.rest control.new) (moment tree.old disk.old report.old clock.old) (moment tree.new disk.new report.new clock.new) result }
-    ensures standing { Told (KeepsStandingSince D.meaning.images (rules_of_session session).front_size disk.old disk.new) (T.meaning.world tree.old) (T.meaning.world tree.new) }
+    ensures standing { Told (KeepsStandingSince D.meaning.images (rules_of_session session) disk.old disk.new) (T.meaning.world tree.old) (T.meaning.world tree.new) }
     ensures control_failed { result ≡ 8 → Rose (S.meaning.faults control.old) (S.meaning.faults control.new) }
     ensures control_stood { result ≢ 8 → S.meaning.faults control.new ≡ S.meaning.faults control.old }
     ensures disk_failed { result ≡ 7 → Rose (D.meaning.faults disk.old) (D.meaning.faults disk.new) }

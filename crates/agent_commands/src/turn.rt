@@ -36,11 +36,11 @@ pub fn turn<T: Tree, D: Disk, K: Sink, C: Clock>(
     requires session { IsSession session }
     requires stands { StandsOn D.meaning.images session disk.old }
     ensures session { IfOk result IsSession }
-    ensures turns { IfOk result (λ next. (begun : Moment T D K C) → KeepsFrom (meanings T.meaning D.meaning K.meaning C.meaning) (rules_of_session session).front_size begun (moment tree.old disk.old report.old clock.old)
+    ensures turns { IfOk result (λ next. (begun : Moment T D K C) → KeepsFrom (meanings T.meaning D.meaning K.meaning C.meaning) (rules_of_session session) begun (moment tree.old disk.old report.old clock.old)
         → Turns (meanings T.meaning D.meaning K.meaning C.meaning) session begun next (moment tree.old disk.old report.old clock.old) (moment tree.new disk.new report.new clock.new)) }
     ensures stops { IfErr result (λ status. Stops (meanings T.meaning D.meaning K.meaning C.meaning) session status (moment tree.old disk.old report.old clock.old) (moment tree.new disk.new report.new clock.new)) }
     ensures crash { Passes D.meaning.images (GrowsBy 1) disk.old disk.new }
-    ensures standing { Told (KeepsStandingSince D.meaning.images (rules_of_session session).front_size disk.old disk.new) (T.meaning.world tree.old) (T.meaning.world tree.new) }
+    ensures standing { Told (KeepsStandingSince D.meaning.images (rules_of_session session) disk.old disk.new) (T.meaning.world tree.old) (T.meaning.world tree.new) }
     ensures later { Told GoesLater (T.meaning.world tree.old) (T.meaning.world tree.new) }
     ensures disk_failed { result ≡ Err 7 → Rose (D.meaning.faults disk.old) (D.meaning.faults disk.new) }
     ensures disk_stood { result ≢ Err 7 → D.meaning.faults disk.new ≡ D.meaning.faults disk.old }
@@ -86,7 +86,7 @@ fn poll<T: Tree, D: Disk>(
         (T.meaning.world tree.old) (T.meaning.world tree.new)) }
     ensures fault { IfErr result (IsPollFault T.meaning session tree.old tree.new) }
     ensures crash { Passes D.meaning.images (GrowsBy 1) disk.old disk.new }
-    ensures standing { Told (KeepsStandingSince D.meaning.images (rules_of_session session).front_size disk.old disk.new) (T.meaning.world tree.old) (T.meaning.world tree.new) }
+    ensures standing { Told (KeepsStandingSince D.meaning.images (rules_of_session session) disk.old disk.new) (T.meaning.world tree.old) (T.meaning.world tree.new) }
     ensures later { Told GoesLater (T.meaning.world tree.old) (T.meaning.world tree.new) }
     ensures cause { HasPollCause result (D.meaning.faults disk.old) (D.meaning.faults disk.new) }
 {

@@ -111,8 +111,8 @@ rewrites before checkpoint payload old new lawful same written = record {
 -- ---- the same over all images, from what was handed to the calls
 
 -- what was put into an empty list is all of it
-pub put_alone : (spelling start out given : List ℕ) → start ≡ [] → out ≡ start ++ spelling → given ≡ out → given ≡ spelling
-put_alone spelling start out given empty put same = same ∙ put ∙ ap (λ items. items ++ spelling) empty
+pub put_alone : (spelling start out : List ℕ) → start ≡ [] → out ≡ start ++ spelling → out ≡ spelling
+put_alone spelling start out empty put = put ∙ ap (λ items. items ++ spelling) empty
 
 -- the log and the payload that an append hands on
 pub record IsAppend (journal : Journal) (change : Change) (log : Log) (payload : List ℕ) : Type 0 where

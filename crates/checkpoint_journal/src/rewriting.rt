@@ -10,20 +10,23 @@ ghost use Rattle.slot_store.specs.Frame.{last_number};
 ghost use Rattle.slot_store.specs.OnlyRead.{KeepsTerms};
 ghost use Rattle.slot_store.specs.Synced.{EachLeft};
 ghost use Rattle.checkpoint_store.specs.Limits.{newest};
+ghost use Rattle.checkpoint_store.specs.Parts.{checkpoint_of_parts};
 ghost use Rattle.checkpoint_store.specs.Rules.{IsCheckpoint};
 ghost use Rattle.checkpoint_store.specs.Spelling.{checkpoint_spelling};
 ghost use Rattle.checkpoint_journal.specs.JournalOf.{EndsWith};
 ghost use Rattle.checkpoint_journal.specs.Written.{log_before, written_file, started, StandsIn, KeepsOld, Rewrites, IsWorn};
 
 use crate::journal::{Journal, has_next};
-use checkpoint_store::{Checkpoint, NEWEST_VERSION, encode};
+use checkpoint_store::{CheckpointParts, NEWEST_VERSION, checkpoint_size, encode};
 use outside::Disk;
 use record_log::Log;
 use slot_store::CommitFault;
+use slot_store::frame::HEAD_SIZE;
 use std::alloc::Global;
 
 /// Puts a checkpoint into the slot that doesn't count, as the base of a journal without changes, with the sequence
 /// number after that of `before`, the journal that counts. The base is of the newest version, whichever that of `before` is.
+/// Memory is asked for once, for the bytes that the base takes.
 ///
 /// At each moment a crash leaves the old checkpoint or the new, and after Ok the new. Where fewer than four calls on the
 /// disk succeeded it leaves the old one. After a fault the disk is to be read again.
@@ -31,16 +34,16 @@ pub fn rewrite<D: Disk>(
     alloc: Global,
     before: Option<&Journal>,
     disk: &mut D,
-    checkpoint: &Checkpoint,
+    checkpoint: &CheckpointParts<'_>,
 ) -> Result<Journal, CommitFault>
-    requires { IsCheckpoint newest checkpoint.now }
-    ensures journal { IfOk result (λ journal. journal ≡ started (option_copied before.entry) checkpoint.now) }
+    requires { IsCheckpoint newest (checkpoint_of_parts checkpoint.now) }
+    ensures journal { IfOk result (λ journal. journal ≡ started (option_copied before.entry) (checkpoint_of_parts checkpoint.now)) }
     ensures file { IfOk result (λ journal. IsSlotFile journal.slot.file) }
 
     ensures crash { EachLeft D.meaning.images disk.old (StandsIn (option_copied before.entry))
-        → Passes D.meaning.images (Rewrites (option_copied before.entry) checkpoint.now) disk.old disk.new }
+        → Passes D.meaning.images (Rewrites (option_copied before.entry) (checkpoint_of_parts checkpoint.now)) disk.old disk.new }
     ensures rewritten { OnOk result (EachLeft D.meaning.images disk.old (StandsIn (option_copied before.entry))
-        → EachLeft D.meaning.images disk.new (EndsWith (started (option_copied before.entry) checkpoint.now) checkpoint.now)) }
+        → EachLeft D.meaning.images disk.new (EndsWith (started (option_copied before.entry) (checkpoint_of_parts checkpoint.now)) (checkpoint_of_parts checkpoint.now))) }
     ensures early { DoneFewer 4 (D.meaning.done disk.old) (D.meaning.done disk.new)
         → EachLeft D.meaning.images disk.old (StandsIn (option_copied before.entry))
         → Passes D.meaning.images (KeepsOld (option_copied before.entry)) disk.old disk.new }
@@ -52,13 +55,14 @@ pub fn rewrite<D: Disk>(
     ensures worn_only { (sequence : ℕ) → result ≡ Err (CommitFault.Worn sequence) → (sequence ≡ last_number) × (disk.new ≡ disk.old) }
     ensures cause { HasCommitCause result (D.meaning.faults disk.old) (D.meaning.faults disk.new) }
     ensures done { HasDone result 8 (D.meaning.done disk.old) (D.meaning.done disk.new) }
-    ensures counted { HasWritten result (written_file (option_copied before.entry)) (length (checkpoint_spelling newest checkpoint.now) + 18) (D.meaning.written disk.old) (D.meaning.written disk.new) }
+    ensures counted { HasWritten result (written_file (option_copied before.entry)) (length (checkpoint_spelling newest (checkpoint_of_parts checkpoint.now)) + 18) (D.meaning.written disk.old) (D.meaning.written disk.new) }
     ensures terms { KeepsTerms D.meaning disk.old disk.new }
 {
     let before = log_before(before)?;
-    let mut payload = Vec::new(alloc);
+    let size = checkpoint_size(checkpoint) + HEAD_SIZE;
+    let mut payload = Vec::with_capacity(alloc, size as usize)?;
     encode(alloc, checkpoint, &mut payload)?;
-    let log = record_log::rewrite(alloc, disk, before.as_ref(), &payload)?;
+    let log = record_log::rewrite(alloc, disk, before.as_ref(), payload)?;
     Ok(Journal::over(log, NEWEST_VERSION))
 }
 

@@ -13,3 +13,7 @@ pub mod Determined
 pub mod Older
 pub mod ChangeEnds
 pub mod Loops
+pub mod CostLemmas
+pub mod ShortLemmas
+pub mod Flags
+pub mod SizeLemmas

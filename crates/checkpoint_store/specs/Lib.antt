@@ -8,3 +8,4 @@ pub mod Fits
 pub mod Changed
 pub mod Applied
 pub mod Worked
+pub mod Parts

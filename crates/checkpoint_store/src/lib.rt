@@ -4,11 +4,12 @@
 //! **The contract for the layer above.** A checkpoint has one spelling in each version (`checkpoint_spelling`); [`encode`]
 //! appends that of the newest one, and [`decode`] reads any. A change has one under a base of each version
 //! (`change_spelling`); [`encode_change`] appends the newest, and [`apply`] reads it and answers what it makes of the
-//! checkpoint before it (`changed`). A row has one in both (`row_spelling`), which [`put_row`] appends, and keeps one set of
-//! rules (`KeepsRules`). What keeps the rules, and of a change what fits the checkpoint before it (`Fits`), is read; all
-//! else is refused at the exact byte, a number against the rules at its first one. No spelling begins another of its kind,
-//! exactly the rows of a change are changed, and what was spelled by an older version can be spelled by the newest
-//! ([`laws`]).
+//! checkpoint before it (`changed`). Both are spelled from parts that are kept elsewhere ([`CheckpointParts`],
+//! [`ChangeParts`]), and how many bytes they take is told before ([`checkpoint_size`], [`change_size`]). A row has one
+//! spelling in both (`row_spelling`), which [`put_row`] appends, and keeps one set of rules (`KeepsRules`). What keeps the
+//! rules, and of a change what fits the checkpoint before it (`Fits`), is read; all else is refused at the exact byte, a
+//! number against the rules at its first one. No spelling begins another of its kind, exactly the rows of a change are
+//! changed, and what was spelled by an older version can be spelled by the newest ([`laws`]).
 //!
 //! Version 3 of a checkpoint is the byte 03, a u32 count of eras (1 to 64), the eras as bytes, a u64 output length (at most
 //! 2^40), the u64 observed time, a u32 next id, a u32 count of rows, the rows with the ids 1, 2, .. in order, and nothing
@@ -31,19 +32,23 @@ ghost use Rattle.checkpoint_store.specs.Limits.{newest, era_limit, front_limit, 
 mod beside;
 mod changes;
 mod eras;
+mod in_parts;
 pub mod laws;
 mod past;
 mod put;
 mod read;
 mod rows;
+mod sizes;
 
 pub use beside::Beside;
 pub use changes::apply;
 pub use eras::Eras;
+pub use in_parts::{ChangeParts, CheckpointParts};
 pub use past::Past;
 pub use put::{encode, encode_change, put_row};
 pub use read::decode;
 pub use rows::Rows;
+pub use sizes::{change_size, checkpoint_size};
 
 /// The version that is spelled.
 pub const NEWEST_VERSION: u8 = 3;

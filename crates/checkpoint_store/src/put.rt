@@ -4,10 +4,11 @@ ghost use Rattle.std.specs.Int.{w32, to_be_bytes};
 ghost use Rattle.std.specs.List.{flat_map};
 ghost use Rattle.state_codec.specs.Spelling.{bytes_spelling};
 ghost use Rattle.checkpoint_store.specs.Limits.{newest};
+ghost use Rattle.checkpoint_store.specs.Parts.{flagged, checkpoint_of_parts, change_of_parts};
 ghost use Rattle.checkpoint_store.specs.Rules.{past_of, IsCheckpoint};
 ghost use Rattle.checkpoint_store.specs.Spelling.{end_spelling, told_past, row_spelling, rows_spelling, checkpoint_spelling, change_spelling};
 
-use crate::{Change, Checkpoint, NEWEST_VERSION};
+use crate::{ChangeParts, CheckpointParts, NEWEST_VERSION};
 use file_tracker::{Bytes, End, Row};
 use state_codec::{put_bytes, put_text, put_u32, put_u64};
 use std::alloc::{AllocError, Global};
@@ -84,25 +85,70 @@ fn put_eras(alloc: Global, eras: &[Bytes], out: &mut Vec<u8>) -> Result<(), Allo
     Ok(())
 }
 
+/// How many rows have their flag set.
+fn count_flagged(changed: &[bool], rows: &[Row]) -> usize
+    ensures { result ≡ length (flagged changed.now rows.now) }
+{
+    let all = changed.len().min(rows.len());
+    let mut count = 0;
+    for place in 0..all {
+        if changed[place] {
+            count += 1;
+        }
+    }
+    count
+}
+
+/// The rows whose flag is set.
+fn put_flagged(
+    alloc: Global,
+    changed: &[bool],
+    rows: &[Row],
+    out: &mut Vec<u8>,
+) -> Result<(), AllocError>
+    ensures { OnOk result (out.new.items ≡ out.old.items ++ flat_map (row_spelling newest) (flagged changed.now rows.now)) }
+{
+    let all = changed.len().min(rows.len());
+    for place in 0..all {
+        if changed[place] {
+            put_row(alloc, &rows[place], out)?;
+        }
+    }
+    Ok(())
+}
+
 /// Appends a checkpoint, which has to keep the rules, by the newest version.
-pub fn encode(alloc: Global, checkpoint: &Checkpoint, out: &mut Vec<u8>) -> Result<(), AllocError>
-    requires { IsCheckpoint newest checkpoint.now }
-    ensures { OnOk result (out.new.items ≡ out.old.items ++ checkpoint_spelling newest checkpoint.now) }
+pub fn encode(
+    alloc: Global,
+    checkpoint: &CheckpointParts<'_>,
+    out: &mut Vec<u8>,
+) -> Result<(), AllocError>
+    requires { IsCheckpoint newest (checkpoint_of_parts checkpoint.now) }
+    ensures { OnOk result (out.new.items ≡ out.old.items ++ checkpoint_spelling newest (checkpoint_of_parts checkpoint.now)) }
 {
     out.extend_from_slice(&[NEWEST_VERSION])?;
     put_eras(alloc, checkpoint.eras.as_slice(), out)?;
     put_u64(alloc, checkpoint.output_length, out)?;
     put_u64(alloc, checkpoint.observed, out)?;
     put_u32(alloc, checkpoint.next_id, out)?;
-    put_rows(alloc, checkpoint.rows.as_slice(), out)
+    put_rows(alloc, checkpoint.rows, out)
 }
 
 /// Appends a change under a base of the newest version.
-pub fn encode_change(alloc: Global, change: &Change, out: &mut Vec<u8>) -> Result<(), AllocError>
-    ensures { OnOk result (out.new.items ≡ out.old.items ++ change_spelling newest change.now) }
+pub fn encode_change(
+    alloc: Global,
+    change: &ChangeParts<'_>,
+    out: &mut Vec<u8>,
+) -> Result<(), AllocError>
+    ensures { OnOk result (out.new.items ≡ out.old.items ++ change_spelling newest (change_of_parts change.now)) }
 {
+    let count = count_flagged(change.changed, change.rows);
+    if count > 0xFFFF_FFFF {
+        return Err(AllocError);
+    }
     put_u64(alloc, change.output_length, out)?;
     put_u64(alloc, change.observed, out)?;
     put_u32(alloc, change.next_id, out)?;
-    put_rows(alloc, change.rows.as_slice(), out)
+    put_u32(alloc, count as u32, out)?;
+    put_flagged(alloc, change.changed, change.rows, out)
 }

@@ -1,5 +1,5 @@
 -- Disks whose images end with a log or a journal, from call to call.
-use Rattle.std.proofs.Common.{◌≡◌, List, ℕ, ◌++◌, ◌∷◌, [], length, ap, subst, ◌∙◌}
+use Rattle.std.proofs.Common.{◌≡◌, Bool, true, List, ℕ, ◌++◌, ◌∷◌, [], length, ap, subst, ◌∙◌, arith}
 use Rattle.outside.specs.Crash.{IsDurable}
 use Rattle.outside.specs.Images.{Images}
 use Rattle.outside.specs.Image.{Image}
@@ -16,8 +16,10 @@ use Rattle.record_log.specs.LogOf as bytes
 use Rattle.record_log.specs.declared.log.Log.{Log}
 use Rattle.checkpoint_store.specs.Fits.{Fits}
 use Rattle.checkpoint_store.specs.Limits.{newest}
+use Rattle.checkpoint_store.specs.Parts.{flagged}
 use Rattle.checkpoint_store.specs.declared.Change.{Change}
 use Rattle.checkpoint_store.specs.declared.Checkpoint.{Checkpoint}
+use Rattle.file_tracker.specs.declared.row.Row.{Row}
 use Rattle.checkpoint_journal.proofs.JournalLaws.{journal_of_slots}
 use Rattle.checkpoint_journal.specs.JournalOf.{HasJournal, EndsWith}
 use Rattle.checkpoint_journal.specs.Written.{Awaits}
@@ -44,6 +46,12 @@ ends_again log payload stands leaves = record {
 pub awaits : (old new : MemDisk) (journal : Journal) (checkpoint : Checkpoint) (change : Change) → history_of new ≡ history_of old → EachLeft disk_images old (EndsWith journal checkpoint) → Fits newest checkpoint change → EachLeft disk_images new (Awaits journal change)
 awaits old new journal checkpoint change same stands fits =
     same_history old new same (record { each = λ image left. record { checkpoint = checkpoint; stands = stands.each image left; fits = fits } })
+
+-- the only row, whose flag is set
+pub one_flagged : (flags : List Bool) (rows : List Row) → flags ≡ true ∷ [] → length rows ≡ 1 → flagged flags rows ≡ rows
+one_flagged flags [] set one = absurd (omega (arith, one))
+one_flagged flags (row ∷ []) set one = ap (λ (l : List Bool). flagged l (row ∷ [])) set
+one_flagged flags (row ∷ other ∷ rows) set one = absurd (omega (arith, one))
 
 -- a disk of which nothing was left to sync, after it was read
 pub at_rest : (old new : MemDisk) (journal : Journal) (checkpoint : Checkpoint) → ((file : DiskFile) → IsDurable disk_images file old) → OnlyRead disk_meaning old new → HasJournal journal checkpoint (seen_of old) → length (seen_of old journal.slot.file) ≡ journal.end → EachLeft disk_images new (EndsWith journal checkpoint)

@@ -3,6 +3,7 @@ ghost use Rattle.mem_world.specs.MemDisk.{disk_images};
 ghost use Rattle.checkpoint_journal.specs.JournalOf.{EndsWith};
 ghost use Rattle.checkpoint_store.specs.Fits.{Fits};
 ghost use Rattle.checkpoint_store.specs.Limits.{newest};
+ghost use Rattle.checkpoint_store.specs.Parts.{change_of_parts};
 ghost use Rattle.checkpoint_store.specs.Rules.{IsCheckpoint, KeepsRules, beside_of};
 ghost use Rattle.checkpoint_store.specs.declared.Checkpoint.{Checkpoint};
 ghost use Rattle.slot_store.specs.ChosenSlot.{IsSlotFile};
@@ -11,7 +12,7 @@ ghost use Rattle.slot_store.specs.Synced.{EachLeft};
 use crate::slots::{Fault, Told};
 use checkpoint_journal::{Journal, JournalFault, peek, rewrite};
 use checkpoint_store::laws::older_checkpoints_are_newest;
-use checkpoint_store::{Change, Checkpoint, NEWEST_VERSION, Rows, encode_change};
+use checkpoint_store::{Change, ChangeParts, Checkpoint, NEWEST_VERSION, Rows, encode_change};
 use entry_model::Text;
 use file_tracker::{Bytes, Ends, Row};
 use mem_world::MemDisk;
@@ -287,8 +288,9 @@ fn row(alloc: Global) -> Result<Row, Fail>
 
 // A change of that row, with an output of 12 bytes at time 5.
 fn change(alloc: Global) -> Result<Change, Fail>
-    ensures { IfOk result (λ change. (before : Checkpoint) → length before.eras ≡ 1 → before.output_length ≤ 12
+    ensures fits { IfOk result (λ change. (before : Checkpoint) → length before.eras ≡ 1 → before.output_length ≤ 12
         → before.observed ≤ 5 → before.next_id ≡ 2 → Fits newest before change) }
+    ensures one { IfOk result (λ change. length change.rows ≡ 1) }
 {
     let mut rows = Vec::new(alloc);
     rows.push(row(alloc)?)?;
@@ -298,6 +300,23 @@ fn change(alloc: Global) -> Result<Change, Fail>
         next_id: 2,
         rows: Rows::new(rows),
     })
+}
+
+// That one row changed.
+const CHANGED: &[bool] = &[true];
+
+// The change of one row, in parts.
+fn parts_of(change: &Change) -> ChangeParts<'_>
+    requires { length change.now.rows ≡ 1 }
+    ensures { change_of_parts result ≡ change.now }
+{
+    ChangeParts {
+        output_length: change.output_length,
+        observed: change.observed,
+        next_id: change.next_id,
+        rows: change.rows.as_slice(),
+        changed: CHANGED,
+    }
 }
 
 // Whether the change fits behind the checkpoint, and is written by the version of the journal.
@@ -328,8 +347,9 @@ fn append(
         checkpoint,
     } = opened;
     let change = change(alloc)?;
+    let parts = parts_of(&change);
     let mut spelled = Vec::new(alloc);
-    encode_change(alloc, &change, &mut spelled)?;
+    encode_change(alloc, &parts, &mut spelled)?;
     if spelled.len() > 1_000 {
         return Err(Fail::from("too long"));
     }
@@ -337,7 +357,7 @@ fn append(
         return Err(Fail::from("another checkpoint, or an older version"));
     }
     fault.set(alloc, &mut disk)?;
-    let result = journal.append(alloc, &mut disk, &change);
+    let result = journal.append(alloc, &mut disk, &parts);
     Ok((result, disk))
 }
 
@@ -373,7 +393,7 @@ fn crashed_rewrite(alloc: Global, fault: Fault, outcome: u32) -> Result<(bool, M
     let (journal, _) = peek(alloc, &mut disk)?.ok_or("no journal")?;
     let checkpoint = checkpoint_in(alloc, NEXT)?;
     fault.set(alloc, &mut disk)?;
-    let result = rewrite(alloc, Some(&journal), &mut disk, &checkpoint);
+    let result = rewrite(alloc, Some(&journal), &mut disk, &checkpoint.parts());
     Ok((result.is_ok(), disk.crash(alloc, outcome)?))
 }
 
@@ -459,7 +479,7 @@ fn a_worn_journal_is_left_as_it_is(rt: HostRuntime) -> Result<(), Fail> {
     let (result, mut disk) = append(alloc, opened, Fault::Stop(0))?;
     assert_eq!(rt; result, Err(CommitFault::Worn { sequence: u64::MAX }));
     let checkpoint = checkpoint_in(alloc, NEXT)?;
-    let result = rewrite(alloc, Some(&journal), &mut disk, &checkpoint);
+    let result = rewrite(alloc, Some(&journal), &mut disk, &checkpoint.parts());
     assert_eq!(rt; result, Err(CommitFault::Worn { sequence: u64::MAX }));
     assert_eq!(rt; disk.bytes(DiskFile::SlotA), worn.bytes(alloc)?.as_slice());
     assert!(rt; disk.bytes(DiskFile::SlotB).is_empty());
@@ -472,7 +492,7 @@ fn a_first_checkpoint_and_a_change_are_spelled(rt: HostRuntime) -> Result<(), Fa
     for read in [ROW, Told(0xa5, 7, 71, OLDER)] {
         let checkpoint = checkpoint_in(alloc, read)?;
         let mut disk = MemDisk::new(alloc)?;
-        let journal = rewrite(alloc, None, &mut disk, &checkpoint)?;
+        let journal = rewrite(alloc, None, &mut disk, &checkpoint.parts())?;
         assert_eq!(rt; journal.slot.file, DiskFile::SlotA);
         assert_eq!(rt; journal.sequence, 1);
         assert_eq!(rt; journal.end, 120);

@@ -95,7 +95,8 @@ fn a_stopped_rewrite_leaves_the_old_log_or_the_new(rt: HostRuntime) -> Result<()
             let mut disk = disk_of(alloc, &frames)?;
             let before = log_of(alloc, &mut disk)?;
             disk.fuse(calls);
-            let result = rewrite(alloc, &mut disk, before.as_ref(), b"new");
+            let new = Vec::from_slice(alloc, b"new")?;
+            let result = rewrite(alloc, &mut disk, before.as_ref(), new);
             assert_eq!(rt; result.is_ok(), calls == 8, "after {calls} calls");
             let mut disk = disk.crash(alloc, outcome)?;
             // The seventh call writes the gate, and outcome 1 leaves it as it was written.
@@ -117,8 +118,8 @@ fn a_stopped_rewrite_leaves_the_old_log_or_the_new(rt: HostRuntime) -> Result<()
 }
 
 // A disk with a log of this base alone.
-fn started(alloc: Global, base: &[u8]) -> Result<(MemDisk, Log), Fail>
-    requires { length base.now ≤ 100 }
+fn started(alloc: Global, base: Vec<u8>) -> Result<(MemDisk, Log), Fail>
+    requires { length base.items ≤ 100 }
     ensures stands { IfOk result (λ made. EachLeft disk_images made.0 (EndsWith made.1)) }
     ensures file { IfOk result (λ made. IsSlotFile made.1.slot.file) }
     ensures end { IfOk result (λ made. made.1.end ≤ 117) }
@@ -130,10 +131,11 @@ fn started(alloc: Global, base: &[u8]) -> Result<(MemDisk, Log), Fail>
 
 // The append of `more` over a base and a record, the crash and what it leaves.
 fn crashed_append(alloc: Global, fault: Fault, outcome: u32) -> Result<(bool, MemDisk), Fail> {
-    let (mut disk, log) = started(alloc, b"base")?;
-    let log = log.append(alloc, &mut disk, b"a")?;
+    let (mut disk, log) = started(alloc, Vec::from_slice(alloc, b"base")?)?;
+    let log = log.append(alloc, &mut disk, Vec::from_slice(alloc, b"a")?)?;
     fault.set(alloc, &mut disk)?;
-    let result = log.append(alloc, &mut disk, b"more");
+    let more = Vec::from_slice(alloc, b"more")?;
+    let result = log.append(alloc, &mut disk, more);
     Ok((result.is_ok(), disk.crash(alloc, outcome)?))
 }
 
@@ -181,7 +183,8 @@ fn an_append_with_a_failing_call_leaves_the_log_with_or_without_the_record(
             let text = joined(alloc, &mut disk)?;
             assert_eq!(rt; text.as_slice(), expected, "call {call}, outcome {outcome}");
             let before = log_of(alloc, &mut disk)?;
-            let next = rewrite(alloc, &mut disk, before.as_ref(), b"new")?;
+            let new = Vec::from_slice(alloc, b"new")?;
+            let next = rewrite(alloc, &mut disk, before.as_ref(), new)?;
             assert_eq!(rt; next.sequence, if is_new { 4 } else { 3 });
         }
     }
@@ -191,8 +194,8 @@ fn an_append_with_a_failing_call_leaves_the_log_with_or_without_the_record(
 #[test]
 fn an_append_is_spelled_behind_the_last_record(rt: HostRuntime) -> Result<(), Fail> {
     let alloc = rt.alloc();
-    let (mut disk, log) = started(alloc, b"base")?;
-    let log = log.append(alloc, &mut disk, b"a")?;
+    let (mut disk, log) = started(alloc, Vec::from_slice(alloc, b"base")?)?;
+    let log = log.append(alloc, &mut disk, Vec::from_slice(alloc, b"a")?)?;
     assert_eq!(rt; log.end, 39);
     assert_eq!(rt; log.sequence, 2);
     assert_eq!(rt; log.slot.file, DiskFile::SlotA);
@@ -214,7 +217,8 @@ fn a_rewrite_with_a_failing_call_leaves_the_old_log_or_the_new(
             let mut disk = disk_of(alloc, &frames)?;
             let before = log_of(alloc, &mut disk)?;
             disk.fail(alloc, call)?;
-            let result = rewrite(alloc, &mut disk, before.as_ref(), b"new");
+            let new = Vec::from_slice(alloc, b"new")?;
+            let result = rewrite(alloc, &mut disk, before.as_ref(), new);
             assert!(rt; result.is_err(), "call {call} failed");
             let mut disk = disk.crash(alloc, outcome)?;
             // The eighth call is the sync of the gate.
@@ -235,7 +239,8 @@ fn a_rewrite_counts_on_from_the_last_record(rt: HostRuntime) -> Result<(), Fail>
     let alloc = rt.alloc();
     let mut disk = disk_of(alloc, &[BASE, Told(0xa5, 8, 1, b"a")])?;
     let before = log_of(alloc, &mut disk)?;
-    let next = rewrite(alloc, &mut disk, before.as_ref(), b"new")?;
+    let new = Vec::from_slice(alloc, b"new")?;
+    let next = rewrite(alloc, &mut disk, before.as_ref(), new)?;
     assert_eq!(rt; next.slot.file, DiskFile::SlotB);
     assert_eq!(rt; next.sequence, 9);
     assert_eq!(rt; next.end, 20);
@@ -243,7 +248,8 @@ fn a_rewrite_counts_on_from_the_last_record(rt: HostRuntime) -> Result<(), Fail>
         sequence: u64::MAX,
         ..next
     };
-    let result = rewrite(alloc, &mut disk, Some(&worn), b"later");
+    let later = Vec::from_slice(alloc, b"later")?;
+    let result = rewrite(alloc, &mut disk, Some(&worn), later);
     assert_eq!(rt; result, Err(CommitFault::Worn { sequence: u64::MAX }));
     let text = joined(alloc, &mut disk)?;
     assert_eq!(rt; text.as_slice(), b"new,".as_slice());

@@ -70,7 +70,8 @@ fn crashed(alloc: Global, fault: Fault, outcome: u32) -> Result<(bool, MemDisk),
     let mut disk = disk_of(alloc, OLD, STALE)?;
     let before = choose(&mut disk)?;
     fault.set(alloc, &mut disk)?;
-    let result = commit(alloc, &mut disk, before.as_ref(), b"new");
+    let new = Vec::from_slice(alloc, b"new")?;
+    let result = commit(alloc, &mut disk, before.as_ref(), new);
     Ok((result.is_ok(), disk.crash(alloc, outcome)?))
 }
 
@@ -119,7 +120,8 @@ fn a_commit_with_a_failing_call_leaves_the_old_payload_or_the_new(
                 "call {call}, outcome {outcome}"
             );
             let before = choose(&mut disk)?;
-            let next = commit(alloc, &mut disk, before.as_ref(), b"later")?;
+            let later = Vec::from_slice(alloc, b"later")?;
+            let next = commit(alloc, &mut disk, before.as_ref(), later)?;
             assert_eq!(rt;
                 next.sequence,
                 if call == 8 && outcome == 1 { 9 } else { 8 }
@@ -213,7 +215,7 @@ fn a_length_is_never_trusted(rt: HostRuntime) -> Result<(), Fail> {
 fn the_first_slot_is_spelled_and_the_last_is_worn(rt: HostRuntime) -> Result<(), Fail> {
     let alloc = rt.alloc();
     let mut disk = MemDisk::new(alloc)?;
-    let first = commit(alloc, &mut disk, None, b"new")?;
+    let first = commit(alloc, &mut disk, None, Vec::from_slice(alloc, b"new")?)?;
     assert_eq!(rt;
         first,
         Slot {
@@ -228,7 +230,8 @@ fn the_first_slot_is_spelled_and_the_last_is_worn(rt: HostRuntime) -> Result<(),
         sequence: u64::MAX,
         ..first
     };
-    let result = commit(alloc, &mut disk, Some(&last), b"later");
+    let later = Vec::from_slice(alloc, b"later")?;
+    let result = commit(alloc, &mut disk, Some(&last), later);
     assert_eq!(rt; result, Err(CommitFault::Worn { sequence: u64::MAX }));
     assert_eq!(rt; disk.bytes(DiskFile::SlotA), spelled.as_slice());
     assert!(rt; disk.bytes(DiskFile::SlotB).is_empty());

@@ -21,6 +21,7 @@ use Rattle.lifetimes.proofs.EraLemmas.{rules_own, standing_by_one}
 use Rattle.lifetimes.specs.Ended.{IsEndingBy, history_of}
 use Rattle.lifetimes.specs.OneEra.{IsSoundBy, one_era}
 use Rattle.lifetimes.specs.Small.{AreWhole}
+use Rattle.lifetimes.specs.Whole.{TakesWhole}
 use Rattle.lifetimes.specs.declared.ending.Ending.{Ending}
 use Rattle.lifetimes.specs.declared.event.Event.{Event}
 use Rattle.mem_world.specs.MemDisk.{seen_of}
@@ -87,7 +88,8 @@ lines_are_rounds one_set (suc n) few rules has_rules ruled events played ending 
     let history : History = history_of ending.tree in
     let image : Image DiskFile = seen_of ending.disk in
     let apart : Apart rules.front_size history = apart_by_rounds (suc n) rules.front_size history few ruled.front_size of in
-    let standing : IsStanding history image = (ends.standing apart).each image (seen_left ending.disk) in
-    let reached = (ends.reached apart (undisturbed n events played) (small (suc n) few history of) (not_large (suc n) few history of rules ruled)).each image (seen_left ending.disk) in
+    let takes : TakesWhole rules history = record { never = ruled.never; apart = apart } in
+    let standing : IsStanding history image = (ends.standing takes).each image (seen_left ending.disk) in
+    let reached = (ends.reached takes (undisturbed n events played) (small (suc n) few history of) (not_large (suc n) few history of rules ruled)).each image (seen_left ending.disk) in
     by_checkpoint image (suc n) reached.checkpoint checkpoint reached.has has
     (checkpoint_gives (suc n) few history of rules ruled apart one_set (rules_own settings_text rules has_rules) image reached.checkpoint reached.has (ends.sound.each image (seen_left ending.disk)) standing reached.whole)

@@ -77,6 +77,7 @@ module _ (pipeline : Pipeline) (made : IsMadeOf settings_text pipeline) where
     front_size = omega (arith, ap (λ (s : Settings). s.fingerprint_size) are);
     from_beginning = ap (λ (s : Settings). begins_at_end s.start_at) are;
     no_times = ap (λ (s : Settings). s.include_observed_time) are;
+    never = ap (λ (s : Settings). s.flush_after_polls) are;
     logs = λ log few. includes (log_name log) (log_included log few);
     rotated = λ round few. includes (rotated_name round) (rotated_included round few);
     some_bytes = λ content. subst (All (λ (c : Cut). 1 ≤ c.used)) (sym (cuts_are content)) (all_used (first_cut 1048576) (first_cut-is_rule 1048576 (omega arith)) content);

@@ -27,6 +27,7 @@ pub record IsRuled (rules : Rules) : Type 0 where
   pub front_size : 16 ≤ rules.front_size
   pub from_beginning : rules.from_end ≡ false
   pub no_times : rules.stamps ≡ false
+  pub never : rules.flush_after ≡ 0
   pub logs : (log : ℕ) → log < 3 → Includes rules (log_name log)
   pub rotated : (round : ℕ) → round ≤ 1000 → Includes rules (rotated_name round)
   pub some_bytes : (content : List ℕ) → All (λ (cut : Cut). 1 ≤ cut.used) (rules.cuts content)

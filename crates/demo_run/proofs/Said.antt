@@ -34,6 +34,7 @@ script_settings = record {
   resource = no_members;
   operators = [];
   include_observed_time = false;
+  flush_after_polls = 0;
 }
 
 abbrev script_json : Data

@@ -11,13 +11,14 @@ use Rattle.outside.specs.World.{World, History, bytes}
 use Rattle.standing.proofs.MomentLemmas.{bytes_grow}
 use Rattle.standing.specs.Poll.{Poll}
 use Rattle.standing.specs.Limits.{most_taken, is_compressed}
-use Rattle.standing.specs.Look.{Look, Outcome, finds_new, finds_row, content, front, size, piece, new_row, offset_found, outcome, fed, lines_of}
+use Rattle.standing.specs.Look.{Look, Outcome, finds_new, finds_row, content, front, size, piece, new_row, offset_found, outcome}
 use Rattle.standing.specs.Marks.{Mark}
 use Rattle.standing.specs.Rows.{Row}
 use Rattle.standing.specs.Rules.{Rules}
 use Rattle.standing.specs.Sums.{is_passed_as_compressed, is_left_out}
 use Rattle.file_pass.specs.Fed.{poll_of, rules_in}
 use Rattle.file_pass.specs.Cost.{cost_on}
+use Rattle.file_pass.specs.Flushed.{row_read, lines_read}
 use Rattle.file_pass.specs.Gain.{Gain, gain_of, one_if, with_taken}
 use Rattle.file_pass.specs.LookTaken.{IsGainOf, TakesLook, IsOpenAt, SeenTaken, look_at}
 use Rattle.file_pass.specs.Reads.{HasBytes, Reads}
@@ -30,7 +31,8 @@ use Rattle.file_pass.specs.declared.found.Found.{Found}
 use Rattle.file_pass.specs.declared.found.Found.TheVariants.{Read}
 use Rattle.file_pass.specs.declared.setup.Setup.{Setup}
 use Rattle.file_pass.proofs.Listing.{get_set, push_there}
-use Rattle.file_pass.proofs.Looking.{filled_some, short_not, short_end, is_known, is_fresh, look_with, takes_short, takes_on, takes_new}
+use Rattle.file_pass.proofs.FlushLemmas.{lines_others}
+use Rattle.file_pass.proofs.Looking.{EndsAt, filled_some, short_not, short_end, is_known, is_fresh, look_with, takes_short, takes_on, takes_new}
 use Rattle.file_pass.proofs.ReadingLemmas.{same_piece}
 
 -- the place up to which the file could be read
@@ -94,8 +96,8 @@ start_within true all = omega arith
 start_within false all = omega arith
 
 -- how far the bytes go that were read on
-record Reaches (poll : Poll) (here : Look) (offset : ℕ) (given : List ℕ) (gain : Gain) (added : List Mark) : Type 0 where
-  within : here.end ≤ size here
+record Reaches (poll : Poll) (here : Look) (offset : ℕ) (ending : Ending) (given : List ℕ) (gain : Gain) (added : List Mark) : Type 0 where
+  ends : EndsAt here ending
   reaches : offset ≤ here.end
   are : given ≡ piece here offset
   sums : (found : Outcome) → offset_found poll here found ≡ Some offset → is_passed_as_compressed here found ≡ false → is_left_out here found ≡ false → IsGainOf poll here found added gain
@@ -105,11 +107,11 @@ module _ (poll : Poll) (path : List ℕ) (file : OpenFile) (place : ℕ) (row : 
   abbrev the_look : Look
   the_look = look_at path seen moment (end_for on.ending file.size (row.offset + length on.given)) false
 
-  reaches_for : (ending : Ending) → on.ending ≡ ending → Reaches poll the_look row.offset on.given (gain_of found) added
+  reaches_for : (ending : Ending) → on.ending ≡ ending → Reaches poll the_look row.offset on.ending on.given (gain_of found) added
   reaches_for Whole is =
       let end : the_look.end ≡ file.size = ap (λ e. end_for e file.size (row.offset + length on.given)) is in
       record {
-        within = omega (arith, end, at.size_then);
+        ends = record { within = omega (arith, end, at.size_then); whole = λ _. omega (arith, end, at.size_then); partly = λ not. absurd (not is) };
         reaches = omega (arith, end, on.begins);
         are = piece_is the_look row.offset on.given (stood_then file seen moment old new row.offset on.given on.ending at (omega (arith, on.within)) on.reads) (omega (arith, end, on.whole is));
         sums = λ o offset no_gzip has_room.
@@ -121,7 +123,7 @@ module _ (poll : Poll) (path : List ℕ) (file : OpenFile) (place : ℕ) (row : 
       let not_whole : on.ending ≡ Whole → ⊥ = λ e. (let never : Failed ≡ Whole = sym is ∙ e in cc) in
       let part = on.partly not_whole in
       record {
-        within = omega (arith, end, part, at.size_then);
+        ends = record { within = omega (arith, end, part, at.size_then); whole = λ e. absurd (not_whole e); partly = λ _. omega (arith, end, part, at.size_then) };
         reaches = omega (arith, end);
         are = piece_is the_look row.offset on.given (stood_then file seen moment old new row.offset on.given on.ending at (omega (arith, on.within)) on.reads) (omega (arith, end, part));
         sums = λ o offset no_gzip has_room.
@@ -188,11 +190,14 @@ module _ (setup : Setup) (path : List ℕ) (file : OpenFile) (seen_front : List 
         let same_offset : row.offset ≡ seen_known.row.offset = ap (λ (r : Row). r.offset) same_row in
         let far = reaches_for (poll_of setup) path file place row mid after added found old new on seen moment seen_at.open_at some on.ending refl in
         look_with (poll_of setup) here before after added (gain_of found) count
-        (takes_on (poll_of setup) here before refl (omega (arith, some, full)) (subst (λ (f : List ℕ). is_compressed f ≡ false) is_front plain) place seen_known.row seen_known.at seen_known.first_one refl
-        on.given after added (gain_of found) (omega (arith, same_offset, on.begins, full)) far.within (omega (arith, same_offset, far.reaches)) (far.are ∙ ap (piece here) same_offset)
-        (on.fed_row ∙ ap (λ (l : List Row). slice_set l place (fed (rules_in setup) on.given row)) seen_known.grown
-        ∙ ap (λ (r : Row). slice_set (slice_set before place (with_front (front (rules_in setup) here) seen_known.row)) place (fed (rules_in setup) on.given r)) same_row)
-        (on.lines ∙ ap (λ (r : Row). lines_of (poll_of setup) on.given r) same_row)
+        (takes_on (poll_of setup) here before refl (omega (arith, some, full)) (subst (λ (f : List ℕ). is_compressed f ≡ false) is_front plain) place seen_known.row seen_known.at seen_known.first_one
+        on.ending on.given after added (gain_of found) (omega (arith, same_offset, on.begins, full)) far.ends (omega (arith, same_offset, far.reaches)) (far.are ∙ ap (piece here) same_offset)
+        (on.read_row ∙ ap (λ (l : List Row). slice_set l place (row_read (rules_in setup) file.size on.ending on.given row)) seen_known.grown
+        ∙ ap (λ (r : Row). slice_set (slice_set before place (with_front (front (rules_in setup) here) seen_known.row)) place (row_read (rules_in setup) file.size on.ending on.given r)) same_row
+        ∙ ap (λ n. slice_set (slice_set before place (with_front (front (rules_in setup) here) seen_known.row)) place (row_read (rules_in setup) n on.ending on.given (with_front (front (rules_in setup) here) seen_known.row))) full)
+        (on.lines ∙ ap (λ (r : Row). lines_read (poll_of setup) file.size on.ending on.given r) same_row
+        ∙ ap (λ n. lines_read (poll_of setup) n on.ending on.given (with_front (front (rules_in setup) here) seen_known.row)) full
+        ∙ lines_others (poll_of setup) (size here) on.ending on.given (front (rules_in setup) here) seen_known.row.start seen_known.row.born seen_known.row.ends seen_known.row)
         (far.sums (finds_row place seen_known.row) (ap Some (sym same_offset)) refl refl));
     cost = λ seen moment seen_at.
         let here = look_at path seen moment (end_for on.ending file.size (row.offset + length on.given)) false in
@@ -226,10 +231,11 @@ module _ (setup : Setup) (path : List ℕ) (file : OpenFile) (seen_front : List 
         let is : row ≡ new_row (poll_of setup) here (length before + 1) = same_row ∙ new_is setup path seen_front file.size (length before + 1) here refl full is_front in
         look_with (poll_of setup) here before after added (gain_of found) count
         (takes_new (poll_of setup) here before refl (omega (arith, some, full)) (subst (λ (f : List ℕ). is_compressed f ≡ false) is_front plain)
-        refl row on.given after added (gain_of found) is (subst (λ (f : List ℕ). place_of f before ≡ None) is_front fresh.none) fresh.room (omega (arith, on.begins, full)) far.within far.reaches far.are
-        (on.fed_row ∙ ap (λ n. slice_set mid n (fed (rules_in setup) on.given row)) fresh.last
-        ∙ ap (λ (l : List Row). slice_set l (length before) (fed (rules_in setup) on.given row)) (fresh.added ∙ ap (λ (r : Row). before ++ r ∷ []) (sym same_row)))
-        on.lines
+        row on.ending on.given after added (gain_of found) is (subst (λ (f : List ℕ). place_of f before ≡ None) is_front fresh.none) fresh.room (omega (arith, on.begins, full)) far.ends far.reaches far.are
+        (on.read_row ∙ ap (λ n. slice_set mid n (row_read (rules_in setup) file.size on.ending on.given row)) fresh.last
+        ∙ ap (λ (l : List Row). slice_set l (length before) (row_read (rules_in setup) file.size on.ending on.given row)) (fresh.added ∙ ap (λ (r : Row). before ++ r ∷ []) (sym same_row))
+        ∙ ap (λ n. slice_set (before ++ row ∷ []) (length before) (row_read (rules_in setup) n on.ending on.given row)) full)
+        (on.lines ∙ ap (λ n. lines_read (poll_of setup) n on.ending on.given row) full)
         (far.sums finds_new (ap (λ (r : Row). Some r.offset) (sym is)) refl refl));
     cost = λ seen moment seen_at.
         let here = look_at path seen moment (end_for on.ending file.size (row.offset + length on.given)) false in

@@ -1,5 +1,5 @@
 -- A row that is fed piece by piece is fed all pieces together.
-use Rattle.std.proofs.Common.{◌≡◌, ℕ, ◌+◌, ◌≤◌, List, [], ◌∷◌, ◌++◌, length, drop, All, IsTrue, refl, sym, ap, ◌∙◌, arith, length-append}
+use Rattle.std.proofs.Common.{◌≡◌, ℕ, ◌+◌, ◌≤◌, suc, Option, List, [], ◌∷◌, ◌++◌, length, drop, All, IsTrue, refl, sym, ap, ◌∙◌, arith, length-append}
 use Rattle.std.proofs.lemmas.List.{drop-append-le}
 use Rattle.std.proofs.lemmas.List.Sums.{sum_by-cons}
 use Rattle.entry_model.specs.LogRecord.{LogRecord}
@@ -91,3 +91,18 @@ module _ (poll : Poll) (laws : AreRules poll.rules) where
 
     pub lines_none : lines_of poll [] row ≡ []
     lines_none = ap (λ (entries : List LogRecord). numbered row.id (row.lines + 1) poll.stamp entries) made_none
+
+-- each token uses a byte or more
+few_cuts : (cuts : List Cut) → All (λ (c : Cut). 1 ≤ c.used) cuts → length (texts cuts) ≤ used_by cuts
+few_cuts [] each = omega arith
+few_cuts (first ∷ rest) each =
+    let here : 1 ≤ first.used = each 0 first (omega arith) in
+    omega (arith, here, few_cuts rest (λ k other within. each (suc k) other (omega arith)), sum_by-cons (λ (c : Cut). c.used) first rest)
+
+pub few_tokens : (poll : Poll) → AreRules poll.rules → (given : List ℕ) → length (tokens_of poll.rules given) ≤ used poll.rules given
+few_tokens poll laws given = few_cuts (poll.rules.cuts given) (laws.tokens.each_uses given)
+
+-- numbering leaves as many
+pub length-numbered : (id number : ℕ) (time : Option ℕ) (entries : List LogRecord) → length (numbered id number time entries) ≡ length entries
+length-numbered id number time [] = refl
+length-numbered id number time (entry ∷ entries) = omega (arith, length-numbered id (number + 1) time entries)

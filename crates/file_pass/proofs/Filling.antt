@@ -1,5 +1,5 @@
 -- From bytes that would make the output too long to a look that would.
-use Rattle.std.proofs.Common.{◌≡◌, ℕ, ◌+◌, ◌-◌, ◌<◌, ◌≤◌, List, [], ◌∷◌, ◌++◌, length, take, drop, min, false, refl, sym, ap, subst, ◌∙◌, inl, inr, arith, append_assoc, length-append}
+use Rattle.std.proofs.Common.{◌≡◌, ℕ, ◌+◌, ◌-◌, ◌<◌, ◌≤◌, ◌⊎◌, List, [], ◌∷◌, ◌++◌, length, take, drop, min, false, refl, sym, ap, subst, ◌∙◌, inl, inr, arith, append_assoc, length-append}
 use Rattle.std.proofs.lemmas.Option.{same_Some}
 use Rattle.std.proofs.lemmas.Grind.{flat_map-append}
 use Rattle.std.proofs.lemmas.List.{take-append-drop, take-take}
@@ -13,7 +13,8 @@ use Rattle.standing.specs.Look.{Look, content, front, size, piece, after_look, l
 use Rattle.standing.specs.Marks.{Mark}
 use Rattle.standing.specs.Rows.{Row}
 use Rattle.standing.specs.Rules.{Rules}
-use Rattle.file_pass.specs.Fed.{poll_of, rules_in, last_of}
+use Rattle.file_pass.specs.Fed.{poll_of, rules_in, last_of, CrossesAll}
+use Rattle.file_pass.specs.Flushed.{lines_read}
 use Rattle.file_pass.specs.Full.{Crosses, line_of, lines_text}
 use Rattle.file_pass.specs.LookTaken.{look_at}
 use Rattle.file_pass.specs.Overflow.{RowFills, SeenFills}
@@ -22,8 +23,9 @@ use Rattle.file_pass.specs.Settled.{IsKnown, Settles, admitted}
 use Rattle.file_pass.specs.declared.ending.Ending.TheVariants.{Whole}
 use Rattle.file_pass.specs.declared.ending.OpenFile.{OpenFile}
 use Rattle.file_pass.specs.declared.setup.Setup.{Setup}
-use Rattle.file_pass.proofs.Bridging.{stood_then, new_is}
+use Rattle.file_pass.proofs.Bridging.{piece_is, stood_then, new_is}
 use Rattle.file_pass.proofs.FeedingOn.{lines_on}
+use Rattle.file_pass.proofs.FlushLemmas.{lines_begin, lines_others}
 use Rattle.file_pass.proofs.Listing.{get_set, push_there}
 use Rattle.file_pass.proofs.Looking.{added_known, added_new}
 
@@ -69,6 +71,22 @@ row_fills poll laws here row given limit end full good all stood within crosses 
     let begins = ap (λ (p : List ℕ). lines_of poll p row) (piece_begins here row.offset given all stood within) in
     subst (λ (l : List Mark). Crosses limit end l full) (sym (begins ∙ lines_on poll laws given rest row good)) (crosses_more limit end (lines_of poll given row) _ full crosses)
 
+-- what was read as far as a pass goes is that piece
+piece_all : (here : Look) (offset : ℕ) (given : List ℕ) → here.end ≡ size here → given ≡ take (length given) (drop offset (content here)) → offset + length given ≡ last_of (size here) offset → given ≡ piece here offset
+piece_all here offset given end stood whole = piece_is here offset given stood (omega (arith, end, whole))
+
+-- and so the lines of the look cross the limit
+look_fills : (poll : Poll) (laws : AreRules poll.rules) (here : Look) (file : OpenFile) (row : Row) (given : List ℕ) (limit end full : ℕ) → IsTrue (poll.rules.is_state row.state) → here.end ≡ size here → file.size ≡ size here
+    → given ≡ take (length given) (drop row.offset (content here)) → row.offset + length given ≤ last_of (size here) row.offset
+    → Crosses limit end (lines_of poll given row) full ⊎ CrossesAll poll limit end file given row full → Crosses limit end (lines_read poll (size here) Whole (piece here row.offset) row) full
+look_fills poll laws here file row given limit end full good all size_is stood within (inl part) =
+    let begin = lines_begin poll (size here) Whole (piece here row.offset) row in
+    subst (λ (l : List Mark). Crosses limit end l full) (sym begin.1)
+    (crosses_more limit end (lines_of poll (piece here row.offset) row) begin.0 full (row_fills poll laws here row given limit end full good all stood within part))
+look_fills poll laws here file row given limit end full good all size_is stood within (inr whole) =
+    let is : given ≡ piece here row.offset = piece_all here row.offset given all stood (omega (arith, whole.whole, size_is)) in
+    subst (λ (l : List Mark). Crosses limit end l full) (ap (λ n. lines_read poll n Whole given row) size_is ∙ ap (λ (g : List ℕ). lines_read poll (size here) Whole g row) is) whole.crosses
+
 module _ (setup : Setup) (laws : AreRules (rules_in setup)) (path : List ℕ) (file : OpenFile) (seen_front : List ℕ) (plain : is_compressed seen_front ≡ false) (some : 0 < file.size)
     (before mid : List Row) (place end full : ℕ) (old new : World) (good : (row : Row) → slice_get mid place ≡ Some row → IsTrue ((rules_in setup).is_state row.state)) where
   pub seen_fills : Settles setup file.size path seen_front before (Some place) mid → RowFills (poll_of setup) setup.limit file place mid end full old new
@@ -82,21 +100,22 @@ module _ (setup : Setup) (laws : AreRules (rules_in setup)) (path : List ℕ) (f
         let all : file.size ≡ size here = seen_at.open_at.size_then in
         let stood = stood_then file seen moment old new fills.row.offset fills.given Whole seen_at.open_at (omega (arith, fills.within)) fills.reads in
         let here_plain : is_compressed (front (rules_in setup) here) ≡ false = subst (λ (f : List ℕ). is_compressed f ≡ false) is_front plain in
-        let crosses : Crosses setup.limit end (lines_of (poll_of setup) (piece here fills.row.offset) fills.row) full =
-        row_fills (poll_of setup) laws here fills.row fills.given setup.limit end full (good fills.row fills.at) all stood (omega (arith, all, fills.within)) fills.crosses in
-        let same : (after_look (poll_of setup) here (progress_of before [])).added ≡ lines_of (poll_of setup) (piece here fills.row.offset) fills.row =
+        let crosses : Crosses setup.limit end (lines_read (poll_of setup) (size here) Whole (piece here fills.row.offset) fills.row) full =
+        look_fills (poll_of setup) laws here file fills.row fills.given setup.limit end full (good fills.row fills.at) all all stood (omega (arith, all, fills.within)) fills.crosses in
+        let same : (after_look (poll_of setup) here (progress_of before [])).added ≡ lines_read (poll_of setup) (size here) Whole (piece here fills.row.offset) fills.row =
         elim settles [
           | inl known_there ↦
               (let known : IsKnown (front (rules_in setup) here) before place mid = subst (λ (f : List ℕ). IsKnown f before place mid) is_front known_there in
               let same_row : fills.row ≡ with_front (front (rules_in setup) here) known.row =
               same_Some fills.row (with_front (front (rules_in setup) here) known.row) (sym fills.at ∙ ap (λ (l : List Row). slice_get l place) known.grown ∙ get_set before place known.row (with_front (front (rules_in setup) here) known.row) known.at) in
-              added_known (poll_of setup) here before refl (omega (arith, some, all)) here_plain place known.row known.at known.first_one refl (omega (arith, fills.begins, all, ap (λ (r : Row). r.offset) same_row))
-              ∙ ap (λ (r : Row). lines_of (poll_of setup) (piece here r.offset) r) (sym same_row))
+              added_known (poll_of setup) here before refl (omega (arith, some, all)) here_plain place known.row known.at known.first_one (omega (arith, fills.begins, all, ap (λ (r : Row). r.offset) same_row)) all
+              ∙ sym (lines_others (poll_of setup) (size here) Whole (piece here known.row.offset) (front (rules_in setup) here) known.row.start known.row.born known.row.ends known.row)
+              ∙ ap (λ (r : Row). lines_read (poll_of setup) (size here) Whole (piece here r.offset) r) (sym same_row))
           | inr fresh ↦
               (let added_row : Row = admitted setup file.size path seen_front (length before + 1) in
               let same_row : fills.row ≡ added_row = same_Some fills.row added_row (sym fills.at ∙ ap (λ (l : List Row). slice_get l place) fresh.added ∙ ap (slice_get (before ++ added_row ∷ [])) fresh.last ∙ push_there before added_row) in
-              added_new (poll_of setup) here before refl (omega (arith, some, all)) here_plain refl fills.row (same_row ∙ new_is setup path seen_front file.size (length before + 1) here refl all is_front)
-              (subst (λ (f : List ℕ). place_of f before ≡ None) is_front fresh.none) fresh.room (omega (arith, fills.begins, all)))
+              added_new (poll_of setup) here before refl (omega (arith, some, all)) here_plain fills.row (same_row ∙ new_is setup path seen_front file.size (length before + 1) here refl all is_front)
+              (subst (λ (f : List ℕ). place_of f before ≡ None) is_front fresh.none) fresh.room (omega (arith, fills.begins, all)) all)
         ] in
         subst (λ (l : List Mark). Crosses setup.limit end l full) (sym same) crosses;
   }

@@ -13,7 +13,7 @@ use Rattle.standing.specs.Marks.{Mark}
 use Rattle.standing.specs.Rules.{Rules}
 use Rattle.standing.specs.Tokens.{used}
 use Rattle.file_pass.specs.DiskTerms.{Appends}
-use Rattle.file_pass.specs.Fed.{poll_of, IsReading, ReadsOn, FillsUp, feeding_row, rules_in, last_of}
+use Rattle.file_pass.specs.Fed.{poll_of, IsReading, HasRead, FillsPart, feeding_row, rules_in, last_of}
 use Rattle.file_pass.specs.Full.{Crosses, line_of, lines_text}
 use Rattle.file_pass.specs.Reads.{Reads}
 use Rattle.file_pass.specs.TreeTerms.{HasEnding}
@@ -53,23 +53,24 @@ crosses_later limit end between earlier marks size at crosses = record {
 }
 
 module _ {T D : Type 0} (trees : TreeMeaning T) (disks : DiskMeaning D) (setup : Setup) (laws : AreRules (rules_in setup)) (file : OpenFile) where
-  pub reading_begins : (feeding : Feeding) (end : ℕ) (tree : T) (disk : D) → IsTrue ((rules_in setup).is_state (feeding_row feeding).state) → feeding.offset ≤ last_of file.size feeding.offset
-      → IsReading trees disks setup file feeding feeding end end feeding.offset [] tree tree disk disk
-  reading_begins feeding end tree disk good le = record {
+  pub reading_begins : (feeding : Feeding) (end : ℕ) (tree : T) (disk : D) → IsTrue ((rules_in setup).is_state (feeding_row feeding).state) → feeding.offset ≤ last_of file.size feeding.offset → feeding.carried.items ≡ []
+      → IsReading trees disks setup file feeding feeding end end feeding.offset tree tree disk disk
+  reading_begins feeding end tree disk good le none = record {
     given = [];
     from_is = omega arith;
     within = le;
     row = sym (fed_none (poll_of setup) laws (feeding_row feeding) good);
-    rest = sym (no_rest (used (rules_in setup) []));
+    rest = none ∙ sym (no_rest (used (rules_in setup) []));
+    flushed = refl;
     appends = appends_same disks [] (lines_text (lines_of (poll_of setup) [] (feeding_row feeding))) end end disk disk (sym (ap lines_text (lines_none (poll_of setup) laws (feeding_row feeding) good))) (appends_none disks end disk);
     world = told_same (Reads file.handle.0 feeding.offset file.size [] Whole) (trees.world tree) (λ world. reads_idle file.handle.0 feeding.offset file.size world);
     cause = refl;
   }
 
-  module _ (before mid now : Feeding) (end end_mid end_now from last : ℕ) (carried piece carried_now : List ℕ) (tree tree_mid tree_now : T) (disk disk_mid disk_now : D)
-      (tells : disks.images.tells disk_mid ≡ disks.images.tells disk) (good : IsTrue ((rules_in setup).is_state (feeding_row before).state)) (so_far : IsReading trees disks setup file before mid end end_mid from carried tree tree_mid disk disk_mid) where
+  module _ (before mid now : Feeding) (end end_mid end_now from last : ℕ) (piece : List ℕ) (tree tree_mid tree_now : T) (disk disk_mid disk_now : D)
+      (tells : disks.images.tells disk_mid ≡ disks.images.tells disk) (good : IsTrue ((rules_in setup).is_state (feeding_row before).state)) (so_far : IsReading trees disks setup file before mid end end_mid from tree tree_mid disk disk_mid) where
     -- what is fed now
-    pub fed_now : carried ++ piece ≡ unused (poll_of setup) so_far.given piece
+    pub fed_now : mid.carried.items ++ piece ≡ unused (poll_of setup) so_far.given piece
     fed_now = ap (λ l. l ++ piece) so_far.rest
 
     pub world_on : (ending : Ending) → from + length piece ≤ last → last ≤ file.size → Told (Reads file.handle.0 from last piece ending) (trees.world tree_mid) (trees.world tree_now) → Told (Reads file.handle.0 before.offset file.size (so_far.given ++ piece) ending) (trees.world tree) (trees.world tree_now)
@@ -80,30 +81,31 @@ module _ {T D : Type 0} (trees : TreeMeaning T) (disks : DiskMeaning D) (setup :
         (subst (λ n. Reads file.handle.0 n file.size piece ending y z) so_far.from_is (reads_within file.handle.0 from last file.size piece ending y z le second)))
         so_far.world read
 
-    pub row_on : feeding_row now ≡ fed (rules_in setup) (carried ++ piece) (feeding_row mid) → feeding_row now ≡ fed (rules_in setup) (so_far.given ++ piece) (feeding_row before)
+    pub row_on : feeding_row now ≡ fed (rules_in setup) (mid.carried.items ++ piece) (feeding_row mid) → feeding_row now ≡ fed (rules_in setup) (so_far.given ++ piece) (feeding_row before)
     row_on row =
         row ∙ ap (λ l. fed (rules_in setup) l (feeding_row mid)) fed_now
         ∙ ap (λ r. fed (rules_in setup) (unused (poll_of setup) so_far.given piece) r) so_far.row
         ∙ sym (fed_on (poll_of setup) laws so_far.given piece (feeding_row before) good)
 
-    pub lines_now : lines_of (poll_of setup) so_far.given (feeding_row before) ++ lines_of (poll_of setup) (carried ++ piece) (feeding_row mid) ≡ lines_of (poll_of setup) (so_far.given ++ piece) (feeding_row before)
+    pub lines_now : lines_of (poll_of setup) so_far.given (feeding_row before) ++ lines_of (poll_of setup) (mid.carried.items ++ piece) (feeding_row mid) ≡ lines_of (poll_of setup) (so_far.given ++ piece) (feeding_row before)
     lines_now =
         ap (λ l. lines_of (poll_of setup) so_far.given (feeding_row before) ++ lines_of (poll_of setup) l (feeding_row mid)) fed_now
         ∙ ap (λ r. lines_of (poll_of setup) so_far.given (feeding_row before) ++ lines_of (poll_of setup) (unused (poll_of setup) so_far.given piece) r) so_far.row
         ∙ sym (lines_on (poll_of setup) laws so_far.given piece (feeding_row before) good)
 
     pub reading_on : from + length piece ≤ last → last ≡ last_of file.size before.offset → Told (Reads file.handle.0 from last piece Whole) (trees.world tree_mid) (trees.world tree_now) → trees.faults tree_now ≡ trees.faults tree_mid
-        → feeding_row now ≡ fed (rules_in setup) (carried ++ piece) (feeding_row mid) → carried_now ≡ drop (used (rules_in setup) (carried ++ piece)) (carried ++ piece)
-        → Appends disks (lines_text (lines_of (poll_of setup) (carried ++ piece) (feeding_row mid))) end_mid end_now disk_mid disk_now
-        → IsReading trees disks setup file before now end end_now (from + length piece) carried_now tree tree_now disk disk_now
-    reading_on within last_is read stood row rest appends = record {
+        → feeding_row now ≡ fed (rules_in setup) (mid.carried.items ++ piece) (feeding_row mid) → now.carried.items ≡ drop (used (rules_in setup) (mid.carried.items ++ piece)) (mid.carried.items ++ piece)
+        → now.flushed ≡ mid.flushed → Appends disks (lines_text (lines_of (poll_of setup) (mid.carried.items ++ piece) (feeding_row mid))) end_mid end_now disk_mid disk_now
+        → IsReading trees disks setup file before now end end_now (from + length piece) tree tree_now disk disk_now
+    reading_on within last_is read stood row rest flushed appends = record {
       given = so_far.given ++ piece;
       from_is = omega (arith, so_far.from_is, length-append so_far.given piece);
       within = omega (arith, within, last_is);
       row = row_on row;
+      flushed = flushed ∙ so_far.flushed;
       rest = rest ∙ ap (λ l. drop (used (rules_in setup) l) l) fed_now ∙ rest_on (poll_of setup) laws so_far.given piece;
-      appends = appends_same disks (lines_text (lines_of (poll_of setup) so_far.given (feeding_row before)) ++ lines_text (lines_of (poll_of setup) (carried ++ piece) (feeding_row mid))) (lines_text (lines_of (poll_of setup) (so_far.given ++ piece) (feeding_row before))) end end_now disk disk_now
-          (sym (text_append (lines_of (poll_of setup) so_far.given (feeding_row before)) (lines_of (poll_of setup) (carried ++ piece) (feeding_row mid))) ∙ ap lines_text lines_now)
+      appends = appends_same disks (lines_text (lines_of (poll_of setup) so_far.given (feeding_row before)) ++ lines_text (lines_of (poll_of setup) (mid.carried.items ++ piece) (feeding_row mid))) (lines_text (lines_of (poll_of setup) (so_far.given ++ piece) (feeding_row before))) end end_now disk disk_now
+          (sym (text_append (lines_of (poll_of setup) so_far.given (feeding_row before)) (lines_of (poll_of setup) (mid.carried.items ++ piece) (feeding_row mid))) ∙ ap lines_text lines_now)
           (appends_then disks _ _ end end_mid end_now disk disk_mid disk_now tells so_far.appends appends);
       world = world_on Whole within (omega (arith, last_is)) read;
       cause = stood ∙ so_far.cause;
@@ -111,11 +113,11 @@ module _ {T D : Type 0} (trees : TreeMeaning T) (disks : DiskMeaning D) (setup :
 
     -- the line with which the output is too long
     pub fills_up : (size : ℕ) → from + length piece ≤ last → last ≡ last_of file.size before.offset → Told (Reads file.handle.0 from last piece Whole) (trees.world tree_mid) (trees.world tree_now) → trees.faults tree_now ≡ trees.faults tree_mid
-        → Crosses setup.limit end_mid (lines_of (poll_of setup) (carried ++ piece) (feeding_row mid)) size → FillsUp trees setup file before end size tree tree_now
+        → Crosses setup.limit end_mid (lines_of (poll_of setup) (mid.carried.items ++ piece) (feeding_row mid)) size → FillsPart trees setup file before end size tree tree_now
     fills_up size within last_is read stood crosses = record {
       given = so_far.given ++ piece;
       within = omega (arith, so_far.from_is, length-append so_far.given piece, within, last_is);
-      crosses = subst (λ l. Crosses setup.limit end l size) lines_now (crosses_later setup.limit end end_mid (lines_of (poll_of setup) so_far.given (feeding_row before)) (lines_of (poll_of setup) (carried ++ piece) (feeding_row mid)) size so_far.appends.end_is crosses);
+      crosses = subst (λ l. Crosses setup.limit end l size) lines_now (crosses_later setup.limit end end_mid (lines_of (poll_of setup) so_far.given (feeding_row before)) (lines_of (poll_of setup) (mid.carried.items ++ piece) (feeding_row mid)) size so_far.appends.end_is crosses);
       world = world_on Whole within (omega (arith, last_is)) read;
       stood = stood ∙ so_far.cause;
     }
@@ -123,13 +125,15 @@ module _ {T D : Type 0} (trees : TreeMeaning T) (disks : DiskMeaning D) (setup :
     -- a read that gave nothing
     pub reads_on : (ending : Ending) → piece ≡ [] → last ≡ last_of file.size before.offset → (ending ≡ Whole → from ≡ last) → ((ending ≡ Whole → ⊥) → from < last) → from ≤ last
         → Told (Reads file.handle.0 from last piece ending) (trees.world tree_mid) (trees.world tree_now) → HasEnding ending (trees.faults tree_mid) (trees.faults tree_now)
-        → ReadsOn trees disks setup file before mid end end_mid ending tree tree_now disk disk_mid
+        → HasRead trees disks setup file before mid end end_mid ending tree tree_now disk disk_mid
     reads_on ending none last_is whole partly le read cause = record {
       given = so_far.given;
       within = omega (arith, so_far.from_is, last_is, le);
       whole = λ is. omega (arith, so_far.from_is, last_is, whole is);
       partly = λ not. omega (arith, so_far.from_is, last_is, partly not);
       row = so_far.row;
+      rest = so_far.rest;
+      stood = so_far.flushed;
       appends = so_far.appends;
       world = subst (λ l. Told (Reads file.handle.0 before.offset file.size l ending) (trees.world tree) (trees.world tree_now)) (ap (λ (p : List ℕ). so_far.given ++ p) none ∙ append-nil so_far.given) (world_on ending (omega (arith, ap length none, le)) (omega (arith, last_is)) read);
       cause = subst (λ n. HasEnding ending n (trees.faults tree_now)) so_far.cause cause;

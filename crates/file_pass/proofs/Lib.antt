@@ -1,8 +1,10 @@
 pub mod FeedingOn
+pub mod FlushLemmas
 pub mod ReadingLemmas
 pub mod DiskLemmas
 pub mod TreeLemmas
 pub mod GoingOn
+pub mod Waiting
 pub mod Crossing
 pub mod PieceLemmas
 pub mod Listing

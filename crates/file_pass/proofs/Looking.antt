@@ -7,18 +7,21 @@ use Rattle.std.specs.Prelude.{None, Some, slice_get, slice_set, nat_lt}
 use Rattle.file_tracker.specs.Places.{place_of, with_front}
 use Rattle.file_tracker.specs.Limits.{row_limit}
 use Rattle.standing.proofs.FindLemmas.{is_skipped, is_nothing, is_compressed_file, is_row, is_new, is_no_room}
-use Rattle.standing.proofs.ReadLemmas.{row_after-read, lines_added-read}
 use Rattle.standing.specs.Poll.{Poll}
 use Rattle.standing.specs.Limits.{most_taken, is_compressed}
-use Rattle.standing.specs.Look.{all_taken, Look, Outcome, Progress, skips, finds_nothing, finds_compressed, finds_no_room, finds_new, finds_row, front, size, piece, fed, lines_of, new_row, row_after, lines_added, outcome, after_look, progress_after, ReadsOn}
+use Rattle.standing.specs.Look.{all_taken, Look, Outcome, Progress, skips, finds_nothing, finds_compressed, finds_no_room, finds_new, finds_row, front, size, piece, new_row, row_after, lines_added, outcome, after_look, progress_after, ReadsOn}
 use Rattle.standing.specs.Marks.{Mark}
 use Rattle.standing.specs.Pass.{is_short}
 use Rattle.standing.specs.Rows.{Row}
 use Rattle.standing.specs.Rules.{Rules}
 use Rattle.standing.specs.Sums.{is_filled}
+use Rattle.file_pass.specs.Flushed.{row_read, lines_read}
 use Rattle.file_pass.specs.Gain.{Gain, no_gain, one_file, one_if, with_taken}
 use Rattle.file_pass.specs.LookTaken.{IsGainOf, TakesLook}
 use Rattle.file_pass.specs.Seen.{progress_of}
+use Rattle.file_pass.specs.declared.ending.Ending.{Ending}
+use Rattle.file_pass.specs.declared.ending.Ending.TheVariants.{Whole}
+use Rattle.file_pass.proofs.FlushLemmas.{row_after_read, row_taken, lines_added_read, lines_taken}
 use Rattle.file_pass.proofs.Listing.{set_twice}
 
 pub filled_some : (here : Look) → 0 < size here → is_filled here ≡ true
@@ -86,6 +89,12 @@ look_with poll here before after added gain count taken = record {
     full = taken.sums.full;
   };
 }
+
+-- the look ends where reading did
+pub record EndsAt (here : Look) (ending : Ending) : Type 0 where
+  pub within : here.end ≤ size here
+  pub whole : ending ≡ Whole → here.end ≡ size here
+  pub partly : (ending ≡ Whole → ⊥) → here.end < size here
 
 module _ (poll : Poll) (here : Look) (before : List Row) where
   -- an outcome that leaves the rows
@@ -162,8 +171,10 @@ module _ (poll : Poll) (here : Look) (before : List Row) where
         pub is_known : outcome poll.rules before here ≡ finds_row place row
         is_known = is_row poll.rules before here place row read some plain known at
 
-        pub added_known : poll.rules.flush_after ≡ 0 → row.offset ≤ size here → (after_look poll here (progress_of before [])).added ≡ lines_of poll (piece here row.offset) row
-        added_known no_flush from = ap (λ (o : Outcome). (progress_after poll here (progress_of before []) o).added) is_known ∙ lines_added-read poll here row no_flush from
+        pub added_known : row.offset ≤ size here → here.end ≡ size here → (after_look poll here (progress_of before [])).added ≡ lines_read poll (size here) Whole (piece here row.offset) row
+        added_known from end =
+            ap (λ (o : Outcome). (progress_after poll here (progress_of before []) o).added) is_known ∙ lines_added_read poll here row from
+            ∙ lines_taken poll here row Whole from (λ _. end) (λ not. absurd (not refl))
 
         pub takes_short : size here < row.offset → here.end ≡ size here
             → TakesLook poll here before (slice_set before place (with_front (front poll.rules here) row)) [] (record one_file { shrunk = 1 })
@@ -189,56 +200,63 @@ module _ (poll : Poll) (here : Look) (before : List Row) where
               });
         }
 
-        pub takes_on : poll.rules.flush_after ≡ 0 → (given : List ℕ) (after : List Row) (added : List Mark) (gain : Gain) → row.offset ≤ size here → here.end ≤ size here → row.offset ≤ here.end → given ≡ piece here row.offset
-            → after ≡ slice_set (slice_set before place (with_front (front poll.rules here) row)) place (fed poll.rules given (with_front (front poll.rules here) row))
-            → added ≡ lines_of poll given row → IsGainOf poll here (finds_row place row) added gain → TakesLook poll here before after added gain
-        takes_on no_flush given after added gain from within reaches are rows lines sums = record {
-          end_within = within;
+        pub takes_on : (ending : Ending) (given : List ℕ) (after : List Row) (added : List Mark) (gain : Gain) → row.offset ≤ size here → EndsAt here ending → row.offset ≤ here.end → given ≡ piece here row.offset
+            → after ≡ slice_set (slice_set before place (with_front (front poll.rules here) row)) place (row_read poll.rules (size here) ending given (with_front (front poll.rules here) row))
+            → added ≡ lines_read poll (size here) ending given row → IsGainOf poll here (finds_row place row) added gain → TakesLook poll here before after added gain
+        takes_on ending given after added gain from ends reaches are rows lines sums = record {
+          end_within = ends.within;
           reads_on = subst (λ (o : Outcome). ReadsOn poll here o) (sym is_known) (λ _. reaches);
           leads_to =
+              let grown : Row = with_front (front poll.rules here) row in
               ap (λ (o : Outcome). progress_after poll here (progress_of before []) o) is_known
               ∙ same_progress
-              (ap (slice_set before place) (row_after-read poll here row no_flush from ∙ ap (λ (g : List ℕ). fed poll.rules g (with_front (front poll.rules here) row)) (sym are))
-              ∙ sym (set_twice before place (with_front (front poll.rules here) row) (fed poll.rules given (with_front (front poll.rules here) row)))
+              (ap (slice_set before place)
+              (row_after_read poll here row from ∙ row_taken poll here grown ending from ends.whole ends.partly ∙ ap (λ (g : List ℕ). row_read poll.rules (size here) ending g grown) (sym are))
+              ∙ sym (set_twice before place grown (row_read poll.rules (size here) ending given grown))
               ∙ sym rows)
-              (omega (arith, ap length rows, length-set (slice_set before place (with_front (front poll.rules here) row)) place (fed poll.rules given (with_front (front poll.rules here) row)), length-set before place (with_front (front poll.rules here) row)))
-              (lines_added-read poll here row no_flush from ∙ ap (λ (g : List ℕ). lines_of poll g row) (sym are) ∙ sym lines);
+              (omega (arith, ap length rows, length-set (slice_set before place grown) place (row_read poll.rules (size here) ending given grown), length-set before place grown))
+              (lines_added_read poll here row from ∙ lines_taken poll here row ending from ends.whole ends.partly ∙ ap (λ (g : List ℕ). lines_read poll (size here) ending g row) (sym are) ∙ sym lines);
           sums = subst (λ (o : Outcome). IsGainOf poll here o added gain) (sym is_known) sums;
         }
 
       pub is_fresh : place_of (front poll.rules here) before ≡ None → length before < row_limit → outcome poll.rules before here ≡ finds_new
       is_fresh none room = is_new poll.rules before here read some plain none room
 
-      pub added_new : poll.rules.flush_after ≡ 0 → (row : Row) → row ≡ new_row poll here (length before + 1) → place_of (front poll.rules here) before ≡ None → length before < row_limit → row.offset ≤ size here
-          → (after_look poll here (progress_of before [])).added ≡ lines_of poll (piece here row.offset) row
-      added_new no_flush row is none room from =
+      pub added_new : (row : Row) → row ≡ new_row poll here (length before + 1) → place_of (front poll.rules here) before ≡ None → length before < row_limit → row.offset ≤ size here → here.end ≡ size here
+          → (after_look poll here (progress_of before [])).added ≡ lines_read poll (size here) Whole (piece here row.offset) row
+      added_new row is none room from end =
+          let fresh : Row = new_row poll here (length before + 1) in
           let new_is : outcome poll.rules before here ≡ finds_new = is_fresh none room in
+          let begins : fresh.offset ≤ size here = omega (arith, from, ap (λ (r : Row). r.offset) is) in
           ap (λ (o : Outcome). (progress_after poll here (progress_of before []) o).added) new_is
-          ∙ lines_added-read poll here (new_row poll here (length before + 1)) no_flush (omega (arith, from, ap (λ (r : Row). r.offset) is))
-          ∙ ap (λ (r : Row). lines_of poll (piece here r.offset) r) (sym is)
+          ∙ lines_added_read poll here fresh begins
+          ∙ lines_taken poll here fresh Whole begins (λ _. end) (λ not. absurd (not refl))
+          ∙ ap (λ (r : Row). lines_read poll (size here) Whole (piece here r.offset) r) (sym is)
 
       -- a new row is read on
-      pub takes_new : poll.rules.flush_after ≡ 0 → (row : Row) (given : List ℕ) (after : List Row) (added : List Mark) (gain : Gain) → row ≡ new_row poll here (length before + 1)
-          → place_of (front poll.rules here) before ≡ None → length before < row_limit → row.offset ≤ size here → here.end ≤ size here → row.offset ≤ here.end → given ≡ piece here row.offset
-          → after ≡ slice_set (before ++ row ∷ []) (length before) (fed poll.rules given row)
-          → added ≡ lines_of poll given row → IsGainOf poll here finds_new added gain → TakesLook poll here before after added gain
-      takes_new no_flush row given after added gain is none room from within reaches are rows lines sums =
+      pub takes_new : (row : Row) (ending : Ending) (given : List ℕ) (after : List Row) (added : List Mark) (gain : Gain) → row ≡ new_row poll here (length before + 1)
+          → place_of (front poll.rules here) before ≡ None → length before < row_limit → row.offset ≤ size here → EndsAt here ending → row.offset ≤ here.end → given ≡ piece here row.offset
+          → after ≡ slice_set (before ++ row ∷ []) (length before) (row_read poll.rules (size here) ending given row)
+          → added ≡ lines_read poll (size here) ending given row → IsGainOf poll here finds_new added gain → TakesLook poll here before after added gain
+      takes_new row ending given after added gain is none room from ends reaches are rows lines sums =
           let fresh : Row = new_row poll here (length before + 1) in
           let at : row.offset ≡ fresh.offset = ap (λ (r : Row). r.offset) is in
           let new_is : outcome poll.rules before here ≡ finds_new = is_fresh none room in
           let fresh_begins : fresh.offset ≤ size here = omega (arith, at, from) in
-          let read_then : row_after poll here fresh ≡ fed poll.rules given row =
-          row_after-read poll here fresh no_flush fresh_begins ∙ ap (λ (g : List ℕ). fed poll.rules g fresh) (sym (are ∙ ap (piece here) at)) ∙ ap (fed poll.rules given) (sym is) in
+          let read_then : row_after poll here fresh ≡ row_read poll.rules (size here) ending given row =
+          row_after_read poll here fresh fresh_begins ∙ row_taken poll here fresh ending fresh_begins ends.whole ends.partly
+          ∙ ap (λ (g : List ℕ). row_read poll.rules (size here) ending g fresh) (sym (are ∙ ap (piece here) at)) ∙ ap (row_read poll.rules (size here) ending given) (sym is) in
           record {
-            end_within = within;
+            end_within = ends.within;
             reads_on = subst (λ (o : Outcome). ReadsOn poll here o) (sym new_is) (λ _. omega (arith, at, reaches));
             leads_to =
                 ap (λ (o : Outcome). progress_after poll here (progress_of before []) o) new_is
                 ∙ same_progress
                 (ap (λ (r : Row). before ++ r ∷ []) read_then
-                ∙ sym (set-append_seam before row [] (fed poll.rules given row))
+                ∙ sym (set-append_seam before row [] (row_read poll.rules (size here) ending given row))
                 ∙ sym rows)
-                (omega (arith, ap length rows, length-set (before ++ row ∷ []) (length before) (fed poll.rules given row), length_push before row))
-                (lines_added-read poll here fresh no_flush fresh_begins ∙ ap (λ (g : List ℕ). lines_of poll g fresh) (sym (are ∙ ap (piece here) at)) ∙ ap (lines_of poll given) (sym is) ∙ sym lines);
+                (omega (arith, ap length rows, length-set (before ++ row ∷ []) (length before) (row_read poll.rules (size here) ending given row), length_push before row))
+                (lines_added_read poll here fresh fresh_begins ∙ lines_taken poll here fresh ending fresh_begins ends.whole ends.partly
+                ∙ ap (λ (g : List ℕ). lines_read poll (size here) ending g fresh) (sym (are ∙ ap (piece here) at)) ∙ ap (lines_read poll (size here) ending given) (sym is) ∙ sym lines);
             sums = subst (λ (o : Outcome). IsGainOf poll here o added gain) (sym new_is) sums;
           }

@@ -1,22 +1,18 @@
 -- The numbers of a pass, whatever is read.
 use Rattle.std.proofs.Common.{◌≡◌, ℕ, ◌+◌, ◌<◌, ◌≤◌, ◌^◌, suc, List, [], ◌∷◌, length, refl, sym, ap, subst, ◌∙◌, inl, inr, arith, length-append}
 use Rattle.std.proofs.lemmas.List.{length-set, length_push}
-use Rattle.std.proofs.lemmas.List.Sums.{sum_by-cons}
 use Rattle.checkpoint_store.specs.Rules.{NoneFalls, Rise, first_point, last_point}
 use Rattle.file_tracker.specs.Limits.{row_limit}
 use Rattle.file_tracker.specs.declared.ends.End.{End}
 use Rattle.file_pass.specs.declared.counts.Counts.{Counts}
 use Rattle.file_pass.specs.declared.taking.Taking.{Taking}
-use Rattle.std.specs.Prelude.{Option, None, Some, IfSome, IsTrue, All, slice_get, slice_set, ◌&&◌}
-use Rattle.file_tracker.specs.Places.{with_front, with_progress}
+use Rattle.std.specs.Prelude.{Option, None, Some, IfSome, IsTrue, slice_get, slice_set, ◌&&◌}
+use Rattle.file_tracker.specs.Places.{with_front, with_look, with_progress}
 use Rattle.file_tracker.specs.declared.row.Row.{Row}
-use Rattle.line_splitter.specs.Cuts.{Cut}
 use Rattle.standing.specs.Poll.{Poll}
 use Rattle.standing.specs.AreRules.{AreRules}
-use Rattle.standing.specs.Marks.{Mark, numbered}
+use Rattle.standing.specs.Marks.{Mark}
 use Rattle.standing.specs.Rules.{Rules}
-use Rattle.standing.specs.Tokens.{tokens_of, used, used_by, texts}
-use Rattle.entry_model.specs.LogRecord.{LogRecord}
 use Rattle.state_codec.specs.Rules.{IsShortText}
 use Rattle.file_pass.specs.Fed.{poll_of, rules_in}
 use Rattle.file_pass.specs.Full.{line_of, lines_text}
@@ -119,13 +115,13 @@ module _ (setup : Setup) (size : ℕ) (path front : List ℕ) (before after : Ta
       (omega (arith, ap (λ (rows : List Row). length rows) fresh.added, length_push before.tracker (admitted setup size path front (length before.tracker + 1)), fresh.room))
 
 -- a row that was read on
-pub sane_progress : (poll : Poll) (end end_after : ℕ) (rows after : List Row) (place : ℕ) (row : Row) (far cut made : ℕ) (state : List ℕ) → AreSaneRows poll end rows → end ≤ end_after → slice_get rows place ≡ Some row
-    → after ≡ slice_set rows place (with_progress far cut made state row) → row.offset ≤ far → far ≤ 2 ^ 62 → row.start + cut ≤ far → row.records ≤ cut → row.lines ≤ made → made ≤ end_after → IsTrue (poll.rules.is_state state) → length state < 2 ^ 32 → AreSaneRows poll end_after after
-sane_progress poll end end_after rows after place row far cut made state sane later at is gone far_within few cut_rises made_rises lines good short k other there =
-    elim (set_cases rows place k (with_progress far cut made state row) other (sym (ap (λ (l : List Row). slice_get l k) is) ∙ there)) [
+pub sane_progress : (poll : Poll) (end end_after : ℕ) (rows after : List Row) (place : ℕ) (row : Row) (far cut made : ℕ) (state : List ℕ) (seen quiet : ℕ) → AreSaneRows poll end rows → end ≤ end_after → slice_get rows place ≡ Some row
+    → after ≡ slice_set rows place (with_look seen quiet (with_progress far cut made state row)) → seen < 2 ^ 64 → quiet < 2 ^ 32 → row.offset ≤ far → far ≤ 2 ^ 62 → row.start + cut ≤ far → row.records ≤ cut → row.lines ≤ made → made ≤ end_after → IsTrue (poll.rules.is_state state) → length state < 2 ^ 32 → AreSaneRows poll end_after after
+sane_progress poll end end_after rows after place row far cut made state seen quiet sane later at is seen_within quiet_within gone far_within few cut_rises made_rises lines good short k other there =
+    elim (set_cases rows place k (with_look seen quiet (with_progress far cut made state row)) other (sym (ap (λ (l : List Row). slice_get l k) is) ∙ there)) [
       | inl here ↦ (
           let was = sane place row at in
-          let on : IsSaneRow poll end_after place (with_progress far cut made state row) = record {
+          let on : IsSaneRow poll end_after place (with_look seen quiet (with_progress far cut made state row)) = record {
             id = was.id;
             path = was.path;
             front = was.front;
@@ -139,8 +135,8 @@ sane_progress poll end end_after rows after place row far cut made state sane la
               born = was.parts.born;
               parts = was.parts.parts;
               rises = rises_on (first_point row) row.ends (last_point row) (record { offset = far; records = cut; lines = made }) was.parts.rises (record { offset = gone; records = cut_rises; lines = made_rises });
-              seen = was.parts.seen;
-              quiet = was.parts.quiet;
+              seen = seen_within;
+              quiet = quiet_within;
             };
           } in
           rw (here.0, here.1) on)
@@ -154,21 +150,7 @@ sane_later poll end end_after rows sane later k row at =
     let was = sane k row at in
     record { id = was.id; path = was.path; front = was.front; start = was.start; offset = was.offset; records = was.records; lines = omega (arith, was.lines, later); state = was.state; short = was.short; parts = was.parts }
 
--- each token uses a byte or more
-few_cuts : (cuts : List Cut) → All (λ (c : Cut). 1 ≤ c.used) cuts → length (texts cuts) ≤ used_by cuts
-few_cuts [] each = omega arith
-few_cuts (first ∷ rest) each =
-    let here : 1 ≤ first.used = each 0 first (omega arith) in
-    omega (arith, here, few_cuts rest (λ k other within. each (suc k) other (omega arith)), sum_by-cons (λ (c : Cut). c.used) first rest)
-
-pub few_tokens : (poll : Poll) → AreRules poll.rules → (given : List ℕ) → length (tokens_of poll.rules given) ≤ used poll.rules given
-few_tokens poll laws given = few_cuts (poll.rules.cuts given) (laws.tokens.each_uses given)
-
 -- each line has a byte or more
 pub text_long : ((mark : Mark) → 0 < length (line_of mark)) → (marks : List Mark) → length marks ≤ length (lines_text marks)
 text_long filled [] = omega arith
 text_long filled (first ∷ rest) = omega (arith, filled first, text_long filled rest, length-append (line_of first) (lines_text rest))
-
-pub length-numbered : (id number : ℕ) (time : Option ℕ) (entries : List LogRecord) → length (numbered id number time entries) ≡ length entries
-length-numbered id number time [] = refl
-length-numbered id number time (entry ∷ entries) = omega (arith, length-numbered id (number + 1) time entries)

@@ -3,12 +3,15 @@ pub mod TreeTerms
 pub mod PassCause
 pub mod DiskTerms
 pub mod Full
+pub mod Flushed
 pub mod Fed
 pub mod Seen
 pub mod Gain
 pub mod Cost
 pub mod Sane
+pub mod Grown
 pub mod Unchanged
+pub mod Looks
 pub mod Settled
 pub mod Taken
 pub mod RowTaken

@@ -1,5 +1,5 @@
 -- The output would be too long: with which looks it would.
-use Rattle.std.specs.Prelude.{◌≡◌, ℕ, ◌+◌, ◌≤◌, List, [], ◌∷◌, ◌++◌, length, map, reverse, take, Bool, false, Some, slice_get}
+use Rattle.std.specs.Prelude.{◌≡◌, ◌⊎◌, ℕ, ◌+◌, ◌≤◌, List, [], ◌∷◌, ◌++◌, length, map, reverse, take, Bool, false, Some, slice_get}
 use Rattle.file_tracker.specs.declared.row.Row.{Row}
 use Rattle.outside.specs.Moment.{Moves}
 use Rattle.outside.specs.Seen.{looked, missed, left_unlisted}
@@ -9,7 +9,7 @@ use Rattle.standing.specs.Look.{Look, ComesAt, after_look, lines_of, size}
 use Rattle.standing.specs.Looks.{Come, ReadOn, progress_by}
 use Rattle.standing.specs.Moments.{IsLater}
 use Rattle.standing.specs.Rules.{Rules}
-use Rattle.file_pass.specs.Fed.{last_of}
+use Rattle.file_pass.specs.Fed.{last_of, CrossesAll}
 use Rattle.file_pass.specs.Full.{Crosses}
 use Rattle.file_pass.specs.LookTaken.{look_at, IsOpenAt, IsSeenAt}
 use Rattle.file_pass.specs.Reads.{Reads}
@@ -18,14 +18,14 @@ use Rattle.file_pass.specs.Turns.{Turn, looks_at, path_of, looks_of, misses_of}
 use Rattle.file_pass.specs.declared.ending.Ending.TheVariants.{Whole}
 use Rattle.file_pass.specs.declared.ending.OpenFile.{OpenFile}
 
--- with a line of the bytes that were read for the row at this place
+-- with a line of the bytes that were read for the row at this place, or of what waited and was flushed
 pub record RowFills (poll : Poll) (limit : ℕ) (file : OpenFile) (place : ℕ) (rows : List Row) (end full : ℕ) (old new : World) : Type 0 where
   pub row : Row
   pub at : slice_get rows place ≡ Some row
   pub begins : row.offset ≤ file.size
   pub given : List ℕ
   pub within : row.offset + length given ≤ last_of file.size row.offset
-  pub crosses : Crosses limit end (lines_of poll given row) full
+  pub crosses : Crosses limit end (lines_of poll given row) full ⊎ CrossesAll poll limit end file given row full
   pub reads : Reads file.handle.0 row.offset file.size given Whole old new
 
 -- with a line of those that the look adds

@@ -4,10 +4,10 @@ use Rattle.file_tracker.specs.declared.row.Row.{Row}
 use Rattle.outside.specs.World.{World}
 use Rattle.standing.specs.Poll.{Poll}
 use Rattle.standing.specs.Limits.{most_taken}
-use Rattle.standing.specs.Look.{fed, lines_of}
 use Rattle.standing.specs.Marks.{Mark}
 use Rattle.standing.specs.Rules.{Rules}
 use Rattle.file_pass.specs.Fed.{last_of}
+use Rattle.file_pass.specs.Flushed.{row_read, lines_read}
 use Rattle.file_pass.specs.Gain.{Gain}
 use Rattle.file_pass.specs.Reads.{Reads}
 use Rattle.file_pass.specs.declared.ending.Ending.{Ending}
@@ -24,8 +24,8 @@ pub record IsShorter (file : OpenFile) (row : Row) (before after : List Row) (ad
   pub is : found ≡ Shorter
   pub still : new ≡ old
 
--- These bytes were read from its offset on, and their tokens taken. `more`: it was read as far as one pass goes, and there
--- is more.
+-- These bytes were read from its offset on, and their tokens taken, and what waited was flushed where the file has stood still for
+-- so many looks. `more`: it was read as far as one pass goes, and there is more.
 pub record IsReadOn (poll : Poll) (file : OpenFile) (place : ℕ) (row : Row) (before after : List Row) (added : List Mark) (found : Found) (old new : World) : Type 0 where
   pub begins : row.offset ≤ file.size
   pub given : List ℕ
@@ -34,8 +34,8 @@ pub record IsReadOn (poll : Poll) (file : OpenFile) (place : ℕ) (row : Row) (b
   pub within : row.offset + length given ≤ last_of file.size row.offset
   pub whole : ending ≡ Whole → row.offset + length given ≡ last_of file.size row.offset
   pub partly : (ending ≡ Whole → ⊥) → row.offset + length given < last_of file.size row.offset
-  pub fed_row : after ≡ slice_set before place (fed poll.rules given row)
-  pub lines : added ≡ lines_of poll given row
+  pub read_row : after ≡ slice_set before place (row_read poll.rules file.size ending given row)
+  pub lines : added ≡ lines_read poll file.size ending given row
   pub is : found ≡ Read ending more (length added)
   pub left : ending ≡ Whole → more ≡ nat_lt (row.offset + most_taken) file.size
   pub not_left : (ending ≡ Whole → ⊥) → more ≡ false

@@ -1,8 +1,9 @@
 // From the bytes of one file to lines of the output.
-ghost use Rattle.std.specs.Prelude.{◌≡◌, ◌+◌, ◌-◌, ◌<◌, ◌≤◌, ◌^◌, ℕ, List, [], ◌++◌, length, drop, Err, IsTrue, IfOk, OnOk};
+ghost use Rattle.std.specs.Prelude.{◌≡◌, ◌+◌, ◌-◌, ◌<◌, ◌≤◌, ◌^◌, ℕ, List, [], ◌++◌, false, length, Err, IsTrue, IfOk, OnOk};
 ghost use Rattle.outside.specs.declared.disk.DiskFile.{DiskFile};
 ghost use Rattle.file_pass.specs.DiskTerms.{Appends, KeepsDisk};
-ghost use Rattle.file_pass.specs.Fed.{poll_of, FillsUp, IsSane, ReadsOn, feeding_row, last_of, rules_in};
+ghost use Rattle.file_pass.specs.Fed.{poll_of, FillsPart, FillsUp, HasRead, IsSane, ReadsOn, feeding_row, last_of, rules_in};
+ghost use Rattle.file_pass.specs.Flushed.{waiting};
 ghost use Rattle.file_pass.specs.Full.{Crosses, lines_text};
 ghost use Rattle.file_pass.specs.PassCause.{HasPassCause};
 ghost use Rattle.file_pass.specs.TreeTerms.{KeepsTree};
@@ -13,10 +14,12 @@ ghost use Rattle.standing.specs.Tokens.{used};
 
 use crate::ending::{Ending, OpenFile};
 use crate::fault::PassFault;
+use crate::flushing::{look_on, may_flush};
 use crate::output::append;
 use crate::reading::read_piece;
 use crate::setup::Setup;
 use entry_model::Text;
+use idle_flush::Idle;
 use outside::{Disk, Tree};
 use pipeline::FileState;
 use pipeline::laws::{a_pipeline_is_rules, a_row_is_fed_by_the_rules, a_row_tells_its_state};
@@ -32,10 +35,17 @@ pub(crate) struct Feeding {
     pub path: Text,
     pub offset: u64,
     pub state: FileState,
+    /// The bytes that were read behind the offset, which no token used.
+    pub carried: Vec<u8>,
+    /// What is remembered of the looks at the file.
+    pub idle: Idle,
+    /// Whether what waited was flushed.
+    pub flushed: bool,
 }
 
-/// Reads the file on from its offset, and puts the lines of what it has behind the output, which ends at `end`.
-pub(crate) fn read_on<T: Tree, D: Disk>(
+/// Reads the file on from its offset, and puts the lines of what it has behind the output, which ends at `end`. Where it was
+/// read to its end, what waits behind them is flushed at the look with which it has stood still for as many as the settings ask.
+pub(crate) fn feed_file<T: Tree, D: Disk>(
     alloc: Global,
     tree: &mut T,
     disk: &mut D,
@@ -47,6 +57,8 @@ pub(crate) fn read_on<T: Tree, D: Disk>(
 ) -> Result<Ending, PassFault>
     requires setup { KeepsLimits (settings_of setup.now.pipeline.now) × (setup.now.limit ≤ 2 ^ 40) }
     requires sane { IsSane setup.now feeding.old end.old }
+    requires none { feeding.old.carried.items ≡ [] }
+    requires stood { feeding.old.flushed ≡ false }
     requires begins { feeding.old.offset ≤ file.size }
     requires size { file.size ≤ 2 ^ 62 }
     requires room { (0 < length buffer.old) × (length buffer.old ≤ 65536) }
@@ -60,9 +72,43 @@ pub(crate) fn read_on<T: Tree, D: Disk>(
     ensures long { length buffer.new ≡ length buffer.old }
 {
     a_pipeline_is_rules(setup.pipeline);
+    let offset = feeding.offset;
+    let ending = read_on(alloc, tree, disk, setup, file, feeding, end, buffer)?;
+    if may_flush(setup, file.size, offset, ending) {
+        look_on(alloc, disk, setup, feeding, end)?;
+    }
+    Ok(ending)
+}
+
+// Reads the file on from its offset, and puts the lines of what it has behind the output, which ends at `end`.
+fn read_on<T: Tree, D: Disk>(
+    alloc: Global,
+    tree: &mut T,
+    disk: &mut D,
+    setup: &Setup<'_>,
+    file: OpenFile,
+    feeding: &mut Feeding,
+    end: &mut u64,
+    buffer: &mut [u8],
+) -> Result<Ending, PassFault>
+    requires setup { KeepsLimits (settings_of setup.now.pipeline.now) × (setup.now.limit ≤ 2 ^ 40) }
+    requires sane { IsSane setup.now feeding.old end.old }
+    requires none { feeding.old.carried.items ≡ [] }
+    requires begins { feeding.old.offset ≤ file.size }
+    requires size { file.size ≤ 2 ^ 62 }
+    requires room { (0 < length buffer.old) × (length buffer.old ≤ 65536) }
+    requires ends { IsTrue (D.meaning.images.tells disk.old) → length (D.meaning.images.seen disk.old DiskFile.Output) ≡ end.old }
+    ensures ok { IfOk result (λ ending. HasRead T.meaning D.meaning setup.now file feeding.old feeding.new end.old end.new ending tree.old tree.new disk.old disk.new) }
+    ensures sane { OnOk result (IsSane setup.now feeding.new end.new) }
+    ensures full { (size : ℕ) → result ≡ Err (PassFault.OutputFull size) → FillsPart T.meaning setup.now file feeding.old end.old size tree.old tree.new }
+    ensures tree { KeepsTree T.meaning (length buffer.old) (last_of file.size feeding.old.offset - feeding.old.offset) tree.old tree.new }
+    ensures disk { KeepsDisk D.meaning end.old disk.old disk.new }
+    ensures cause { HasPassCause result (D.meaning.faults disk.old) (D.meaning.faults disk.new) }
+    ensures long { length buffer.new ≡ length buffer.old }
+{
+    a_pipeline_is_rules(setup.pipeline);
     a_row_tells_its_state(setup.pipeline);
     let last = last_of(file.size, feeding.offset);
-    let mut carried = Vec::new(alloc);
     let mut from = feeding.offset;
     while from < last {
         let (count, ending) = read_piece(tree, file.handle, from, last, buffer);
@@ -70,8 +116,8 @@ pub(crate) fn read_on<T: Tree, D: Disk>(
             return Ok(ending);
         }
         from += count as u64;
-        carried.extend_from_slice(&buffer[..count])?;
-        feed_carried(alloc, disk, setup, feeding, &mut carried, end)?;
+        feeding.carried.extend_from_slice(&buffer[..count])?;
+        feed_carried(alloc, disk, setup, feeding, end)?;
     }
     Ok(Ending::Whole)
 }
@@ -85,53 +131,54 @@ fn last_of(size: u64, offset: u64) -> u64
     if size < most { size } else { most }
 }
 
-// Takes the tokens of the bytes, which stand from the offset on, and leaves those bytes that no token used.
+// Takes the tokens of the bytes that are carried, which stand from the offset on, and leaves those bytes that no token used.
 fn feed_carried<D: Disk>(
     alloc: Global,
     disk: &mut D,
     setup: &Setup<'_>,
     feeding: &mut Feeding,
-    carried: &mut Vec<u8>,
     end: &mut u64,
 ) -> Result<(), PassFault>
     requires setup { KeepsLimits (settings_of setup.now.pipeline.now) × (setup.now.limit ≤ 2 ^ 40) }
     requires sane { IsSane setup.now feeding.old end.old }
-    requires size { feeding.old.offset + length carried.old.items ≤ 2 ^ 62 }
+    requires size { feeding.old.offset + length feeding.old.carried.items ≤ 2 ^ 62 }
     requires ends { IsTrue (D.meaning.images.tells disk.old) → length (D.meaning.images.seen disk.old DiskFile.Output) ≡ end.old }
-    ensures ok { OnOk result (Appends D.meaning (lines_text (lines_of (poll_of setup.now) carried.old.items (feeding_row feeding.old))) end.old end.new disk.old disk.new) }
-    ensures fed { OnOk result (feeding_row feeding.new ≡ fed (rules_in setup.now) carried.old.items (feeding_row feeding.old)) }
-    ensures rest { OnOk result (carried.new.items ≡ drop (used (rules_in setup.now) carried.old.items) carried.old.items) }
+    ensures ok { OnOk result (Appends D.meaning (lines_text (lines_of (poll_of setup.now) feeding.old.carried.items (feeding_row feeding.old))) end.old end.new disk.old disk.new) }
+    ensures fed { OnOk result (feeding_row feeding.new ≡ fed (rules_in setup.now) feeding.old.carried.items (feeding_row feeding.old)) }
+    ensures rest { OnOk result (feeding.new.carried.items ≡ waiting (rules_in setup.now) feeding.old.carried.items) }
+    ensures flushed { feeding.new.flushed ≡ feeding.old.flushed }
     ensures sane { OnOk result (IsSane setup.now feeding.new end.new) }
     ensures full { (size : ℕ) → result ≡ Err (PassFault.OutputFull size)
-        → Crosses setup.now.limit end.old (lines_of (poll_of setup.now) carried.old.items (feeding_row feeding.old)) size }
+        → Crosses setup.now.limit end.old (lines_of (poll_of setup.now) feeding.old.carried.items (feeding_row feeding.old)) size }
     ensures disk { KeepsDisk D.meaning end.old disk.old disk.new }
     ensures cause { HasPassCause result (D.meaning.faults disk.old) (D.meaning.faults disk.new) }
 {
     a_pipeline_is_rules(setup.pipeline);
     let mut lines = Vec::new(alloc);
-    let count = feed_bytes(alloc, setup, feeding, carried, &mut lines)?;
+    let count = feed_bytes(alloc, setup, feeding, &mut lines)?;
     append(alloc, disk, setup.limit, &lines, end)?;
-    carried.rotate_left(count);
-    carried.truncate(carried.len() - count);
+    feeding.carried.rotate_left(count);
+    feeding.carried.truncate(feeding.carried.len() - count);
     Ok(())
 }
 
-// Takes the tokens of the bytes, which stand from the offset on, and answers how many bytes they used.
+// Takes the tokens of the bytes that are carried, which stand from the offset on, and answers how many bytes they used.
 fn feed_bytes(
     alloc: Global,
     setup: &Setup<'_>,
     feeding: &mut Feeding,
-    bytes: &[u8],
     lines: &mut Vec<u8>,
 ) -> Result<usize, AllocError>
     requires limits { KeepsLimits (settings_of setup.now.pipeline.now) }
     requires states { HaveKinds setup.now.pipeline.now feeding.old.state.states.items }
     requires few { (feeding.old.state.records ≤ feeding.old.offset) × (feeding.old.state.lines ≤ 2 ^ 40) }
-    requires size { feeding.old.offset + length bytes.now ≤ 2 ^ 62 }
+    requires size { feeding.old.offset + length feeding.old.carried.items ≤ 2 ^ 62 }
     requires none { lines.old.items ≡ [] }
-    ensures used { IfOk result (λ count. count ≡ used (rules_in setup.now) bytes.now) }
-    ensures fed { OnOk result (feeding_row feeding.new ≡ fed (rules_in setup.now) bytes.now (feeding_row feeding.old)) }
-    ensures lines { OnOk result (lines.new.items ≡ lines_text (lines_of (poll_of setup.now) bytes.now (feeding_row feeding.old))) }
+    ensures used { IfOk result (λ count. count ≡ used (rules_in setup.now) feeding.old.carried.items) }
+    ensures fed { OnOk result (feeding_row feeding.new ≡ fed (rules_in setup.now) feeding.old.carried.items (feeding_row feeding.old)) }
+    ensures lines { OnOk result (lines.new.items ≡ lines_text (lines_of (poll_of setup.now) feeding.old.carried.items (feeding_row feeding.old))) }
+    ensures carried { feeding.new.carried.items ≡ feeding.old.carried.items }
+    ensures flushed { feeding.new.flushed ≡ feeding.old.flushed }
     ensures states { OnOk result (HaveKinds setup.now.pipeline.now feeding.new.state.states.items) }
     ensures records { OnOk result (feeding.new.state.records ≤ feeding.new.offset) }
     ensures many { OnOk result (feeding.new.state.lines ≤ feeding.old.state.lines + length lines.new.items) }
@@ -145,7 +192,7 @@ fn feed_bytes(
         feeding.id,
         path,
         setup.observed,
-        bytes,
+        &feeding.carried,
         lines,
     )?;
     feeding.offset += count as u64;

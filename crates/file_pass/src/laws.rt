@@ -6,7 +6,7 @@ ghost use Rattle.std.specs.Ordering.{nat_cmp};
 ghost use Rattle.file_pass.specs.AllTaken.{AllTaken};
 ghost use Rattle.file_pass.specs.Gain.{Gain};
 ghost use Rattle.file_pass.specs.Turns.{looks_of, misses_of};
-ghost use Rattle.file_pass.specs.Unchanged.{FlagsChanges, HasFlagForEach, HasNoFlag, IsNewOrGrown};
+ghost use Rattle.file_pass.specs.Unchanged.{FlagsChanges, HasFlagForEach, HasNoFlag, IsNewOrChanged};
 ghost use Rattle.file_pass.specs.declared.taking.Taking.{Taking};
 ghost use Rattle.file_tracker.specs.declared.row.Row.{Row};
 ghost use Rattle.outside.specs.World.{World};
@@ -34,11 +34,12 @@ pub fn each_path_has_its_turn()
 {}
 
 /// After a pass that began without flags a row is flagged if and only if it differs from the row that stood there before,
-/// and so if and only if it is new, or its front is longer, or its offset is greater.
+/// and so if and only if it is new, or its front is longer, or its offset is greater, or what its operators keep or what is
+/// remembered of the last look at its file is something else.
 pub fn flags_tell_what_changed()
     ensures begin { (taking : Taking) (count : ℕ) → taking.changed.items ≡ replicate count false → HasNoFlag taking }
     ensures difference { (before after : Taking) → FlagsChanges before after → HasNoFlag before → HasFlagForEach after → (place : ℕ)
         → (slice_get after.changed.items place ≡ Some true) ↔ (slice_get after.tracker place ≢ slice_get before.tracker place) }
     ensures growth { (before after : Taking) → FlagsChanges before after → HasNoFlag before → HasFlagForEach after → (place : ℕ)
-        → (slice_get after.changed.items place ≡ Some true) ↔ IsNewOrGrown (slice_get before.tracker place) (slice_get after.tracker place) }
+        → (slice_get after.changed.items place ≡ Some true) ↔ IsNewOrChanged (slice_get before.tracker place) (slice_get after.tracker place) }
 {}

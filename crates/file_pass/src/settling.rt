@@ -1,13 +1,15 @@
 // Which row is a file's.
 ghost use Rattle.std.specs.Prelude.{◌≡◌, ◌+◌, ◌<◌, ◌≤◌, ◌^◌, ◌&&◌, if◌then◌else◌, length, None, Some, IfOk, IfSome, OnOk};
 ghost use Rattle.file_pass.specs.Fed.{rules_in};
+ghost use Rattle.file_pass.specs.Grown.{FlagsGrowth};
 ghost use Rattle.file_pass.specs.Sane.{FreshFits, IsSaneTaking};
 ghost use Rattle.file_pass.specs.Settled.{IsKnown, Settles, admitted};
-ghost use Rattle.file_pass.specs.Unchanged.{FlagsChanges};
+ghost use Rattle.file_pass.specs.Unchanged.{FlagsGrown};
 ghost use Rattle.file_tracker.specs.Limits.{row_limit};
 ghost use Rattle.file_tracker.specs.Places.{place_of};
 ghost use Rattle.pipeline.specs.Parts.{settings_of};
 ghost use Rattle.settings_text.specs.Limits.{KeepsLimits};
+ghost use Rattle.standing.specs.Rules.{Rules};
 ghost use Rattle.state_codec.specs.Rules.{IsShortText};
 
 use crate::setup::Setup;
@@ -34,7 +36,7 @@ pub(crate) fn settle(
     requires front { (1 ≤ length front.now) × (length front.now ≤ 4096) }
     ensures settles { IfOk result (λ place. Settles setup.now size path.now front.now taking.old.tracker place taking.new.tracker) }
     ensures sane { OnOk result (IsSaneTaking setup.now taking.new) }
-    ensures flags { OnOk result (FlagsChanges taking.old taking.new) }
+    ensures flags { OnOk result (FlagsGrown setup.now taking.old taking.new) }
     ensures end { taking.new.end ≡ taking.old.end }
     ensures counts { taking.new.counts ≡ taking.old.counts }
 {
@@ -55,7 +57,7 @@ fn grow(alloc: Global, place: usize, front: &[u8], taking: &mut Taking) -> Resul
     requires known { place_of front.now taking.old.tracker ≡ Some place }
     requires flags { length taking.old.changed.items ≡ length taking.old.tracker }
     ensures known { OnOk result (IsKnown front.now taking.old.tracker place taking.new.tracker) }
-    ensures flags { OnOk result (FlagsChanges taking.old taking.new) }
+    ensures flags { OnOk result ((rules : Rules) → FlagsGrowth rules taking.old.tracker taking.old.changed.items taking.new.tracker taking.new.changed.items) }
     ensures long { length taking.new.changed.items ≡ length taking.old.changed.items }
     ensures end { taking.new.end ≡ taking.old.end }
     ensures counts { taking.new.counts ≡ taking.old.counts }
@@ -80,7 +82,7 @@ fn admit(
     requires flags { length taking.old.changed.items ≡ length taking.old.tracker }
     ensures settles { IfOk result (λ place. Settles setup.now size path.now front.now taking.old.tracker place taking.new.tracker) }
     ensures fits { IfOk result (λ place. IfSome place (λ _. FreshFits setup.now)) }
-    ensures flags { OnOk result (FlagsChanges taking.old taking.new) }
+    ensures flags { OnOk result (FlagsGrown setup.now taking.old taking.new) }
     ensures long { OnOk result (length taking.new.changed.items ≡ length taking.new.tracker) }
     ensures end { taking.new.end ≡ taking.old.end }
     ensures counts { taking.new.counts ≡ taking.old.counts }

@@ -1,8 +1,9 @@
 // The pass over the paths.
-ghost use Rattle.std.specs.Prelude.{◌≡◌, ℕ, ◌<◌, ◌≤◌, ◌^◌, [], List, false, length, nat_lt, slice_get, slice_set, Contains, Err, IsTrue, Some, IfOk, OnOk};
+ghost use Rattle.std.specs.Prelude.{◌≡◌, ◌⊎◌, ℕ, ◌<◌, ◌≤◌, ◌^◌, [], List, false, true, length, nat_lt, slice_get, slice_set, Contains, Err, IsTrue, Some, IfOk, OnOk};
 ghost use Rattle.file_pass.specs.AllTaken.{TakesAll, TakesOne};
 ghost use Rattle.file_pass.specs.DiskTerms.{KeepsDisk};
 ghost use Rattle.file_pass.specs.Fed.{poll_of, feeding_row, rules_in};
+ghost use Rattle.file_pass.specs.Grown.{HasGrown, LosesNothing};
 ghost use Rattle.file_pass.specs.LookTaken.{OpenTaken, SeenTaken};
 ghost use Rattle.file_pass.specs.Overflow.{AllFill, OpenFills, PathFills, RowFills, SeenFills};
 ghost use Rattle.file_pass.specs.PassCause.{HasPassCause};
@@ -10,7 +11,7 @@ ghost use Rattle.file_pass.specs.PathTaken.{PathTaken};
 ghost use Rattle.file_pass.specs.RowTaken.{RowTaken};
 ghost use Rattle.file_pass.specs.Sane.{IsSaneTaking};
 ghost use Rattle.file_pass.specs.Taken.{Finds, KeepsTreeAt};
-ghost use Rattle.file_pass.specs.Unchanged.{FlagsChanges};
+ghost use Rattle.file_pass.specs.Unchanged.{FlagsChanges, FlagsGrown};
 ghost use Rattle.file_tracker.specs.Places.{HasGone, with_progress};
 ghost use Rattle.file_tracker.specs.declared.row.Row.{Row};
 ghost use Rattle.op_kinds.specs.StateTexts.{state_text};
@@ -25,9 +26,10 @@ ghost use Rattle.state_codec.specs.Rules.{IsShortText};
 use crate::counts::Counts;
 use crate::ending::{Ending, OpenFile};
 use crate::fault::PassFault;
-use crate::feeding::{Feeding, MOST_TAKEN, read_on};
+use crate::feeding::{Feeding, MOST_TAKEN, feed_file};
 use crate::found::Found;
 use crate::front::read_front;
+use crate::looks::{flag_looks, idle, looks_at};
 use crate::settling::settle;
 use crate::setup::Setup;
 use crate::spelled::spelled;
@@ -80,6 +82,35 @@ pub fn take_all<T: Tree, D: Disk>(
     ensures disk { KeepsDisk D.meaning taking.old.end disk.old disk.new }
     ensures cause { HasPassCause result (D.meaning.faults disk.old) (D.meaning.faults disk.new) }
 {
+    let looks = looks_at(alloc, setup, &taking.tracker)?;
+    take_each(alloc, tree, disk, setup, paths, taking)?;
+    flag_looks(&looks, &taking.tracker, &mut taking.changed);
+    Ok(())
+}
+
+// Takes the paths in turn, and flags the rows that are new or have grown.
+fn take_each<T: Tree, D: Disk>(
+    alloc: Global,
+    tree: &mut T,
+    disk: &mut D,
+    setup: &Setup<'_>,
+    paths: &[Text],
+    taking: &mut Taking,
+) -> Result<(), PassFault>
+    requires setup { KeepsLimits (settings_of setup.now.pipeline.now) × (setup.now.limit ≤ 2 ^ 40) }
+    requires sane { IsSaneTaking setup.now taking.old }
+    requires included { (path : List ℕ) → Contains paths.now path → Includes (rules_in setup.now) path }
+    requires short { (path : List ℕ) → Contains paths.now path → IsShortText path }
+    requires ends { IsTrue (D.meaning.images.tells disk.old) → length (D.meaning.images.seen disk.old DiskFile.Output) ≡ taking.old.end }
+    ensures ok { OnOk result (TakesAll T.meaning D.meaning setup.now paths.now taking.old taking.new tree.old tree.new disk.old disk.new) }
+    ensures sane { OnOk result (IsSaneTaking setup.now taking.new) }
+    ensures flags { OnOk result (FlagsGrown setup.now taking.old taking.new) }
+    ensures full { (size : ℕ) → result ≡ Err (PassFault.OutputFull size)
+        → Told (AllFill (poll_of setup.now) setup.now.limit paths.now taking.old.tracker taking.old.end size) (T.meaning.world tree.old) (T.meaning.world tree.new) }
+    ensures tree { KeepsTreeAt T.meaning BUFFER_SIZE tree.old tree.new }
+    ensures disk { KeepsDisk D.meaning taking.old.end disk.old disk.new }
+    ensures cause { HasPassCause result (D.meaning.faults disk.old) (D.meaning.faults disk.new) }
+{
     taking.counts.stand();
     let mut buffer = vec![in alloc; 0; BUFFER_SIZE]?;
     for path in paths {
@@ -106,7 +137,7 @@ fn take_path<T: Tree, D: Disk>(
     requires ends { IsTrue (D.meaning.images.tells disk.old) → length (D.meaning.images.seen disk.old DiskFile.Output) ≡ taking.old.end }
     ensures ok { OnOk result (TakesOne T.meaning D.meaning setup.now path.now taking.old taking.new tree.old tree.new disk.old disk.new) }
     ensures sane { OnOk result (IsSaneTaking setup.now taking.new) }
-    ensures flags { OnOk result (FlagsChanges taking.old taking.new) }
+    ensures flags { OnOk result (FlagsGrown setup.now taking.old taking.new) }
     ensures full { (size : ℕ) → result ≡ Err (PassFault.OutputFull size)
         → Told (PathFills (poll_of setup.now) setup.now.limit path.now taking.old.tracker taking.old.end size) (T.meaning.world tree.old) (T.meaning.world tree.new) }
     ensures tree { KeepsTreeAt T.meaning BUFFER_SIZE tree.old tree.new }
@@ -140,7 +171,7 @@ fn open_path<T: Tree, D: Disk>(
         found taking.old.end taking.new.end tree.old tree.new disk.old disk.new) }
     ensures counts { taking.new.counts ≡ taking.old.counts }
     ensures sane { OnOk result (IsSaneTaking setup.now taking.new) }
-    ensures flags { OnOk result (FlagsChanges taking.old taking.new) }
+    ensures flags { OnOk result (FlagsGrown setup.now taking.old taking.new) }
     ensures full { (size : ℕ) → result ≡ Err (PassFault.OutputFull size)
         → Told (PathFills (poll_of setup.now) setup.now.limit path.now taking.old.tracker taking.old.end size) (T.meaning.world tree.old) (T.meaning.world tree.new) }
     ensures tree { KeepsTreeAt T.meaning BUFFER_SIZE tree.old tree.new }
@@ -183,7 +214,7 @@ fn take_opened<T: Tree, D: Disk>(
         found taking.old.end taking.new.end tree.old tree.new disk.old disk.new) }
     ensures counts { taking.new.counts ≡ taking.old.counts }
     ensures sane { OnOk result (IsSaneTaking setup.now taking.new) }
-    ensures flags { OnOk result (FlagsChanges taking.old taking.new) }
+    ensures flags { OnOk result (FlagsGrown setup.now taking.old taking.new) }
     ensures full { (size : ℕ) → result ≡ Err (PassFault.OutputFull size)
         → Told (OpenFills (poll_of setup.now) setup.now.limit path.now file taking.old.tracker taking.old.end size) (T.meaning.world tree.old) (T.meaning.world tree.new) }
     ensures tree { KeepsTreeAt T.meaning BUFFER_SIZE tree.old tree.new }
@@ -229,7 +260,7 @@ fn take_seen<T: Tree, D: Disk>(
         found taking.old.end taking.new.end tree.old tree.new disk.old disk.new) }
     ensures counts { taking.new.counts ≡ taking.old.counts }
     ensures sane { OnOk result (IsSaneTaking setup.now taking.new) }
-    ensures flags { OnOk result (FlagsChanges taking.old taking.new) }
+    ensures flags { OnOk result (FlagsGrown setup.now taking.old taking.new) }
     ensures full { (size : ℕ) → result ≡ Err (PassFault.OutputFull size)
         → Told (SeenFills (poll_of setup.now) setup.now.limit path.now file front.now taking.old.tracker taking.old.end size) (T.meaning.world tree.old) (T.meaning.world tree.new) }
     ensures tree { KeepsTreeAt T.meaning BUFFER_SIZE tree.old tree.new }
@@ -272,7 +303,7 @@ fn take_row<T: Tree, D: Disk>(
         found taking.old.end taking.new.end tree.old tree.new disk.old disk.new) }
     ensures counts { taking.new.counts ≡ taking.old.counts }
     ensures sane { OnOk result (IsSaneTaking setup.now taking.new) }
-    ensures flags { OnOk result (FlagsChanges taking.old taking.new) }
+    ensures flags { OnOk result (FlagsGrown setup.now taking.old taking.new) }
     ensures full { (size : ℕ) → result ≡ Err (PassFault.OutputFull size)
         → Told (RowFills (poll_of setup.now) setup.now.limit file place taking.old.tracker taking.old.end size) (T.meaning.world tree.old) (T.meaning.world tree.new) }
     ensures tree { KeepsTreeAt T.meaning BUFFER_SIZE tree.old tree.new }
@@ -287,7 +318,7 @@ fn take_row<T: Tree, D: Disk>(
     }
     let (offset, lines) = (row.offset, row.lines);
     let mut feeding = feeding_of(alloc, setup, row)?;
-    let ending = read_on(
+    let ending = feed_file(
         alloc,
         tree,
         disk,
@@ -298,6 +329,8 @@ fn take_row<T: Tree, D: Disk>(
         buffer,
     )?;
     note_progress(alloc, setup, place, &feeding, taking)?;
+    let looked = feeding.idle;
+    taking.tracker.note(place, looked.seen, looked.quiet);
     Ok(Found::Read {
         ending,
         more: has_more(ending, file.size - offset),
@@ -316,7 +349,9 @@ fn has_more(ending: Ending, past: u64) -> bool
 // Where reading of the row's file goes on.
 fn feeding_of(alloc: Global, setup: &Setup<'_>, row: &Row) -> Result<Feeding, AllocError>
     requires { IsTrue ((rules_in setup.now).is_state row.now.state) }
-    ensures row { IfOk result (λ feeding. feeding_row feeding ≡ record row.now { front = []; start = 0; born = 0; ends = []; seen = 0; quiet = 0 }) }
+    ensures row { IfOk result (λ feeding. feeding_row feeding ≡ record row.now { front = []; start = 0; born = 0; ends = [] }) }
+    ensures none { IfOk result (λ feeding. (feeding.carried.items ≡ []) × (feeding.flushed ≡ false)) }
+    ensures idle { IfOk result (λ feeding. (feeding.idle.seen < 2 ^ 64) × (feeding.idle.quiet < 2 ^ 32)) }
     ensures kinds { IfOk result (λ feeding. HaveKinds setup.now.pipeline.now feeding.state.states.items) }
 {
     let path = row.path.share()?;
@@ -326,6 +361,9 @@ fn feeding_of(alloc: Global, setup: &Setup<'_>, row: &Row) -> Result<Feeding, Al
         path,
         offset: row.offset,
         state,
+        carried: Vec::new(alloc),
+        idle: idle(row),
+        flushed: false,
     })
 }
 
@@ -348,7 +386,7 @@ fn restored(
     }
 }
 
-// Notes in the row how far it was read, where that is further than before.
+// Notes in the row how far it was read, where that is further than before or its groups were closed.
 fn note_progress(
     alloc: Global,
     setup: &Setup<'_>,
@@ -359,20 +397,24 @@ fn note_progress(
     requires kinds { HaveKinds setup.now.pipeline.now feeding.now.state.states.items }
     requires in_range { place < length taking.old.tracker }
     requires flags { length taking.old.changed.items ≡ length taking.old.tracker }
-    requires same { (row : Row) → slice_get taking.old.tracker place ≡ Some row → feeding.now.offset ≤ row.offset
+    requires same { (row : Row) → slice_get taking.old.tracker place ≡ Some row → feeding.now.flushed ≡ false → feeding.now.offset ≤ row.offset
         → with_progress feeding.now.offset feeding.now.state.records feeding.now.state.lines (state_text feeding.now.state.states.items) row ≡ row }
+    requires grown { (row : Row) → slice_get taking.old.tracker place ≡ Some row → feeding.now.flushed ≡ true
+        → HasGrown (rules_in setup.now) row (with_progress feeding.now.offset feeding.now.state.records feeding.now.state.lines (state_text feeding.now.state.states.items) row) }
     requires rises { (row : Row) → slice_get taking.old.tracker place ≡ Some row
         → HasGone row feeding.now.offset feeding.now.state.records feeding.now.state.lines }
+    requires held { (row : Row) → slice_get taking.old.tracker place ≡ Some row
+        → LosesNothing (rules_in setup.now) row (with_progress feeding.now.offset feeding.now.state.records feeding.now.state.lines (state_text feeding.now.state.states.items) row) }
     ensures row { OnOk result ((row : Row) → slice_get taking.old.tracker place ≡ Some row → taking.new.tracker
         ≡ slice_set taking.old.tracker place (with_progress feeding.now.offset feeding.now.state.records feeding.now.state.lines (state_text feeding.now.state.states.items) row)) }
     ensures short { OnOk result ((row : Row) → slice_get taking.old.tracker place ≡ Some row → length row.state < 2 ^ 32
         → length (state_text feeding.now.state.states.items) < 2 ^ 32) }
-    ensures flags { OnOk result (FlagsChanges taking.old taking.new) }
+    ensures flags { OnOk result (FlagsGrown setup.now taking.old taking.new) }
     ensures long { length taking.new.changed.items ≡ length taking.old.changed.items }
     ensures end { taking.new.end ≡ taking.old.end }
     ensures counts { taking.new.counts ≡ taking.old.counts }
 {
-    if feeding.offset > taking.tracker.row(place).offset {
+    if has_grown(feeding, taking.tracker.row(place).offset) {
         let state = &feeding.state;
         let bytes = spelled(alloc, setup, state)?;
         taking.tracker.advance(
@@ -385,4 +427,15 @@ fn note_progress(
         taking.changed[place] = true;
     }
     Ok(())
+}
+
+// Whether the file was read past this offset, or its groups were closed.
+fn has_grown(feeding: &Feeding, offset: u64) -> bool
+    ensures yes { result ≡ true → (feeding.now.flushed ≡ true) ⊎ (offset < feeding.now.offset) }
+    ensures no { result ≡ false → (feeding.now.flushed ≡ false) × (feeding.now.offset ≤ offset) }
+{
+    if feeding.flushed {
+        return true;
+    }
+    feeding.offset > offset
 }

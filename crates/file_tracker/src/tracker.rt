@@ -113,6 +113,13 @@ impl Tracker {
         &self.rows[place]
     }
 
+    /// The rows in order.
+    pub fn as_slice(&self) -> &[Row]
+        ensures { result.now ≡ self.now }
+    {
+        self.rows.as_slice()
+    }
+
     /// Puts a row behind the others, and answers its place. `Full` exactly where there are as many rows as may be.
     ///
     /// What it needs comes from the allocator of the tracker.

@@ -6,6 +6,7 @@ use Rattle.checkpoint_store.specs.declared.Checkpoint.{Checkpoint}
 use Rattle.lifetimes.proofs.ImageLemmas.{NumberedBy, numbered_by, left_reopened, left_later, Kept, kept_by_stays, kept_by_steps, closed_by_stays}
 use Rattle.lifetimes.specs.OneEra.{one_era}
 use Rattle.lifetimes.specs.Past.{Past, Failures, IsLeftAt, LeavesAt, IsDiskAt, IsOpened, IsWell, dropped, polled}
+use Rattle.lifetimes.specs.Whole.{TakesWhole}
 use Rattle.mem_world.specs.DiskImages.{LeavesImage, LeftSince}
 use Rattle.mem_world.specs.DiskLaws.{left_now, left_only_now}
 use Rattle.out_segments.specs.MemLog.{Log}
@@ -27,7 +28,6 @@ use Rattle.slot_store.specs.ChosenSlot.{chosen_slot}
 use Rattle.slot_store.specs.Frame.{is_open_at, number_at}
 use Rattle.standing.specs.Standing.{nothing}
 use Rattle.slot_store.specs.Synced.{EachLeft}
-use Rattle.standing.specs.Apart.{Apart}
 use Rattle.standing.specs.Marks.{Mark}
 use Rattle.standing.specs.Moments.{IsLater}
 use Rattle.standing.specs.Rules.{Rules}
@@ -53,7 +53,7 @@ leaves_empty rules disk empty durable = record {
       let none : chosen_slot image ≡ None = none_chosen image (is SlotA) (is SlotB) in
       record {
         sound = record { there = nothing; found = none; sound = tt };
-        standing = λ apart. record { there = nothing; found = none; eras = one_era rules; are = tt; stands = tt };
+        standing = λ takes. record { there = nothing; found = none; eras = one_era rules; are = tt; stands = tt };
         numbered = no_number image none;
         none_open = λ early. none;
       };
@@ -113,11 +113,11 @@ leaves_later rules old new polls early disk later leaves = record { each = λ im
 -- ---- polls
 
 -- What stood stands, from the poll's begin on.
-pub stands_after : (front_size : ℕ) (old new : World) (disk disk_after : MemDisk) → moment_of disk ≤ moment_of disk_after → KeepsStandingSince disk_images front_size disk disk_after old new
-    → EachLeft disk_images disk (IsStanding old.history) → Apart front_size new.history → EachLeft disk_images disk_after (IsStanding new.history)
-stands_after front_size old new disk disk_after later keeps stand apart = record {
+pub stands_after : (rules : Rules) (old new : World) (disk disk_after : MemDisk) → moment_of disk ≤ moment_of disk_after → KeepsStandingSince disk_images rules disk disk_after old new
+    → EachLeft disk_images disk (IsStanding old.history) → TakesWhole rules new.history → EachLeft disk_images disk_after (IsStanding new.history)
+stands_after rules old new disk disk_after later keeps stand takes = record {
   each = λ image left.
-      keeps apart (moment_of disk) (omega arith) (λ before there. stand.each before (left_only_now (history_of disk) before there))
+      keeps takes.never takes.apart (moment_of disk) (omega arith) (λ before there. stand.each before (left_only_now (history_of disk) before there))
       image (left_now (history_of disk_after) (moment_of disk) image later left);
 }
 
@@ -148,13 +148,13 @@ module _ (session : Session) (is : IsSession session) (rules : Rules) (opened : 
 
   -- what a poll leaves of a disk
   pub leaves_polled : (history : History) (early : Bool) → StepsBy session disk disk_after → (IsTrue early → Passes disk_images (Stays session) disk disk_after)
-      → (Apart rules.front_size history → EachLeft disk_images disk_after (IsStanding history)) → LeavesAt rules (polled past history early) disk_after
+      → (TakesWhole rules history → EachLeft disk_images disk_after (IsStanding history)) → LeavesAt rules (polled past history early) disk_after
   leaves_polled history early steps quick stand = record {
     each = λ image left.
         let kept = (all_kept steps).each image left in
         record {
           sound = kept.sound;
-          standing = λ apart. (stand apart).each image left;
+          standing = λ takes. (stand takes).each image left;
           numbered = kept.numbered;
           none_open = λ both.
               let parts = and_parts past.early early both in

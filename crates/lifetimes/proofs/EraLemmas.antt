@@ -49,11 +49,11 @@ stamped_so : (stamps : Bool) (time : ℕ) → is_some (stamp_at stamps time) ≡
 stamped_so false time = refl
 stamped_so true time = refl
 
--- A session gives its lines a time where they are to have one, and flushes nothing.
-pub session_plain : (rules : Rules) (session : Session) → rules_of_session session ≡ rules → IsPlainIn (one_era rules) (is_first session) (stamp_of_session session)
-session_plain rules session rules_are = record {
+-- A session gives its lines a time where they are to have one; here its settings flush nothing.
+pub session_plain : (rules : Rules) (session : Session) → rules_of_session session ≡ rules → rules.flush_after ≡ 0 → IsPlainIn (one_era rules) (is_first session) (stamp_of_session session)
+session_plain rules session rules_are never = record {
   is_poll = record { first_era = λ first. refl; stamped = stamped_so (rules_of_session session).stamps session.time ∙ ap (λ (r : Rules). r.stamps) rules_are };
-  no_flush = sym (ap (λ (r : Rules). r.flush_after) rules_are);
+  no_flush = never;
 }
 
 abbrev poll_with : Bool → Option ℕ → Rules → ℕ → Poll

@@ -6,17 +6,18 @@ use Rattle.checkpoint_journal.specs.declared.journal.Journal.{Journal}
 use Rattle.checkpoint_store.specs.declared.Checkpoint.{Checkpoint}
 use Rattle.lifetimes.specs.OneEra.{IsSoundBy, one_era}
 use Rattle.lifetimes.specs.Past.{Past, IsLeftAt, IsOpened}
+use Rattle.lifetimes.specs.Whole.{TakesWhole}
 use Rattle.outside.specs.Image.{Image}
 use Rattle.outside.specs.World.{History}
 use Rattle.outside.specs.declared.disk.DiskFile.{DiskFile}
 use Rattle.outside.specs.declared.disk.DiskFile.TheVariants.{Output}
 use Rattle.poll_core.proofs.ImageLemmas.{found_kept, sequence_kept, sound_still, standing_still, one_found, one_sequence}
-use Rattle.poll_core.proofs.SafeLemmas.{stays_sound, steps_sound}
+use Rattle.poll_core.proofs.SafeLemmas.{IsSoundByEras, stays_sound_by, steps_sound_by}
 use Rattle.poll_core.proofs.SessionLemmas.{left_goes_on, found_first}
 use Rattle.poll_core.specs.Found.{IsFound}
 use Rattle.poll_core.specs.IsSession.{IsSession}
 use Rattle.poll_core.specs.Next.{HasNext}
-use Rattle.poll_core.specs.Polled.{AreErasIn, IsSoundImage, IsStanding, Stays, Steps, ComesAfter}
+use Rattle.poll_core.specs.Polled.{AreErasIn, IsStanding, Stays, Steps, ComesAfter}
 use Rattle.poll_core.specs.Remembers.{HasMemory, EndsWithMemory, IsLeftBy}
 use Rattle.poll_core.specs.Reopens.{Reopens}
 use Rattle.poll_core.specs.Sequence.{HasSequence, no_slot, of_log}
@@ -61,8 +62,8 @@ left_reopened rules past old new reopens left =
     let was = number_of rules old left.sound in
     record {
       sound = record { there = left.sound.there; found = found_kept reopens.logs left.sound.there left.sound.found; sound = sound_still (one_era rules) old new left.sound.there reopens left.sound.found left.sound.sound };
-      standing = λ apart.
-          let stood = left.standing apart in
+      standing = λ takes.
+          let stood = left.standing takes in
           record {
             there = stood.there;
             found = found_kept reopens.logs stood.there stood.found;
@@ -81,6 +82,10 @@ standing_later eras old new nothing file are later stands = tt
 standing_later eras old new damaged file are later stands = stands
 standing_later eras old new (found checkpoint) file are later stands = standing_lasts eras are.laws old new (found checkpoint) file later stands
 
+-- Where lines are taken whole they were so before.
+pub whole_before : (rules : Rules) (old new : History) → IsLater old new → TakesWhole rules new → TakesWhole rules old
+whole_before rules old new later takes = record { never = takes.never; apart = apart_before rules.front_size old new later takes.apart }
+
 -- What stands for a history stands for each longer one.
 stood_later : (old new : History) (image : Image DiskFile) → IsLater old new → IsStanding old image → IsStanding new image
 stood_later old new image later stood = record {
@@ -95,7 +100,7 @@ pub left_later : (rules : Rules) (old new : History) (polls : ℕ) (early : Bool
     → IsLeftAt rules (record { history = old; polls = polls; early = early }) image → IsLeftAt rules (record { history = new; polls = polls; early = early }) image
 left_later rules old new polls early image later left = record {
   sound = left.sound;
-  standing = λ apart. stood_later old new image later (left.standing (apart_before rules.front_size old new later apart));
+  standing = λ takes. stood_later old new image later (left.standing (whole_before rules old new later takes));
   numbered = left.numbered;
   none_open = left.none_open;
 }
@@ -123,14 +128,14 @@ stays_closed session old new left stays closed =
     let memory : HasMemory None (checkpoint_of_session session) new = subst (λ (journal : Option Journal). HasMemory journal (checkpoint_of_session session) new) none stays.memory in
     memory.0
 
--- A sound image with this checkpoint, which is of these settings alone, is sound by them.
-sound_by : (rules : Rules) (image : Image DiskFile) (checkpoint : Checkpoint) → IsSoundImage image → IsFound image (found checkpoint) → checkpoint.eras ≡ texts_of (one_era rules) → KeepStates rules checkpoint.rows → IsSoundBy rules image
+-- An image that is sound by some eras, with this checkpoint, which is of these settings alone, is sound by them.
+sound_by : (rules : Rules) (image : Image DiskFile) (checkpoint : Checkpoint) → IsSoundByEras image → IsFound image (found checkpoint) → checkpoint.eras ≡ texts_of (one_era rules) → KeepStates rules checkpoint.rows → IsSoundBy rules image
 sound_by rules image checkpoint sound has texts states =
     let same : sound.there ≡ found checkpoint = one_found image sound.there (found checkpoint) sound.found has in
     let own : IsSound sound.eras checkpoint (image Output) = subst (λ (f : Found). Sound sound.eras f (image Output)) same sound.sound in
     record { there = found checkpoint; found = has; sound = record { texts = texts; states = states; ids = own.ids; long_enough = own.long_enough } }
 
-memory_sound_by : (rules : Rules) (journal : Option Journal) (saved : Checkpoint) (image : Image DiskFile) → IsSoundImage image → HasMemory journal saved image → saved.eras ≡ texts_of (one_era rules) → KeepStates rules saved.rows → IsSoundBy rules image
+memory_sound_by : (rules : Rules) (journal : Option Journal) (saved : Checkpoint) (image : Image DiskFile) → IsSoundByEras image → HasMemory journal saved image → saved.eras ≡ texts_of (one_era rules) → KeepStates rules saved.rows → IsSoundBy rules image
 memory_sound_by rules None saved image sound memory texts states = record { there = nothing; found = memory.0; sound = tt }
 memory_sound_by rules (Some journal) saved image sound memory texts states = sound_by rules image saved sound (journal, memory) texts states
 
@@ -142,7 +147,7 @@ pub record Kept (rules : Rules) (polls : ℕ) (image : Image DiskFile) : Type 0 
 module _ (session : Session) (is : IsSession session) (rules : Rules) (opened : IsOpened rules session) (past : Past) (old new : Image DiskFile) (left : IsLeftBy session old) (was : IsLeftAt rules past old) where
   pub kept_by_stays : Stays session old new → Kept rules (past.polls + 1) new
   kept_by_stays stays = record {
-    sound = memory_sound_by rules (journal_of_session session) (checkpoint_of_session session) new (stays_sound session old new is left stays) stays.memory opened.eras
+    sound = memory_sound_by rules (journal_of_session session) (checkpoint_of_session session) new (stays_sound_by session old new is left stays) stays.memory opened.eras
         (subst (λ (r : Rules). KeepStates r session.tracker) opened.rules_are is.states);
     numbered = stays_numbered (journal_of_session session) (checkpoint_of_session session) old new past.polls left.memory stays.memory was.numbered;
   }
@@ -150,7 +155,7 @@ module _ (session : Session) (is : IsSession session) (rules : Rules) (opened : 
   pub kept_by_steps : (after : Checkpoint) (added : List Mark) → ComesAfter session after added → Steps session after added old new → Kept rules (past.polls + 1) new
   kept_by_steps after added comes (inl stays) = kept_by_stays stays
   kept_by_steps after added comes (inr gains) = record {
-    sound = sound_by rules new after (steps_sound session after added old new is comes left (inr gains)) (gains.memory.0, gains.memory.1) (comes.eras ∙ opened.eras)
+    sound = sound_by rules new after (steps_sound_by session after added old new is comes left (inr gains)) (gains.memory.0, gains.memory.1) (comes.eras ∙ opened.eras)
         (subst (λ (r : Rules). KeepStates r after.rows) opened.rules_are comes.states);
     numbered = gains_numbered (journal_of_session session) (checkpoint_of_session session) after old new past.polls left.memory gains.memory was.numbered;
   }

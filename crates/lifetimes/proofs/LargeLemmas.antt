@@ -12,6 +12,7 @@ use Rattle.file_pass.specs.Full.{line_of, lines_text}
 use Rattle.lifetimes.proofs.EraLemmas.{EndsWith, one_begins, one_era_laws, owner_included, session_plain, session_polls}
 use Rattle.lifetimes.specs.Large.{Share, IsShare, text_of, Differ, AreDifferent, Large}
 use Rattle.lifetimes.specs.OneEra.{one_era}
+use Rattle.lifetimes.specs.Whole.{TakesWhole}
 use Rattle.outside.specs.World.{History, World, bytes}
 use Rattle.poll_core.specs.Overflows.{Overflows, FirstPast}
 use Rattle.poll_core.specs.IsSession.{IsSession}
@@ -20,7 +21,6 @@ use Rattle.poll_core.specs.declared.session.Session.{Session}
 use Rattle.standing.proofs.OutcomeLemmas.{finds_new-tells}
 use Rattle.standing.proofs.OwnerLemmas.{owners_differ}
 use Rattle.standing.proofs.PassLemmas.{looks_stand, none_added}
-use Rattle.standing.specs.Apart.{Apart}
 use Rattle.standing.specs.AreRules.{AreRules}
 use Rattle.standing.specs.Eras.{Eras, texts_of}
 use Rattle.standing.specs.Limits.{row_limit}
@@ -226,9 +226,9 @@ full_long session full marks past =
     omega (arith, past.too_much, past.size_then, sizes)
 
 pub fills_large : (session : Session) (full : ℕ) (old new : World) (output : List ℕ) → IsSession session → session.eras ≡ texts_of (one_era (rules_of_session session)) → AreRules (rules_of_session session) → limit_of session ≡ output_limit → Overflows session full old new
-    → Apart (rules_of_session session).front_size new.history → (stands : Stands (one_era (rules_of_session session)) old.history (checkpoint_of_session session).rows (checkpoint_of_session session).next_id output) → AreBefore (stamp_of_session session) stands.marks → length output ≡ kept_of session
+    → TakesWhole (rules_of_session session) new.history → (stands : Stands (one_era (rules_of_session session)) old.history (checkpoint_of_session session).rows (checkpoint_of_session session).next_id output) → AreBefore (stamp_of_session session) stands.marks → length output ≡ kept_of session
     → Large (rules_of_session session) new.history
-fills_large session full old new output is eras_are laws limit overflows apart stands times size =
+fills_large session full old new output is eras_are laws limit overflows takes stands times size =
     let rules : Rules = rules_of_session session in
     let eras : Eras = one_era rules in
     let poll : Poll = poll_of_session session in
@@ -239,7 +239,7 @@ fills_large session full old new output is eras_are laws limit overflows apart s
     let P : List Mark → Type 0 = λ ms. LinesStand eras old.history start.rows start.next_id ms in
     let Q : Poll → Type 0 = λ p. LinesStand eras new.history (progress_by p looks start).rows (progress_by p looks start).next_id (stands.marks ++ (progress_by p looks start).added) in
     let in_era : Q (poll_in eras (is_first session) (stamp_of_session session)) =
-    looks_stand eras (one_era_laws rules laws) (is_first session) (stamp_of_session session) (session_plain rules session refl) stands.marks times looks old.history new.history start overflows.come apart (none_added (poll_in eras (is_first session) (stamp_of_session session)))
+    looks_stand eras (one_era_laws rules laws) (is_first session) (stamp_of_session session) (session_plain rules session refl takes.never) stands.marks times looks old.history new.history start overflows.come takes.apart (none_added (poll_in eras (is_first session) (stamp_of_session session)))
     (subst P (sym (append-nil stands.marks)) stands.lines_stand) in
     let stand : LinesStand eras new.history now.rows now.next_id (stands.marks ++ now.added) = subst Q (sym as_poll) in_era in
     let begun : length start.rows ≤ row_limit = omega (arith, is.lawful.count, is.lawful.next_id.1) in

@@ -354,7 +354,7 @@ next_opened rules waits new disk (Some next) on = on.0
 -- for which nothing waited
 next_reaches : (rules : Rules) (waits : Waits) (new : History) (disk : MemDisk) (next : Option Session) → GoesOn rules waits new disk next → waits.plan ≡ [] → waits.tree.waiting ≡ 0 → waits.disk.waiting ≡ 0 → (Large rules new → ⊥) → ReachesAll rules new disk
 next_reaches rules waits new disk None (inl fails) none none_tree none_disk small = absurd (omega (arith, fails, none_disk))
-next_reaches rules waits new disk None (inr fill) none none_tree none_disk small = λ apart little. absurd (small (fill apart))
+next_reaches rules waits new disk None (inr fill) none none_tree none_disk small = λ takes little. absurd (small (fill takes))
 next_reaches rules waits new disk (Some next) on none none_tree none_disk small = on.1 none none_tree
 
 pub poll_came : (rules : Rules) (events : List Event) (life : Life) (session : Session) (tree : MemTree) (disk : MemDisk) (next : Option Session) (count : ℕ)

@@ -7,7 +7,7 @@ use Rattle.checkpoint_journal.specs.JournalOf.{HasCheckpoint}
 use Rattle.checkpoint_journal.specs.Written.{IsWorn}
 use Rattle.checkpoint_journal.specs.declared.journal.Journal.{Journal}
 use Rattle.lifetimes.proofs.EraLemmas.{eras_of_one, one_era_laws, session_has, session_plain, session_polls}
-use Rattle.lifetimes.proofs.ImageLemmas.{worn_never}
+use Rattle.lifetimes.proofs.ImageLemmas.{whole_before, worn_never}
 use Rattle.lifetimes.proofs.LargeLemmas.{fills_large}
 use Rattle.lifetimes.proofs.OwnLemmas.{undisturbed_by}
 use Rattle.lifetimes.proofs.SmallLemmas.{small_whole}
@@ -25,6 +25,7 @@ use Rattle.lifetimes.specs.Ended.{history_of}
 use Rattle.lifetimes.specs.Past.{Past, Failures, Waits, LeavesAt, IsDiskAt, IsWell, IsReady, IsOpened, IsTreeAt, IsTreePolled, MayPoll, GoesOn, dropped, polled}
 use Rattle.lifetimes.specs.Script.{Halt, is_early}
 use Rattle.lifetimes.specs.Stopped.{IsStopped}
+use Rattle.lifetimes.specs.Whole.{TakesWhole}
 use Rattle.mem_world.specs.DiskFiles.{tear_of}
 use Rattle.out_segments.specs.CrashOutcome.{left_by}
 use Rattle.out_segments.specs.MemCount.{done_count}
@@ -64,8 +65,6 @@ use Rattle.poll_core.specs.declared.poll_fault.PollFault.TheVariants as poll
 use Rattle.poll_core.specs.declared.session.Session.{Session}
 use Rattle.slot_store.specs.Counted.{DoneFewer}
 use Rattle.slot_store.specs.Synced.{EachLeft}
-use Rattle.standing.proofs.MomentLemmas.{apart_before}
-use Rattle.standing.specs.Apart.{Apart}
 use Rattle.standing.specs.Moments.{IsLater}
 use Rattle.standing.specs.Rules.{Rules}
 use Rattle.standing.specs.AreRules.{AreRules}
@@ -163,18 +162,18 @@ disk_polled : (rules : Rules) (past : Past) (session : Session) (tree tree_after
     → IsReady session disk → IsOpened rules session → past.history ≡ history_of tree → LeavesAt rules past disk
     → Passes disk_images (Stays session) disk disk_after ⊎ MayGain tree_meaning disk_meaning session tree tree_after disk disk_after
     → (IsTrue early → Passes disk_images (Stays session) disk disk_after)
-    → KeepsStandingSince disk_images (rules_of_session session).front_size disk disk_after (state_of tree).world (state_of tree_after).world → IsLater (history_of tree) (history_of tree_after)
+    → KeepsStandingSince disk_images (rules_of_session session) disk disk_after (state_of tree).world (state_of tree_after).world → IsLater (history_of tree) (history_of tree_after)
     → LeavesAt rules (polled past (history_of tree_after) early) disk_after
 disk_polled rules past session tree tree_after disk disk_after early ready opened history_is leaves crash quick keeps later =
     let steps = steps_by session tree tree_after disk disk_after crash in
-    let since : KeepsStandingSince disk_images rules.front_size disk disk_after (state_of tree).world (state_of tree_after).world =
-    subst (λ (r : Rules). KeepsStandingSince disk_images r.front_size disk disk_after (state_of tree).world (state_of tree_after).world) opened.rules_are keeps in
-    let stood : Apart rules.front_size (history_of tree) → EachLeft disk_images disk (IsStanding (history_of tree)) = λ apart. record {
+    let since : KeepsStandingSince disk_images rules disk disk_after (state_of tree).world (state_of tree_after).world =
+    subst (λ (r : Rules). KeepsStandingSince disk_images r disk disk_after (state_of tree).world (state_of tree_after).world) opened.rules_are keeps in
+    let stood : TakesWhole rules (history_of tree) → EachLeft disk_images disk (IsStanding (history_of tree)) = λ takes. record {
       each = λ image left.
-          subst (λ (h : History). IsStanding h image) history_is ((leaves.each image left).standing (subst (λ (h : History). Apart rules.front_size h) (sym history_is) apart));
+          subst (λ (h : History). IsStanding h image) history_is ((leaves.each image left).standing (subst (λ (h : History). TakesWhole rules h) (sym history_is) takes));
     } in
     leaves_polled session ready.session_is rules opened past disk disk_after ready.stands leaves (history_of tree_after) early steps quick
-    (λ apart. stands_after rules.front_size (state_of tree).world (state_of tree_after).world disk disk_after (later_by session disk disk_after steps) since (stood (apart_before rules.front_size (history_of tree) (history_of tree_after) later apart)) apart)
+    (λ takes. stands_after rules (state_of tree).world (state_of tree_after).world disk disk_after (later_by session disk disk_after steps) since (stood (whole_before rules (history_of tree) (history_of tree_after) later takes)) takes)
 
 not_false : IsTrue false → ⊥
 not_false is = let never : false ≡ true = is in cc
@@ -183,7 +182,7 @@ not_false is = let never : false ≡ true = is in cc
 pub disk_through : (rules : Rules) (waits : Waits) (past : Past) (session : Session) (tree tree_after cleared : MemTree) (disk disk_after disk_cleared : MemDisk)
     → IsReady session disk → MayPoll rules waits past session tree disk
     → Passes disk_images (Stays session) disk disk_after ⊎ MayGain tree_meaning disk_meaning session tree tree_after disk disk_after
-    → KeepsStandingSince disk_images (rules_of_session session).front_size disk disk_after (state_of tree).world (state_of tree_after).world → IsLater (history_of tree) (history_of tree_after)
+    → KeepsStandingSince disk_images (rules_of_session session) disk disk_after (state_of tree).world (state_of tree_after).world → IsLater (history_of tree) (history_of tree_after)
     → IsWell (dropped waits.disk) disk_cleared → log_of disk_cleared ≡ log_of disk_after → state_of cleared ≡ unplanned (state_of tree_after)
     → IsDiskAt rules (polled past (history_of cleared) false) (dropped waits.disk) disk_cleared
 disk_through rules waits past session tree tree_after cleared disk disk_after disk_cleared ready may crash keeps later well same is =
@@ -199,7 +198,7 @@ pub disk_stopped : (rules : Rules) (waits : Waits) (past : Past) (session : Sess
     → IsReady session disk → MayPoll rules waits past session tree disk → log_of fused ≡ log_of disk → most_done fused ≡ Some (done_count (log_of disk) + halt.calls)
     → Passes disk_images (Stays session) fused disk_after ⊎ MayGain tree_meaning disk_meaning session tree tree_after fused disk_after
     → (DoneFewer 4 (done_of fused) (done_of disk_after) → Passes disk_images (Stays session) fused disk_after)
-    → KeepsStandingSince disk_images (rules_of_session session).front_size fused disk_after (state_of tree).world (state_of tree_after).world → IsLater (history_of tree) (history_of tree_after)
+    → KeepsStandingSince disk_images (rules_of_session session) fused disk_after (state_of tree).world (state_of tree_after).world → IsLater (history_of tree) (history_of tree_after)
     → most_done disk_after ≡ most_done fused → IfSome (most_done disk_after) (λ (most : ℕ). done_count (log_of disk_after) ≤ most)
     → state_of cleared ≡ unplanned (state_of tree_after) → LeavesAt rules (polled past (history_of cleared) (is_early (Some halt))) disk_after
 disk_stopped rules waits past session tree tree_after cleared disk fused disk_after halt ready may same limit crash quick keeps later still within is =
@@ -225,13 +224,13 @@ abbrev Timely : Session → History → List ℕ → Eras → Type 0
 Timely session history output eras =
     (stands : Stands eras history (checkpoint_of_session session).rows (checkpoint_of_session session).next_id output) × NoneLater (checkpoint_of_session session).observed stands.marks
 
-pub begins_by : OneSet → (rules : Rules) (waits : Waits) (past : Past) (session : Session) (tree : MemTree) (disk : MemDisk) → IsReady session disk → MayPoll rules waits past session tree disk → Apart rules.front_size (history_of tree) → BeginsBy rules session (history_of tree)
-begins_by one_set rules waits past session tree disk ready may apart =
+pub begins_by : OneSet → (rules : Rules) (waits : Waits) (past : Past) (session : Session) (tree : MemTree) (disk : MemDisk) → IsReady session disk → MayPoll rules waits past session tree disk → TakesWhole rules (history_of tree) → BeginsBy rules session (history_of tree)
+begins_by one_set rules waits past session tree disk ready may takes =
     let image : Image DiskFile = seen_of disk in
     let there = leaves_shown (log_of disk) in
     let left = ready.stands.each.each image there in
     let own = may.opened.rules_are in
-    let then : IsStanding past.history image = (may.disk_is.leaves.each image there).standing (subst (λ (h : History). Apart rules.front_size h) (sym may.history_is) apart) in
+    let then : IsStanding past.history image = (may.disk_is.leaves.each image there).standing (subst (λ (h : History). TakesWhole rules h) (sym may.history_is) takes) in
     let stood : IsStanding (history_of tree) image = subst (λ (h : History). IsStanding h image) may.history_is then in
     let before = stands_before session (session_eras one_set session ready.session_is (subst AreRules (sym own) may.laws)) (history_of tree) image left stood in
     let same : before.eras ≡ one_era rules = eras_of_one one_set rules (session_has rules session ready.session_is own) session.eras before.eras before.are may.opened.eras in
@@ -256,9 +255,9 @@ pub later_told : (tree tree_after : MemTree) → IsTelling tree tree_after → L
 later_told tree tree_after telling leaves = change_told GoesLater (state_of tree) (state_of tree_after) telling.0 telling.1 leaves.later
 
 -- what is told of a poll is said of the histories
-pub since_told : (session : Session) (tree tree_after : MemTree) (disk disk_after : MemDisk) → IsTelling tree tree_after → Told (KeepsStandingSince disk_images (rules_of_session session).front_size disk disk_after) (told_world (state_of tree)) (told_world (state_of tree_after))
-    → KeepsStandingSince disk_images (rules_of_session session).front_size disk disk_after (state_of tree).world (state_of tree_after).world
-since_told session tree tree_after disk disk_after telling keeps = change_told (KeepsStandingSince disk_images (rules_of_session session).front_size disk disk_after) (state_of tree) (state_of tree_after) telling.0 telling.1 keeps
+pub since_told : (session : Session) (tree tree_after : MemTree) (disk disk_after : MemDisk) → IsTelling tree tree_after → Told (KeepsStandingSince disk_images (rules_of_session session) disk disk_after) (told_world (state_of tree)) (told_world (state_of tree_after))
+    → KeepsStandingSince disk_images (rules_of_session session) disk disk_after (state_of tree).world (state_of tree_after).world
+since_told session tree tree_after disk disk_after telling keeps = change_told (KeepsStandingSince disk_images (rules_of_session session) disk disk_after) (state_of tree) (state_of tree_after) telling.0 telling.1 keeps
 
 -- ---- what becomes of the session
 
@@ -281,14 +280,14 @@ goes_on one_set rules waits past session next summary tree tree_after disk disk_
     let pass : IsSummed session (checkpoint_of_session next) done.added summary (counts_of tree_meaning tree) (counts_of tree_meaning tree_after) (state_of tree).world (state_of tree_after).world =
     change_told (IsSummed session (checkpoint_of_session next) done.added summary (counts_of tree_meaning tree) (counts_of tree_meaning tree_after)) (state_of tree) (state_of tree_after) telling.0 telling.1 done.pass in (
       record { eras = done.comes.eras ∙ may.opened.eras; rules_are = done.rules ∙ own; limit = done.limit ∙ may.opened.limit },
-      λ none_planned none_fails apart small.
+      λ none_planned none_fails takes small.
           let still : GoesBy [] (history_of tree) (history_of tree_after) = subst (λ (p : List (ℕ × Event)). GoesBy p (history_of tree) (history_of tree_after)) none_planned goes in
-          let before = begins_by one_set rules waits past session tree disk ready may (apart_before rules.front_size (history_of tree) (history_of tree_after) goes.later apart) in
+          let before = begins_by one_set rules waits past session tree disk ready may (whole_before rules (history_of tree) (history_of tree_after) goes.later takes) in
           let summed = subst (Summed stretch pass.looks (checkpoint_of_session session) (checkpoint_of_session next) done.added (sums_of summary)) (session_polls rules session may.opened.eras own) (pass.pass, pass.sums) in
           let whole : AreWhole (one_era rules) (history_of tree_after) (checkpoint_of_session next).rows =
-          small_whole (one_era rules) (one_era_laws rules may.laws) first (stamp_of_session session) (session_plain rules session own) stretch pass.looks
+          small_whole (one_era rules) (one_era_laws rules may.laws) first (stamp_of_session session) (session_plain rules session own takes.never) stretch pass.looks
           (checkpoint_of_session session) (checkpoint_of_session next) done.added summed.0 (sums_of summary) before.output
-          (omega (arith, none_fails, later, few)) (omega (arith, may.tree_is.few, may.few_tree)) apart lawful (undisturbed_by (history_of tree) (history_of tree_after) still)
+          (omega (arith, none_fails, later, few)) (omega (arith, may.tree_is.few, may.few_tree)) takes.apart lawful (undisturbed_by (history_of tree) (history_of tree_after) still)
           before.stands (before_poll session ready.session_is before.stands.marks before.times) summed.1 small in
           record {
             each = λ image left. record {
@@ -301,14 +300,14 @@ goes_on one_set rules waits past session next summary tree tree_after disk disk_
 
 pub may_fill : OneSet → (rules : Rules) (waits : Waits) (past : Past) (session : Session) (full : ℕ) (tree tree_after : MemTree) (disk : MemDisk)
     → IsReady session disk → MayPoll rules waits past session tree disk → Overflows session full (state_of tree).world (state_of tree_after).world → IsLater (history_of tree) (history_of tree_after) → MayFill rules (history_of tree_after)
-may_fill one_set rules waits past session full tree tree_after disk ready may overflows later = λ apart.
+may_fill one_set rules waits past session full tree tree_after disk ready may overflows later = λ takes.
     let own = may.opened.rules_are in
-    let before = begins_by one_set rules waits past session tree disk ready may (apart_before rules.front_size (history_of tree) (history_of tree_after) later apart) in
+    let before = begins_by one_set rules waits past session tree disk ready may (whole_before rules (history_of tree) (history_of tree_after) later takes) in
     let timely = subst (λ (r : Rules). Timely session (history_of tree) before.output (one_era r)) (sym own) (before.stands, before.times) in
     let eras_are : session.eras ≡ texts_of (one_era (rules_of_session session)) = subst (λ (r : Rules). session.eras ≡ texts_of (one_era r)) (sym own) may.opened.eras in
     subst (λ (r : Rules). Large r (history_of tree_after)) own
     (fills_large session full (state_of tree).world (state_of tree_after).world before.output ready.session_is eras_are (subst AreRules (sym own) may.laws) may.opened.limit overflows
-    (subst (λ (r : Rules). Apart r.front_size (history_of tree_after)) (sym own) apart) timely.0 (before_poll session ready.session_is timely.0.marks timely.1) before.size)
+    (subst (λ (r : Rules). TakesWhole r (history_of tree_after)) (sym own) takes) timely.0 (before_poll session ready.session_is timely.0.marks timely.1) before.size)
 
 -- No number is the last one while there are fewer polls than numbers.
 pub not_worn : (rules : Rules) (waits : Waits) (past : Past) (session : Session) (tree : MemTree) (disk : MemDisk) → IsReady session disk → MayPoll rules waits past session tree disk → IsWorn (journal_of_session session) → ⊥
@@ -381,7 +380,7 @@ goes_on_same : (rules : Rules) (waits : Waits) (history : History) (disk disk_cl
 goes_on_same rules waits history disk disk_cleared None same on = on
 goes_on_same rules waits history disk disk_cleared (Some next) same on = (
   on.0,
-  λ none_planned none_fails apart small. record { each = λ image left. (on.1 none_planned none_fails apart small).each image (subst (λ (log : Log). LeavesImage log image) same left) },
+  λ none_planned none_fails takes small. record { each = λ image left. (on.1 none_planned none_fails takes small).each image (subst (λ (log : Log). LeavesImage log image) same left) },
 )
 
 module _ (one_set : OneSet) (session : Session) (tree tree_after cleared : MemTree) (disk disk_after disk_cleared : MemDisk) (ready : IsReady session disk) (few : (failures : Failures) → IsWell failures disk → faults_of disk_after ≤ faults_of disk + failures.waiting) (went : (waits : Waits) → IsTreeAt waits.plan waits.tree tree → IsTreePolled waits tree cleared) (is : state_of cleared ≡ unplanned (state_of tree_after)) (same_log : log_of disk_cleared ≡ log_of disk_after) where

@@ -72,8 +72,8 @@ run_ends text script life marks run =
         has_session = is_some life.session;
         runs = subst (λ (events : List Event). Runs rules (reverse events) (reverse marks.items) (course_of life)) whole run.2.runs;
         sound = record { each = λ image left. (at.disk.leaves.each image left).sound };
-        standing = λ apart. record { each = λ image left. (at.disk.leaves.each image left).standing apart };
-        reached = λ apart ends small few. at.reached ends few apart small;
+        standing = λ takes. record { each = λ image left. (at.disk.leaves.each image left).standing takes };
+        reached = λ takes ends small few. at.reached ends few takes small;
         none_open = λ early. record { each = λ image left. (at.disk.leaves.each image left).none_open early };
         polls = at.polls;
         stops = at.stops;

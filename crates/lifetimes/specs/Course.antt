@@ -3,6 +3,7 @@ use Rattle.std.specs.Prelude.{◌≡◌, ◌≢◌, ℕ, true, false, Bool, List
 use Rattle.lifetimes.specs.Large.{Large}
 use Rattle.lifetimes.specs.Script.{Halt, pending}
 use Rattle.lifetimes.specs.Stopped.{IsStopped}
+use Rattle.lifetimes.specs.Whole.{TakesWhole}
 use Rattle.lifetimes.specs.declared.event.Event.{Event}
 use Rattle.lifetimes.specs.declared.event.Event.TheVariants.{World, During, Poll, Stop, FailDisk, FailTree, Reopen}
 use Rattle.mem_world.specs.MemDisk.{disk_images, history_of, seen_of}
@@ -15,7 +16,6 @@ use Rattle.outside.specs.Plan.{Follows}
 use Rattle.outside.specs.World.{Event as WorldEvent, History}
 use Rattle.outside.specs.declared.disk.DiskFile.{DiskFile}
 use Rattle.poll_core.specs.Reopens.{Reopens}
-use Rattle.standing.specs.Apart.{Apart}
 use Rattle.standing.specs.Moments.{IsLater}
 use Rattle.standing.specs.Rules.{Rules}
 
@@ -30,9 +30,9 @@ pub record GoesBy (plan : List (ℕ × WorldEvent)) (old new : History) : Type 0
   pub later : IsLater old new
   pub follows : Follows (record { steps = plan; since = length old }) new
 
--- Files can't be told apart, or they may have more lines than an output has room for.
+-- Lines aren't taken whole, or the files may have more of them than an output has room for.
 abbrev pub MayFill : Rules → History → Type 0
-MayFill rules history = Apart rules.front_size history → Large rules history
+MayFill rules history = TakesWhole rules history → Large rules history
 
 -- What an event makes of a course, behind the events before it.
 pub data Comes (rules : Rules) (before : List Event) (old : Course) : Event → Course → Type 0 where

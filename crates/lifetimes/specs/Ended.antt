@@ -6,6 +6,7 @@ use Rattle.lifetimes.specs.OneEra.{IsSoundBy, one_era}
 use Rattle.lifetimes.specs.Refusal.{IsSetup}
 use Rattle.lifetimes.specs.Script.{counts_of, EndsUndisturbed}
 use Rattle.lifetimes.specs.Small.{IsSmall, IsReachedIn}
+use Rattle.lifetimes.specs.Whole.{TakesWhole}
 use Rattle.lifetimes.specs.declared.ending.Ending.{Ending}
 use Rattle.lifetimes.specs.declared.event.Event.{Event}
 use Rattle.lifetimes.specs.declared.event.Event.TheVariants.{World, Poll, Reopen}
@@ -23,7 +24,6 @@ use Rattle.poll_core.specs.MadeOf.{HasRules}
 use Rattle.poll_core.specs.Polled.{IsStanding}
 use Rattle.slot_store.specs.ChosenSlot.{chosen_slot}
 use Rattle.slot_store.specs.Synced.{EachLeft}
-use Rattle.standing.specs.Apart.{Apart}
 use Rattle.standing.specs.Rules.{Rules}
 
 -- ---- endings
@@ -50,10 +50,10 @@ pub record IsEndingBy (rules : Rules) (events : List Event) (ending : Ending) : 
   pub runs : Runs rules events (reverse ending.marks.items) (record { history = history_of ending.tree; disk = ending.disk; has_session = has_session })
   -- Whatever a crash may leave is of these settings alone, and fits its output.
   pub sound : AllSound rules ending.disk
-  -- Where files can be told apart, it stands for the history.
-  pub standing : Apart rules.front_size (history_of ending.tree) → AllStand (history_of ending.tree) ending.disk
+  -- Where lines are taken whole, it stands for the history.
+  pub standing : TakesWhole rules (history_of ending.tree) → AllStand (history_of ending.tree) ending.disk
   -- After a poll that nothing disturbed, a small history's files are taken as a whole, unless they have too many lines.
-  pub reached : Apart rules.front_size (history_of ending.tree) → EndsUndisturbed events → IsSmall (history_of ending.tree)
+  pub reached : TakesWhole rules (history_of ending.tree) → EndsUndisturbed events → IsSmall (history_of ending.tree)
       → (Large rules (history_of ending.tree) → ⊥) → AllReached rules (history_of ending.tree) ending.disk
   -- Where each poll was stopped before its fourth call, nothing was committed.
   pub none_open : IsTrue (counts_of events).early → NoneOpen ending.disk

@@ -5,6 +5,7 @@ pub mod Script
 pub mod Stopped
 pub mod Large
 pub mod Small
+pub mod Whole
 pub mod Course
 pub mod Ended
 pub mod Past

@@ -6,6 +6,7 @@ use Rattle.lifetimes.specs.Ended.{history_of, AllReached}
 use Rattle.lifetimes.specs.OneEra.{IsSoundBy, one_era}
 use Rattle.lifetimes.specs.Refusal.{IsSetup}
 use Rattle.lifetimes.specs.Small.{IsSmall}
+use Rattle.lifetimes.specs.Whole.{TakesWhole}
 use Rattle.lifetimes.specs.declared.fault.ScriptFault.{ScriptFault}
 use Rattle.lifetimes.specs.declared.fault.ScriptFault.TheVariants.{Setup, NotOpen, AlreadyOpen, NotLawful, Memory}
 use Rattle.mem_world.specs.MemDisk.{disk_images, faults_of, most_faults}
@@ -23,7 +24,6 @@ use Rattle.poll_core.specs.StandsOn.{StandsOn}
 use Rattle.poll_core.specs.declared.session.Session.{Session}
 use Rattle.slot_store.specs.ChosenSlot.{chosen_slot}
 use Rattle.slot_store.specs.Synced.{EachLeft}
-use Rattle.standing.specs.Apart.{Apart}
 use Rattle.standing.specs.AreRules.{AreRules}
 use Rattle.standing.specs.Eras.{texts_of}
 use Rattle.standing.specs.Rules.{Rules}
@@ -56,11 +56,11 @@ pub record Past : Type 0 where
   -- each poll was stopped before its fourth call
   pub early : Bool
 
--- The image may be left: it is sound by these settings alone, and stands where files can be told apart. No more commits than
--- polls were made, and none in polls that were stopped early.
+-- The image may be left: it is sound by these settings alone, and stands where lines are taken whole. No more commits than polls
+-- were made, and none in polls that were stopped early.
 pub record IsLeftAt (rules : Rules) (past : Past) (image : Image DiskFile) : Type 0 where
   pub sound : IsSoundBy rules image
-  pub standing : Apart rules.front_size past.history → IsStanding past.history image
+  pub standing : TakesWhole rules past.history → IsStanding past.history image
   pub numbered : (sequence : ℕ) → HasSequence image sequence → sequence ≤ past.polls
   pub none_open : IsTrue past.early → chosen_slot image ≡ None
 
@@ -95,7 +95,7 @@ pub record IsOpened (rules : Rules) (session : Session) : Type 0 where
 
 -- A poll that nothing disturbed took all files of a small history as a whole.
 abbrev pub ReachesAll : Rules → History → MemDisk → Type 0
-ReachesAll rules history disk = Apart rules.front_size history → IsSmall history → AllReached rules history disk
+ReachesAll rules history disk = TakesWhole rules history → IsSmall history → AllReached rules history disk
 
 -- what waits for a poll: steps, and failures of the tree and of the disk
 pub record Waits : Type 0 where

@@ -5,6 +5,7 @@ ghost use Rattle.lifetimes.specs.Course.{GoesBy};
 ghost use Rattle.lifetimes.specs.Large.{Large};
 ghost use Rattle.lifetimes.specs.OneEra.{one_era};
 ghost use Rattle.lifetimes.specs.Small.{AreWhole, IsSmall};
+ghost use Rattle.lifetimes.specs.Whole.{TakesWhole};
 ghost use Rattle.outside.specs.Count.{last_count};
 ghost use Rattle.outside.specs.Lawful.{IsLawful};
 ghost use Rattle.outside.specs.World.{World};
@@ -35,13 +36,13 @@ pub fn a_small_history_is_taken_whole()
         → IsSmall stretch.new → AreWhole eras stretch.new after.rows }
 {}
 
-/// Where files can be told apart, the output of a session whose settings were never changed gets longer than 2^40 bytes only
-/// by the lines of a large history.
+/// Where lines are taken whole, the output of a session whose settings were never changed gets longer than 2^40 bytes only by
+/// the lines of a large history.
 pub fn only_a_large_history_fills_an_output()
     ensures { (session : Session) (full : ℕ) (old new : World) (output : List ℕ) → IsSession session
         → session.eras ≡ texts_of (one_era (rules_of_session session)) → AreRules (rules_of_session session)
         → limit_of session ≡ output_limit → Overflows session full old new
-        → Apart (rules_of_session session).front_size new.history
+        → TakesWhole (rules_of_session session) new.history
         → (stands : Stands (one_era (rules_of_session session)) old.history (checkpoint_of_session session).rows
         (checkpoint_of_session session).next_id output)
         → AreBefore (stamp_of_session session) stands.marks → length output ≡ kept_of session → Large (rules_of_session session) new.history }

@@ -2,8 +2,8 @@
 //! stopped and when it is opened again.
 //!
 //! **The contract for the layer above.** [`run_script`] takes any settings and any list of events. On Ok the world took a
-//! course that the script allows (`Runs` of `specs/Course`), and where files can be told apart by their first bytes, whatever a
-//! crash may leave at the end stands for the whole history: nothing is asked of what stood before, since nothing did
+//! course that the script allows (`Runs` of `specs/Course`), and where lines are taken whole (`TakesWhole` of `specs/Whole`),
+//! whatever a crash may leave at the end stands for the whole history: nothing is asked of what stood before, since nothing did
 //! (`IsEnding` of `specs/Ended`). After a poll that nothing disturbed the files of a small history are taken as a whole. A fault
 //! names the first event that can't come, or is that of the settings (`IsScriptFault`).
 #![tactic(auto)]

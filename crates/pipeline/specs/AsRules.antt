@@ -76,5 +76,5 @@ rules_of settings_text pipeline = record {
   front_size = (settings_of pipeline).fingerprint_size;
   from_end = begins_at_end (settings_of pipeline).start_at;
   stamps = (settings_of pipeline).include_observed_time;
-  flush_after = 0;
+  flush_after = (settings_of pipeline).flush_after_polls;
 }

@@ -83,6 +83,13 @@ impl Pipeline {
         self.settings.include_observed_time
     }
 
+    /// At which quiet look at a file what waits of it is flushed, or 0 for never.
+    pub fn flush_after(&self) -> u32
+        ensures { result ≡ (settings_of self.now).flush_after_polls }
+    {
+        self.settings.flush_after_polls
+    }
+
     /// The state of a file of which nothing was taken.
     pub fn fresh(&self, alloc: Global) -> Result<FileState, AllocError>
         ensures stands { IfOk result (λ state. (path : _) → StandsFor (settings_of self.now) (network self.now) path [] state) }

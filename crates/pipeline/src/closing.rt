@@ -28,6 +28,7 @@ impl Pipeline {
         requires states { HaveKinds self.now state.old.states.items }
         requires lines { state.old.lines ≤ 2 ^ 40 + length out.old.items }
         ensures closed { OnOk result (Closed (network self.now) id observed state.old state.new out.old.items out.new.items) }
+        ensures lines { OnOk result (state.new.lines + length out.old.items ≤ state.old.lines + length out.new.items) }
         ensures states { OnOk result (HaveKinds self.now state.new.states.items) }
     {
         let scope = Scope::new(alloc, id)?;
@@ -52,6 +53,8 @@ impl Pipeline {
         requires lines { state.old.lines ≤ 2 ^ 40 }
         requires records { state.old.records + length bytes.now ≤ 2 ^ 62 }
         ensures finished { OnOk result (Finished self.now (origin_of id path.now observed) bytes.now (state.old, out.old.items) (state.new, out.new.items)) }
+        ensures records { OnOk result (state.new.records ≤ state.old.records + length bytes.now) }
+        ensures lines { OnOk result (state.new.lines + length out.old.items ≤ state.old.lines + length out.new.items) }
         ensures states { OnOk result (HaveKinds self.now state.new.states.items) }
     {
         graph::begin(&self.graph);

@@ -1,17 +1,20 @@
 //! What the definitions imply.
+ghost use Rattle.std.specs.List.{list_all};
 ghost use Rattle.std.specs.Prelude.{◌≡◌, ℕ, ◌+◌, [], ◌++◌, List, length, true, false};
+ghost use Rattle.std.specs.Str.{bytes_eq};
 ghost use Rattle.entry_model.specs.LogRecord.{LogRecord};
 ghost use Rattle.graph_core.specs.Traces.{Network, start_states};
 ghost use Rattle.line_splitter.specs.Cuts.{IsCutRule};
-ghost use Rattle.op_kinds.specs.Kept.{Kept};
+ghost use Rattle.op_kinds.specs.Kept.{Kept, is_fresh};
 ghost use Rattle.op_kinds.specs.StateTexts.{Tells, states_in};
 ghost use Rattle.op_kinds.specs.States.{states_spelling, kinds_of, Spell, SpellNone};
 ghost use Rattle.pipeline.specs.AsRules.{rules_of};
+ghost use Rattle.pipeline.specs.Closed.{Finished};
 ghost use Rattle.pipeline.specs.Fed.{Fed};
 ghost use Rattle.pipeline.specs.GraphOutput.{graph_output, kept_from, given_from};
 ghost use Rattle.pipeline.specs.Origin.{origin_of};
 ghost use Rattle.pipeline.specs.Parts.{settings_of, network};
-ghost use Rattle.pipeline.specs.RowStates.{AreBytes, IsStateOfRow, TakesTokens};
+ghost use Rattle.pipeline.specs.RowStates.{AreBytes, IsStateOfRow, TakesRest, TakesTokens};
 ghost use Rattle.pipeline.specs.Tokens.{first_cut_of, tokens_of, used_of};
 ghost use Rattle.pipeline.specs.Wired.{IsNetwork};
 ghost use Rattle.settings_text.specs.Limits.{KeepsLimits};
@@ -80,6 +83,19 @@ pub fn a_row_is_fed_by_the_rules(pipeline: &Pipeline)
         → poll.rules ≡ rules_of settings_text pipeline.now → IsStateOfRow pipeline.now row before
         → Fed (settings_of pipeline.now) (network pipeline.now) (origin_of row.id row.path poll.stamp) (tokens_of (settings_of pipeline.now) bytes) before after out_before out_after
         → TakesTokens pipeline.now poll bytes row after out_before out_after }
+{
+    lines_append();
+}
+
+/// What [`Pipeline::finish`] does to the state of a row is what the rules say of a rest, from any state that the row tells, where no
+/// token of the bytes is one that more bytes can't change: no group is open then, and the lines of the rest and of the groups
+/// were appended. A group is open exactly where the row's state isn't the first one.
+pub fn a_row_is_flushed_by_the_rules(pipeline: &Pipeline)
+    ensures flushed { (settings_text bytes : List ℕ) (poll : Poll) (row : Row) (before after : FileState × List ℕ)
+        → poll.rules ≡ rules_of settings_text pipeline.now → IsStateOfRow pipeline.now row before.0 → poll.rules.cuts bytes ≡ []
+        → Finished pipeline.now (origin_of row.id row.path poll.stamp) bytes before after → TakesRest pipeline.now poll bytes row before.1 after }
+    ensures groups { (settings_text : List ℕ) (row : Row) (state : FileState) → IsStateOfRow pipeline.now row state
+        → bytes_eq row.state (rules_of settings_text pipeline.now).fresh ≡ list_all is_fresh state.states.items }
 {
     lines_append();
 }

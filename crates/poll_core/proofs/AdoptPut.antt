@@ -1,5 +1,5 @@
 -- What putting an adoption leaves of a disk.
-use Rattle.std.proofs.Common.{◌≡◌, ℕ, List, Option, None, Some, refl, sym, ap, subst, ◌∙◌, inl}
+use Rattle.std.proofs.Common.{◌≡◌, ℕ, List, Option, None, Some, sym, ap, subst, ◌∙◌, inl}
 use Rattle.std.specs.Prelude.{IsTrue}
 use Rattle.checkpoint_journal.specs.JournalOf.{EndsWith}
 use Rattle.checkpoint_journal.specs.Written.{Rewrites, StandsIn, started}
@@ -61,9 +61,9 @@ module _ {D : Type 0} (meaning : DiskMeaning D) (session : Session) (after : Che
     pub leaves_one : LeavesOne images synced
     leaves_one = one_synced (mid_differs meaning session disk mid stands keeps) sync
 
-    module _ {new : D} (rewrites : Passes images (Rewrites before after) synced new) where
+    module _ (put : Checkpoint) (put_is : put ≡ after) {new : D} (rewrites : Passes images (Rewrites before put) synced new) where
       puts : Passes images (Puts (journal_of_session session) after) synced new
-      puts = beside_crash (journal_of_session session) before after after (record { before_is = before_is; checkpoint_is = refl }) rewrites
+      puts = beside_crash (journal_of_session session) before after put (record { before_is = before_is; checkpoint_is = put_is }) rewrites
 
       module _ (told : (image : Image DiskFile) → images.may_leave disk image → IsTrue (images.tells disk)) (shown : IsTrue (images.tells disk) → images.may_leave disk (images.seen disk)) where
         pub put_crash : (added : List Mark) (end : ℕ) → Appends meaning (lines_text added) (kept_of session) end disk mid → Passes images (Steps session after added) disk new
@@ -71,14 +71,14 @@ module _ {D : Type 0} (meaning : DiskMeaning D) (session : Session) (after : Che
 
         -- each image has the checkpoint that was put, beside the lines that were
         pub has_put : (adoption : Adoption) → adoption.checkpoint ≡ after → (end : ℕ) → Appends meaning adoption.lines.items (kept_of session) end disk mid → ((image : Image DiskFile) → images.may_leave new image → IsTrue (images.tells disk))
-            → EachLeft images new (EndsWith (started before after) after) → EachLeft images new (HasPut adoption (images.seen disk Output))
+            → EachLeft images new (EndsWith (started before put) put) → EachLeft images new (HasPut adoption (images.seen disk Output))
         has_put adoption same end appends tells ends = record {
           each = λ image left.
               let past = puts.now_left image left in
               let synced_output : past.0 Output ≡ images.seen synced Output = sync.durable past.0 past.1 in
               let grown = (appends.output (tells image left)).here in
               record {
-                has = (started before after, (subst (λ (c : Checkpoint). EndsWith (started before after) c image) (sym same) (ends.each image left)).journal_is);
+                has = (started before put, (subst (λ (c : Checkpoint). EndsWith (started before put) c image) (put_is ∙ sym same) (ends.each image left)).journal_is);
                 output_is = past.2.files.output ∙ synced_output ∙ ap (λ (i : Image DiskFile). i Output) sync.seen ∙ grown;
               };
         }

@@ -32,7 +32,7 @@ use Rattle.standing.specs.Standing.{Found, nothing, damaged, found, Lengthens, S
 
 -- ---- an image that keeps all
 
-long_enough : (n : ℕ) (file : List ℕ) → length (take n file) ≡ n → n ≤ length file
+pub long_enough : (n : ℕ) (file : List ℕ) → length (take n file) ≡ n → n ≤ length file
 long_enough n file is = omega (arith, is, length-take n file)
 
 still : (history : History) (old new : Image DiskFile) → KeepsAll old new → IsStanding history old → IsStanding history new
@@ -59,10 +59,10 @@ still history old new keeps stood = by stood.there stood.found stood.are stood.s
 line_is : (text : List ℕ) (rules : Rules) → HasRules text rules → rules.line ≡ line_of
 line_is text rules has = ap (λ (r : Rules). r.line) has.2
 
-text_is : (text : List ℕ) (rules : Rules) (marks : List Mark) → HasRules text rules → output_text rules marks ≡ lines_text marks
+pub text_is : (text : List ℕ) (rules : Rules) (marks : List Mark) → HasRules text rules → output_text rules marks ≡ lines_text marks
 text_is text rules marks has = ap (λ (r : Rules). output_text r marks) has.2
 
-settings_are : (text : List ℕ) (rules : Rules) → HasRules text rules → rules.settings ≡ text
+pub settings_are : (text : List ℕ) (rules : Rules) → HasRules text rules → rules.settings ≡ text
 settings_are text rules has = ap (λ (r : Rules). r.settings) has.2
 
 at_last : (P : Rules → Type 0) (first : Rules) (later : List Rules) → All P (first ∷ later) → P (last_of first later)

@@ -30,7 +30,7 @@ last_is eras = by eras.first eras.later
 pub many : (eras : Eras) → length (texts_of eras) ≡ era_count eras
 many eras = length-map (all_eras eras) (λ (rules : Rules). rules.settings)
 
-sole_text : (texts : List (List ℕ)) → length texts ≡ 1 → texts ≡ last_text texts ∷ []
+pub sole_text : (texts : List (List ℕ)) → length texts ≡ 1 → texts ≡ last_text texts ∷ []
 sole_text [] few = absurd (omega (arith, few))
 sole_text (text ∷ []) few = refl
 sole_text (text ∷ other ∷ more) few = absurd (omega (arith, few))
@@ -98,7 +98,7 @@ before_poll session is marks none = before_stamp (rules_of_session session).stam
 -- What holds of each list of eras that has the session's texts; and where it is the first there is such a list.
 pub record SessionEras (session : Session) : Type 0 where
   pub poll_is : (eras : Eras) → AreErasOf session.eras eras → poll_of_session session ≡ poll_in eras (is_first session) (stamp_of_session session)
-  pub plain : (eras : Eras) → AreErasOf session.eras eras → IsPlainIn eras (is_first session) (stamp_of_session session)
+  pub plain : (rules_of_session session).flush_after ≡ 0 → (eras : Eras) → AreErasOf session.eras eras → IsPlainIn eras (is_first session) (stamp_of_session session)
   pub first : journal_of_session session ≡ None → (eras : Eras) × AreErasOf session.eras eras
 
 module _ (one_set : OneSet) (session : Session) (is : IsSession session) where
@@ -126,12 +126,12 @@ module _ (one_set : OneSet) (session : Session) (is : IsSession session) where
     poll_is = λ eras are.
         ap (λ (rules : Rules). poll_with rules (length session.eras) (is_first session) (stamp_of_session session)) (rules_are eras are)
         ∙ ap (λ (era : ℕ). poll_with (last_era eras) era (is_first session) (stamp_of_session session)) (era_is eras are);
-    plain = λ eras are. record {
+    plain = λ never eras are. record {
       is_poll = record {
         first_era = λ begins. none_later eras.later (sym (era_is eras are) ∙ is.one_era (first_has_none (journal_of_session session) begins));
         stamped = stamped_so (rules_of_session session).stamps session.time ∙ ap (λ (rules : Rules). rules.stamps) (rules_are eras are);
       };
-      no_flush = sym (ap (λ (rules : Rules). rules.flush_after) (rules_are eras are));
+      no_flush = sym (ap (λ (rules : Rules). rules.flush_after) (rules_are eras are)) ∙ never;
     };
     first = λ none. (
       record { first = rules_of_session session; later = [] },

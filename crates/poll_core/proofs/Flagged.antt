@@ -5,10 +5,10 @@ use Rattle.std.specs.Prelude.{slice_get}
 use Rattle.std.proofs.lemmas.List.Elements.{All-nil, All-cons}
 use Rattle.std.proofs.lemmas.Option.{none-some, same_Some}
 use Rattle.checkpoint_store.specs.Fits.{Ascend, HasId}
+use Rattle.checkpoint_store.specs.Parts.{flagged}
 use Rattle.checkpoint_store.specs.Rules.{KeepRules}
 use Rattle.checkpoint_store.specs.declared.beside.Beside.{Beside}
 use Rattle.file_tracker.specs.declared.row.Row.{Row}
-use Rattle.poll_core.specs.Taken.{flagged}
 
 ascend_from : (beside : Beside) (low lower high : ℕ) (rows : List Row) → lower ≤ low → Ascend beside low high rows → Ascend beside lower high rows
 ascend_from beside low lower high [] less up = tt

@@ -31,5 +31,6 @@ pub mod AdoptLaws
 pub mod AdoptDisk
 pub mod AdoptPut
 pub mod AdoptStands
+pub mod SoundLemmas
 pub mod AdoptWhole
 pub mod AdoptRefusals

@@ -11,6 +11,7 @@ use Rattle.checkpoint_store.proofs.Determined.{changed_alone}
 use Rattle.checkpoint_store.specs.Changed.{HasChanged}
 use Rattle.checkpoint_store.specs.Fits.{Fits, HasId}
 use Rattle.checkpoint_store.specs.Limits.{newest, era_limit, time_limit}
+use Rattle.checkpoint_store.specs.Parts.{flagged}
 use Rattle.checkpoint_store.specs.Rules.{IsCheckpoint, KeepsRules, KeepRules, beside_of}
 use Rattle.checkpoint_store.specs.declared.Change.{Change}
 use Rattle.checkpoint_store.specs.declared.Checkpoint.{Checkpoint}
@@ -35,7 +36,7 @@ use Rattle.poll_core.specs.Next.{IsSavable}
 use Rattle.poll_core.specs.Remembers.{EndsWithMemory}
 use Rattle.poll_core.specs.SessionParts.{checkpoint_of_session, is_first, journal_of_session, poll_of_session, rules_of_session, settings_of_session, stamp_at, stamp_of_session, kept_of, limit_of}
 use Rattle.poll_core.proofs.TakenLemmas.{row_kept}
-use Rattle.poll_core.specs.Taken.{Keeping, flagged}
+use Rattle.poll_core.specs.Taken.{Keeping}
 use Rattle.poll_core.specs.declared.session.Session.{Session}
 use Rattle.standing.specs.Pass.{time_of}
 use Rattle.standing.specs.Poll.{Poll}

@@ -2,8 +2,8 @@
 use Rattle.std.proofs.Common.{◌≡◌, ◌≢◌, ℕ, ◌+◌, ◌^◌, ◌≤◌, List, length, Option, Some, None, Result, Ok, Err, OnOk, refl, sym, ap, ◌∙◌, subst, inl, inr, arith}
 use Rattle.std.proofs.lemmas.Option.{same_Some}
 use Rattle.std.specs.Prelude.{IfOk}
-use Rattle.checkpoint_journal.proofs.CostLemmas.{change_cost}
-use Rattle.checkpoint_journal.proofs.ShortLemmas.{checkpoint_short}
+use Rattle.checkpoint_store.proofs.CostLemmas.{change_cost}
+use Rattle.checkpoint_store.proofs.ShortLemmas.{checkpoint_short}
 use Rattle.checkpoint_journal.specs.JournalOf.{EndsWith}
 use Rattle.checkpoint_journal.specs.Written.{Awaits, appended, GainsChange, Appends, written_file, started, StandsIn, KeepsOld, Rewrites}
 use Rattle.checkpoint_journal.specs.declared.journal.Journal.{Journal}
@@ -35,9 +35,6 @@ use Rattle.slot_store.specs.declared.fault.CommitFault.{CommitFault}
 use Rattle.slot_store.specs.declared.fault.CommitFault.TheVariants.{Worn}
 
 -- ---- files
-
-pub files_same : (image : Image DiskFile) → KeepsFiles image image
-files_same image = record { settings = refl; output = refl }
 
 slot_not_settings : (file : DiskFile) → IsSlotFile file → Settings ≢ file
 slot_not_settings Settings is same = is
@@ -188,11 +185,6 @@ pub beside_is_next : (journal before : Option Journal) (after checkpoint : Check
 beside_is_next journal before after checkpoint change beside lawful due =
     subst (λ (c : Checkpoint). IsNext journal after change (started before c)) (sym beside.checkpoint_is)
     (subst (λ (j : Option Journal). IsNext journal after change (started j after)) (sym beside.before_is) (beside_next journal after change lawful due))
-
-pub puts_same : (journal : Option Journal) (after : Checkpoint) (old new : Image DiskFile) → new ≡ old → Puts journal after old new
-puts_same journal after old new same =
-    let P : Image DiskFile → Type 0 = λ image. Puts journal after old image in
-    subst P (sym same) (record { files = files_same old; choice = inl (λ before memory. memory) })
 
 -- ---- what it costs
 

@@ -31,7 +31,7 @@ fine_at : (rules : Rules) (rows : List Row) (place : ℕ) (row : Row) → KeepSt
 fine_at rules rows place row fine there =
     subst (λ (r : Row). IsTrue (rules.is_state r.state)) (get_or_from_slice_get rows place row row there) (fine place row (slice_get_within rows place row there))
 
-none_foreign : (rules : Rules) (rows : List Row) (id : ℕ) → KeepStates rules rows → IsLeastForeign rules rows id → ⊥
+pub none_foreign : (rules : Rules) (rows : List Row) (id : ℕ) → KeepStates rules rows → IsLeastForeign rules rows id → ⊥
 none_foreign rules rows id fine least =
     let good = fine_at rules rows least.place least.row fine least.there in
     let bad = least.foreign in

@@ -64,7 +64,7 @@ module _ (spell_one : SpellOne) where
     front_size = said.fingerprint_size;
     from_end = begins_at_end said.start_at;
     stamps = said.include_observed_time;
-    flush_after = 0;
+    flush_after = said.flush_after_polls;
   }
 
   pub one_rules : (text : List ℕ) (one other : Pipeline) → IsMadeOf text one → IsMadeOf text other → rules_of text one ≡ rules_of text other

@@ -1,4 +1,4 @@
--- Whatever a poll leaves of a disk, it is sound, and keeps what was kept.
+-- Whatever a poll leaves of a disk, it is sound by eras that end with the session's, and keeps what was kept.
 use Rattle.std.proofs.Common.{◌≡◌, ℕ, ◌+◌, ◌≤◌, List, ◌++◌, length, take, Option, None, Some, refl, sym, ap, subst, ◌∙◌, arith, inl, inr}
 use Rattle.std.proofs.lemmas.List.{take_all, length-append}
 use Rattle.checkpoint_journal.specs.declared.journal.Journal.{Journal}
@@ -15,15 +15,14 @@ use Rattle.poll_core.proofs.SessionLemmas.{kept_found, left_goes_on, session_sou
 use Rattle.poll_core.proofs.RowLemmas.{rows_in_order}
 use Rattle.poll_core.specs.Found.{IsFound}
 use Rattle.poll_core.specs.IsSession.{IsSession}
-use Rattle.poll_core.specs.MadeOf.{EndsWithRules, HasRules}
-use Rattle.poll_core.specs.Polled.{ComesAfter, Gains, IsSoundImage, Stays, Steps}
+use Rattle.poll_core.specs.Polled.{ComesAfter, Gains, Stays, Steps}
 use Rattle.poll_core.specs.Remembers.{HasMemory, IsLeftBy}
 use Rattle.poll_core.specs.SessionParts.{checkpoint_of_session, rules_of_session, journal_of_session, kept_of}
 use Rattle.poll_core.specs.declared.session.Session.{Session}
 use Rattle.standing.specs.Eras.{Eras, last_era, texts_of}
 use Rattle.standing.specs.Rows.{Checkpoint, KeepStates}
 use Rattle.standing.specs.Rules.{Rules}
-use Rattle.standing.specs.Standing.{Found, nothing, found, kept}
+use Rattle.standing.specs.Standing.{Found, Sound, nothing, found, kept}
 use Rattle.standing.specs.Stands.{IsSound}
 use Rattle.standing.specs.Marks.{Mark}
 
@@ -40,9 +39,12 @@ own_eras session is = record {
   last = ending_last (rules_of_session session) session.eras;
 }
 
-ends_with : (session : Session) → IsSession session → (own : OwnEras session) → EndsWithRules own.eras
-ends_with session is own =
-    subst (λ (rules : Rules). HasRules rules.settings rules) (sym own.last) (session.pipeline, is.made, refl)
+-- the image is sound by some eras
+pub record IsSoundByEras (image : Image DiskFile) : Type 0 where
+  pub there : Found
+  pub found : IsFound image there
+  pub eras : Eras
+  pub sound : Sound eras there (image Output)
 
 comes_sound : (session : Session) (next : Checkpoint) (added : List Mark) (file : List ℕ) → (own : OwnEras session) → ComesAfter session next added → next.output_length ≤ length file → IsSound own.eras next file
 comes_sound session next added file own comes enough =
@@ -53,31 +55,30 @@ comes_sound session next added file own comes enough =
       long_enough = enough;
     }
 
-memory_sound : (eras : Eras) → EndsWithRules eras → (journal : Option Journal) (saved : Checkpoint) (image : Image DiskFile) → HasMemory journal saved image → IsSound eras saved (image Output) → IsSoundImage image
-memory_sound eras ends None saved image memory sound = record { there = nothing; found = memory.0; eras = eras; last = tt; sound = tt }
-memory_sound eras ends (Some journal) saved image memory sound = record { there = found saved; found = (journal, memory); eras = eras; last = ends; sound = sound }
+memory_sound : (eras : Eras) → (journal : Option Journal) (saved : Checkpoint) (image : Image DiskFile) → HasMemory journal saved image → IsSound eras saved (image Output) → IsSoundByEras image
+memory_sound eras None saved image memory sound = record { there = nothing; found = memory.0; eras = eras; sound = tt }
+memory_sound eras (Some journal) saved image memory sound = record { there = found saved; found = (journal, memory); eras = eras; sound = sound }
 
-stays_long : (session : Session) (old new : Image DiskFile) → IsLeftBy session old → Stays session old new → kept_of session ≤ length (new Output)
+pub stays_long : (session : Session) (old new : Image DiskFile) → IsLeftBy session old → Stays session old new → kept_of session ≤ length (new Output)
 stays_long session old new left stays = let long = stays.front.no_shorter in omega (arith, left.output, long)
 
-gains_long : (session : Session) (next : Checkpoint) (added : List Mark) (old new : Image DiskFile) → ComesAfter session next added → IsLeftBy session old → Gains session next added old new → length (new Output) ≡ next.output_length
+pub gains_long : (session : Session) (next : Checkpoint) (added : List Mark) (old new : Image DiskFile) → ComesAfter session next added → IsLeftBy session old → Gains session next added old new → length (new Output) ≡ next.output_length
 gains_long session next added old new comes left gains =
     ap length gains.output ∙ length-append (old Output) (lines_text added) ∙ ap (λ (n : ℕ). n + length (lines_text added)) left.output ∙ sym comes.output_length
 
-pub stays_sound : (session : Session) (old new : Image DiskFile) → IsSession session → IsLeftBy session old → Stays session old new → IsSoundImage new
-stays_sound session old new is left stays =
+pub stays_sound_by : (session : Session) (old new : Image DiskFile) → IsSession session → IsLeftBy session old → Stays session old new → IsSoundByEras new
+stays_sound_by session old new is left stays =
     let own = own_eras session is in
-    memory_sound own.eras (ends_with session is own) (journal_of_session session) (checkpoint_of_session session) new stays.memory
+    memory_sound own.eras (journal_of_session session) (checkpoint_of_session session) new stays.memory
     (session_sound session (new Output) is (stays_long session old new left stays) own.eras own.texts_are own.last)
 
-pub steps_sound : (session : Session) (next : Checkpoint) (added : List Mark) (old new : Image DiskFile) → IsSession session → ComesAfter session next added → IsLeftBy session old → Steps session next added old new → IsSoundImage new
-steps_sound session next added old new is comes left steps = elim steps [
-  | inl stays ↦ stays_sound session old new is left stays
+pub steps_sound_by : (session : Session) (next : Checkpoint) (added : List Mark) (old new : Image DiskFile) → IsSession session → ComesAfter session next added → IsLeftBy session old → Steps session next added old new → IsSoundByEras new
+steps_sound_by session next added old new is comes left steps = elim steps [
+  | inl stays ↦ stays_sound_by session old new is left stays
   | inr gains ↦ record {
     there = found next;
     found = (gains.memory.0, gains.memory.1);
     eras = (own_eras session is).eras;
-    last = ends_with session is (own_eras session is);
     sound = comes_sound session next added (new Output) (own_eras session is) comes (omega (arith, gains_long session next added old new comes left gains));
   }
 ]

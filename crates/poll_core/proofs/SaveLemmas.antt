@@ -1,5 +1,5 @@
 -- What a sync of the output, and a checkpoint that is put after it, make of a disk.
-use Rattle.std.proofs.Common.{◌≡◌, ◌≢◌, ℕ, ◌+◌, List, Option, Some, None, refl, sym, ap, ◌∙◌, subst, arith, inl, inr}
+use Rattle.std.proofs.Common.{◌≡◌, ◌≢◌, ℕ, ◌+◌, List, Option, Some, None, refl, sym, ap, ◌∙◌, arith, inl, inr}
 use Rattle.std.specs.Option.{unwrap_or}
 use Rattle.std.specs.Prelude.{option_map}
 use Rattle.checkpoint_journal.specs.declared.journal.Journal.{Journal}
@@ -16,11 +16,6 @@ use Rattle.slot_store.specs.Counted.{DoneFewer}
 use Rattle.standing.specs.Pass.{time_of}
 
 -- ---- one image after another
-
-pub keeps_same : (journal : Option Journal) (old new : Image DiskFile) → new ≡ old → KeepsMemory journal old new
-keeps_same journal old new same =
-    let P : Image DiskFile → Type 0 = λ image. KeepsMemory journal old image in
-    subst P (sym same) (λ before memory. memory)
 
 -- the time of a poll, or else the one before
 pub time_is : (stamp : Option ℕ) (before : ℕ) → unwrap_or stamp before ≡ time_of stamp before

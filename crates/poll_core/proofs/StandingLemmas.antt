@@ -99,7 +99,7 @@ kept_whole eras damaged checkpoint history output begins size stands = absurd st
 kept_whole eras (found own) checkpoint history output begins size stands =
     take_all own.output_length output (omega (arith, size, ap (λ (c : Checkpoint). c.output_length) begins))
 
-module _ (session : Session) (own : SessionEras session) (before after : History) where
+module _ (session : Session) (own : SessionEras session) (never : (rules_of_session session).flush_after ≡ 0) (before after : History) where
   stays_stands : (old new : Image DiskFile) → IsLater before after → IsLeftBy session old → Stays session old new → IsStanding before old → IsStanding after new
   stays_stands old new later left stays stood =
       stays_by (journal_of_session session) (checkpoint_of_session session) before after old new later left.memory left.output stays.memory stays.front stood
@@ -129,7 +129,7 @@ module _ (session : Session) (own : SessionEras session) (before after : History
         found = (gains.memory.0, gains.memory.1);
         eras = eras;
         are = record { texts_are = comes.eras ∙ are.texts_are; each = are.each; laws = are.laws };
-        stands = pass_keeps_standing eras are.laws (is_first session) (stamp_of_session session) (own.plain eras are) stretch looks there next added (old Output) (new Output) passed lengthens
+        stands = pass_keeps_standing eras are.laws (is_first session) (stamp_of_session session) (own.plain never eras are) stretch looks there next added (old Output) (new Output) passed lengthens
             (subst (λ n. Apart n after) (ap (λ (r : Rules). r.front_size) line_is ∙ last_size eras are.laws) apart) stands;
       }
 
@@ -151,8 +151,8 @@ module _ (session : Session) (own : SessionEras session) (before after : History
 -- ---- every image
 
 module _ {D : Type 0} (images : Images DiskFile D) (disk disk_after : D) (counts_now : (from : ℕ) (image : Image DiskFile) → from ≤ images.moment disk → images.may_leave disk image → images.left_since disk from image) (session : Session) (own : SessionEras session) (each : EachLeft images disk (IsLeftBy session)) where
-  abbrev fronts : ℕ
-  fronts = (rules_of_session session).front_size
+  abbrev own_rules : Rules
+  own_rules = rules_of_session session
 
   all_stand : (change : Image DiskFile → Image DiskFile → Type 0) (before after : History) → IsLater before after → Passes images change disk disk_after
       → ((old new : Image DiskFile) → IsLeftBy session old → change old new → IsStanding before old → IsStanding after new)
@@ -164,20 +164,20 @@ module _ {D : Type 0} (images : Images DiskFile D) (disk disk_after : D) (counts
         | inr past ↦ step past.0 image (each.each past.0 past.1) past.2 (stood past.0 (counts_now from past.0 early past.1))
       ]
 
-  pub stands_still : (old new : Option World) → Told GoesLater old new → Passes images (Stays session) disk disk_after → Told (KeepsStandingSince images fronts disk disk_after) old new
+  pub stands_still : (old new : Option World) → Told GoesLater old new → Passes images (Stays session) disk disk_after → Told (KeepsStandingSince images own_rules disk disk_after) old new
   stands_still None None later passes = tt
   stands_still None (Some new) later passes = absurd later
   stands_still (Some old) None later passes = absurd later
-  stands_still (Some old) (Some new) later passes = λ apart from early stood.
-      all_stand (Stays session) old.history new.history later passes (λ x y left stays. stays_stands session own old.history new.history x y later left stays) from early stood
+  stands_still (Some old) (Some new) later passes = λ never apart from early stood.
+      all_stand (Stays session) old.history new.history later passes (λ x y left stays. stays_stands session own never old.history new.history x y later left stays) from early stood
 
   pub stands_on : (next : Checkpoint) (added : List Mark) (count count_after : TreeCounts) (old new : Option World) → Told GoesLater old new → ComesAfter session next added → Told (IsPass session next added count count_after) old new
-      → Passes images (Steps session next added) disk disk_after → Told (KeepsStandingSince images fronts disk disk_after) old new
+      → Passes images (Steps session next added) disk disk_after → Told (KeepsStandingSince images own_rules disk disk_after) old new
   stands_on next added count count_after None None later comes pass passes = tt
   stands_on next added count count_after None (Some new) later comes pass passes = absurd later
   stands_on next added count count_after (Some old) None later comes pass passes = absurd later
-  stands_on next added count count_after (Some old) (Some new) later comes pass passes = λ apart from early stood.
+  stands_on next added count count_after (Some old) (Some new) later comes pass passes = λ never apart from early stood.
       all_stand (Steps session next added) old.history new.history later passes (λ x y left step. elim step [
-        | inl stays ↦ stays_stands session own old.history new.history x y later left stays
-        | inr gains ↦ gains_stands session own old.history new.history next added pass.looks count.faults count_after.faults x y pass.pass comes apart left gains
+        | inl stays ↦ stays_stands session own never old.history new.history x y later left stays
+        | inr gains ↦ gains_stands session own never old.history new.history next added pass.looks count.faults count_after.faults x y pass.pass comes apart left gains
       ]) from early stood

@@ -8,7 +8,7 @@ use Rattle.slot_store.specs.OnlyRead.{KeepsTerms}
 abbrev pub DoneAtMost : ℕ → Option ℕ → Option ℕ → Type 0
 DoneAtMost calls before after = (some : ℕ) × (some ≤ calls) × DoneMore some before after
 
--- At most so many cuts and syncs succeeded, and there was no write.
+-- At most so many calls that change the disk succeeded, and no byte went to a slot. Of an opening they are cuts and syncs.
 pub record CutsAndSyncs {D : Type 0} (calls : ℕ) (meaning : DiskMeaning D) (old new : D) : Type 0 where
   pub done : DoneAtMost calls (meaning.done old) (meaning.done new)
   pub written : meaning.written new ≡ meaning.written old

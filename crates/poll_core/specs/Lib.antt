@@ -8,6 +8,7 @@ pub mod Calls
 pub mod Remembers
 pub mod IsSession
 pub mod StandsOn
+pub mod Sound
 pub mod Reopens
 pub mod OpenCause
 pub mod OpenFaults

@@ -19,7 +19,7 @@ use Rattle.outside.specs.World.{History, World, Told}
 use Rattle.outside.specs.declared.disk.DiskFile.{DiskFile}
 use Rattle.outside.specs.declared.disk.DiskFile.TheVariants.{Settings, Output}
 use Rattle.poll_core.specs.Found.{IsFound}
-use Rattle.poll_core.specs.MadeOf.{AreErasOf, EndsWithRules}
+use Rattle.poll_core.specs.MadeOf.{AreErasOf}
 use Rattle.poll_core.specs.Next.{HasNext, Costs, IsNext}
 use Rattle.poll_core.specs.Remembers.{HasMemory}
 use Rattle.poll_core.specs.SessionParts.{checkpoint_of_session, is_first, poll_of_session, rules_of_session, journal_of_session, kept_of, limit_of, time_of_session}
@@ -34,7 +34,7 @@ use Rattle.standing.specs.Moments.{NamesThroughout}
 use Rattle.standing.specs.Pass.{Pass, Stretch, IsReachable, WasHidden, start_at}
 use Rattle.standing.specs.Rows.{KeepStates}
 use Rattle.standing.specs.Rules.{Includes}
-use Rattle.standing.specs.Standing.{Found, nothing, damaged, found, Sound, Standing}
+use Rattle.standing.specs.Standing.{Found, nothing, damaged, found, Standing}
 use Rattle.standing.specs.Sums.{AreSums, capped}
 use Rattle.tree_walk.specs.Walked.{Ascends}
 
@@ -182,20 +182,6 @@ pub record HasToKeep {T : Type 0} (trees : TreeMeaning T) (session : Session) (t
   pub changes : ChangesNothing session after → ⊥
 
 -- ---- what stands
-
--- The last of the eras has the rules of its settings, if there is a checkpoint.
-abbrev pub EndWithRulesIn : Found → Eras → Type 0
-EndWithRulesIn nothing eras = ⊤
-EndWithRulesIn damaged eras = ⊤
-EndWithRulesIn (found checkpoint) eras = EndsWithRules eras
-
--- The image is sound by the eras that it has itself, whatever was read.
-pub record IsSoundImage (image : Image DiskFile) : Type 0 where
-  pub there : Found
-  pub found : IsFound image there
-  pub eras : Eras
-  pub last : EndWithRulesIn there eras
-  pub sound : Sound eras there (image Output)
 
 -- The eras are those of the checkpoint that was found, if there is one.
 abbrev pub AreErasIn : Found → Eras → Type 0

@@ -1,9 +1,9 @@
 -- What a pass leaves, as a checkpoint and as a change.
-use Rattle.std.specs.Prelude.{◌+◌, List, [], ◌∷◌, length, Bool, true, false}
+use Rattle.std.specs.Prelude.{◌+◌, length}
+use Rattle.checkpoint_store.specs.Parts.{flagged}
 use Rattle.checkpoint_store.specs.declared.Change.{Change}
 use Rattle.checkpoint_store.specs.declared.Checkpoint.{Checkpoint}
 use Rattle.file_pass.specs.declared.taking.Taking.{Taking}
-use Rattle.file_tracker.specs.declared.row.Row.{Row}
 use Rattle.poll_core.specs.declared.heading.Heading.{Heading}
 
 -- ids count from 1
@@ -15,13 +15,6 @@ taken_checkpoint heading taking = record {
   next_id = length taking.tracker + 1;
   rows = taking.tracker;
 }
-
--- the rows whose flag is set
-abbrev pub flagged : List Bool → List Row → List Row
-flagged [] rows = []
-flagged (flag ∷ flags) [] = []
-flagged (true ∷ flags) (row ∷ rows) = row ∷ flagged flags rows
-flagged (false ∷ flags) (row ∷ rows) = flagged flags rows
 
 abbrev pub taken_change : Heading → Taking → Change
 taken_change heading taking = record { output_length = taking.end; observed = heading.observed; next_id = length taking.tracker + 1; rows = flagged taking.changed.items taking.tracker }

@@ -225,7 +225,12 @@ impl Session {
     {
         write_behind(alloc, disk, self.kept, &adoption.lines)?;
         disk.sync(alloc, DiskFile::Output)?;
-        let _journal = rewrite(alloc, self.journal.as_ref(), disk, &adoption.checkpoint)?;
+        let _journal = rewrite(
+            alloc,
+            self.journal.as_ref(),
+            disk,
+            &adoption.checkpoint.parts(),
+        )?;
         Ok(())
     }
 }

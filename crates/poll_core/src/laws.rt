@@ -10,17 +10,22 @@ ghost use Rattle.outside.specs.World.{History, World};
 ghost use Rattle.outside.specs.declared.disk.DiskFile.{DiskFile};
 ghost use Rattle.pipeline.specs.AsRules.{rules_of};
 ghost use Rattle.pipeline.specs.declared.Pipeline.{Pipeline};
+ghost use Rattle.poll_core.specs.AdoptFaults.{IsUnadopted};
+ghost use Rattle.poll_core.specs.Adopting.{IsAdopted, MayAdopt};
 ghost use Rattle.poll_core.specs.Differs.{DiffersAt};
 ghost use Rattle.poll_core.specs.Found.{IsFound};
 ghost use Rattle.poll_core.specs.IsSession.{IsSession};
 ghost use Rattle.poll_core.specs.MadeOf.{AreErasOf, EndsWithRules, IsMadeOf, HasRules};
-ghost use Rattle.poll_core.specs.OpenFaults.{IsRefused};
-ghost use Rattle.poll_core.specs.Polled.{ComesAfter, Gains, IsSoundImage, IsSummed, Stays, Steps, TreeCounts};
+ghost use Rattle.poll_core.specs.OpenFaults.{HasOtherSettings, IsRefused};
+ghost use Rattle.poll_core.specs.Polled.{ComesAfter, Gains, IsSummed, Stays, Steps, TreeCounts};
 ghost use Rattle.poll_core.specs.Remembers.{GoesOnFrom, IsLeftBy};
 ghost use Rattle.poll_core.specs.Reopens.{Reopens};
 ghost use Rattle.poll_core.specs.Sequence.{HasSequence};
 ghost use Rattle.poll_core.specs.SessionParts.{checkpoint_of_session, rules_of_session, settings_of_session, kept_of, journal_of_session, stamp_of_session};
+ghost use Rattle.poll_core.specs.Sound.{IsOfOthers, IsSoundImage};
 ghost use Rattle.poll_core.specs.Summed.{TellsAll};
+ghost use Rattle.poll_core.specs.declared.adopt_fault.AdoptFault.{AdoptFault};
+ghost use Rattle.poll_core.specs.declared.adopted.Adopted.{Adopted};
 ghost use Rattle.poll_core.specs.declared.fault.OpenFault.{OpenFault};
 ghost use Rattle.poll_core.specs.declared.fault.OpenFault.TheVariants.{SettingsChanged};
 ghost use Rattle.poll_core.specs.declared.session.Session.{Session};
@@ -106,6 +111,22 @@ pub fn a_sound_image_is_opened()
     settings_give_one_set_of_rules();
 }
 
+/// An image that is sound is refused at opening only for other settings, and at adoption never because what it has doesn't fit
+/// itself: what adopting may refuse of it is that no operators can be made of its last settings. Whatever adopting leaves of it
+/// is sound.
+pub fn a_sound_image_fits_together()
+    ensures opened { (text : List ℕ) (image : Image DiskFile) (fault : OpenFault) → IsSoundImage image
+        → IsRefused text image fault → (at : ℕ) × (fault ≡ SettingsChanged at) × HasOtherSettings text image at }
+    ensures adopted { (text : List ℕ) (limit : ℕ) (image : Image DiskFile) (fault : AdoptFault) → IsSoundImage image
+        → IsUnadopted text limit image fault → IsOfOthers fault }
+    ensures adopting { (text : List ℕ) (limit : ℕ) (adopted : Adopted) (old new : Image DiskFile) → IsSoundImage old
+        → IsAdopted text limit adopted old new → IsSoundImage new }
+    ensures crash { (text : List ℕ) (limit : ℕ) (old new : Image DiskFile) → IsSoundImage old → MayAdopt text limit old new
+        → IsSoundImage new }
+{
+    settings_give_one_set_of_rules();
+}
+
 /// What a session stands on is sound, and is found again with the session's checkpoint.
 pub fn a_session_is_sound()
     ensures sound { (session : Session) (file : List ℕ) → IsSession session → kept_of session ≤ length file
@@ -124,14 +145,14 @@ pub fn a_session_begins_with_what_was_found()
         → IsFound image there → (journal_of_session session ≡ None) ↔ (there ≡ nothing) }
 {}
 
-/// Whatever a poll leaves is sound, whether or not the tree tells its history, and what was kept of the output is kept: a
-/// step that only stays keeps it, and one that gains keeps it and the lines behind it.
+/// Whatever a poll leaves of a sound image is sound, whether or not the tree tells its history, and what was kept of the output
+/// is kept: a step that only stays keeps it, and one that gains keeps it and the lines behind it.
 pub fn polling_keeps_what_is_kept()
     ensures stays { (session : Session) (old new : Image DiskFile) → IsSession session → IsLeftBy session old
-        → Stays session old new → IsSoundImage new }
+        → IsSoundImage old → Stays session old new → IsSoundImage new }
     ensures sound { (session : Session) (next : Checkpoint) (added : List Mark) (old new : Image DiskFile)
-        → IsSession session → ComesAfter session next added → IsLeftBy session old → Steps session next added old new
-        → IsSoundImage new }
+        → IsSession session → ComesAfter session next added → IsLeftBy session old → IsSoundImage old
+        → Steps session next added old new → IsSoundImage new }
     ensures kept { (session : Session) (old new : Image DiskFile) (there after : Found) → IsLeftBy session old
         → Stays session old new → IsFound old there → IsFound new after
         → kept after (new DiskFile.Output) ≡ kept there (old DiskFile.Output) }
@@ -139,14 +160,18 @@ pub fn polling_keeps_what_is_kept()
         (there after : Found) → ComesAfter session next added → IsLeftBy session old → Gains session next added old new
         → IsFound old there → IsFound new after
         → kept after (new DiskFile.Output) ≡ kept there (old DiskFile.Output) ++ lines_text added }
-{}
+{
+    settings_give_one_set_of_rules();
+}
 
 /// After a poll whose summary tells that nothing was left or passed over, and in which no name was given or taken, each file
-/// that has a path to be read was looked at, and unless it was empty then, all that its bytes had then is taken.
+/// that has a path to be read was looked at, and unless it was empty then, all that its bytes had then is taken. The settings flush
+/// nothing.
 pub fn a_complete_poll_reaches_all()
     ensures { (session : Session) (next : Checkpoint) (added : List Mark) (summary : Summary) (count count_after : TreeCounts)
         (old new : World) (summed : IsSummed session next added summary count count_after old new)
-        → TellsAll summary → (output path : List ℕ) (file : ℕ) (eras : Eras) → IsSession session
+        → TellsAll summary → (rules_of_session session).flush_after ≡ 0
+        → (output path : List ℕ) (file : ℕ) (eras : Eras) → IsSession session
         → AreErasOf session.eras eras
         → IsLater old.history new.history → Apart (rules_of_session session).front_size new.history
         → IsLawful new.history → KeepsNames old.history new.history

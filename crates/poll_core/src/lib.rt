@@ -9,8 +9,9 @@
 //!
 //! [`Session::poll`] goes on from there. On Ok the next session stands on the disk, and what became of the rows and of the
 //! output is a pass of `standing` over a tree that tells its history (`Polled` of `specs/Polled`). Whatever it answers, at
-//! each moment a crash leaves the session's checkpoint, or that of the pass beside its lines (`Stays`, `MayGain`); so what
-//! stood for the files before stands for them afterwards (`KeepsStandingSince` of `specs/Since`).
+//! each moment a crash leaves the session's checkpoint, or that of the pass beside its lines (`Stays`, `MayGain`), also where what
+//! waits is flushed; so where nothing is ever flushed, what stood for the files before stands for them afterwards
+//! (`KeepsStandingSince` of `specs/Since`).
 //!
 //! [`Session::adopt`] has the settings of a text follow those that a disk keeps. On Ok they are in force, each file that is known
 //! has one part more, and the lines of what the operators before held back stand behind the output (`IsAdopted` of

@@ -61,7 +61,7 @@ impl Session {
         ensures ok { IfOk result (λ done. Polled T.meaning D.meaning self done.0 done.1 tree.old tree.new disk.old disk.new) }
         ensures crash { Passes D.meaning.images (Stays self) disk.old disk.new ⊎ MayGain T.meaning D.meaning self tree.old tree.new disk.old disk.new }
         ensures early { DoneFewer 4 (D.meaning.done disk.old) (D.meaning.done disk.new) → Passes D.meaning.images (Stays self) disk.old disk.new }
-        ensures standing { Told (KeepsStandingSince D.meaning.images (rules_of_session self).front_size disk.old disk.new) (T.meaning.world tree.old) (T.meaning.world tree.new) }
+        ensures standing { Told (KeepsStandingSince D.meaning.images (rules_of_session self) disk.old disk.new) (T.meaning.world tree.old) (T.meaning.world tree.new) }
         ensures full { (size : ℕ) → result ≡ Err (PollFault.OutputFull size) → Told (Overflows self size) (T.meaning.world tree.old) (T.meaning.world tree.new) }
         ensures worn { (sequence : ℕ) → result ≡ Err (PollFault.Worn sequence)
             → (sequence ≡ last_number) × IsWorn (journal_of_session self) × HasToKeep T.meaning self tree.old tree.new }

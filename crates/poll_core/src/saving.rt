@@ -1,10 +1,11 @@
 // What a pass left is kept: the output is synced, and then the checkpoint follows it.
-ghost use Rattle.std.specs.Prelude.{◌≡◌, ℕ, ◌+◌, ◌^◌, ◌<◌, ◌≤◌, false, length, Err, Some, IsTrue, IfOk, IfSome, OnOk};
+ghost use Rattle.std.specs.Prelude.{◌≡◌, ℕ, ◌+◌, ◌^◌, ◌≤◌, false, length, Err, Some, IsTrue, IfOk, IfSome, OnOk};
 ghost use Rattle.checkpoint_journal.specs.JournalOf.{EndsWith};
 ghost use Rattle.checkpoint_journal.specs.Written.{IsWorn};
 ghost use Rattle.checkpoint_store.specs.Rules.{IsCheckpoint};
-ghost use Rattle.checkpoint_store.specs.Limits.{front_limit, newest};
-ghost use Rattle.checkpoint_store.specs.Spelling.{checkpoint_spelling, row_spelling};
+ghost use Rattle.checkpoint_store.specs.Limits.{newest};
+ghost use Rattle.checkpoint_store.specs.Parts.{change_of_parts, checkpoint_of_parts};
+ghost use Rattle.checkpoint_store.specs.Spelling.{checkpoint_spelling};
 ghost use Rattle.outside.specs.Crash.{Passes};
 ghost use Rattle.outside.specs.Image.{Image};
 ghost use Rattle.outside.specs.declared.disk.DiskFile.{DiskFile};
@@ -20,15 +21,13 @@ ghost use Rattle.slot_store.specs.Counted.{DoneFewer};
 ghost use Rattle.slot_store.specs.Frame.{last_number};
 ghost use Rattle.slot_store.specs.OnlyRead.{KeepsTerms};
 ghost use Rattle.slot_store.specs.Synced.{EachLeft};
-ghost use Rattle.state_codec.specs.Rules.{IsShortText};
 
 use crate::PollFault;
 use crate::heading::Heading;
-use checkpoint_journal::laws::spellings_are_short;
 use checkpoint_journal::{Journal, rewrite};
-use checkpoint_store::{Change, Checkpoint, Eras, NEWEST_VERSION, Rows};
+use checkpoint_store::{ChangeParts, CheckpointParts, Eras, NEWEST_VERSION, checkpoint_size};
 use file_pass::Taking;
-use file_tracker::{Bytes, Row};
+use file_tracker::Bytes;
 use outside::{Disk, DiskFile};
 use slot_store::CommitFault;
 use std::alloc::{AllocError, Global};
@@ -47,7 +46,6 @@ pub(crate) fn keep<D: Disk>(
     taking: &Taking,
 ) -> Result<Option<Journal>, PollFault>
     requires lawful { IsCheckpoint newest (taken_checkpoint heading.now taking.now) }
-    requires flags { length taking.now.changed.items ≡ length taking.now.tracker }
     requires short { IfSome journal IsShort }
     requires savable { EachLeft D.meaning.images disk.old (IsSavable journal (keeping_of heading.now taking.now)) }
     requires slots { (one other : Image DiskFile) → D.meaning.images.may_leave disk.old one → D.meaning.images.may_leave disk.old other → DifferInOutput one other }
@@ -102,7 +100,6 @@ fn save<D: Disk>(
     taking: &Taking,
 ) -> Result<Journal, PollFault>
     requires lawful { IsCheckpoint newest (taken_checkpoint heading.now taking.now) }
-    requires flags { length taking.now.changed.items ≡ length taking.now.tracker }
     requires short { IfSome journal IsShort }
     requires savable { EachLeft D.meaning.images disk.old (IsSavable journal (keeping_of heading.now taking.now)) }
     requires slots { (one other : Image DiskFile) → D.meaning.images.may_leave disk.old one → D.meaning.images.may_leave disk.old other → DifferInOutput one other }
@@ -132,7 +129,6 @@ fn put<D: Disk>(
     taking: &Taking,
 ) -> Result<Journal, CommitFault>
     requires lawful { IsCheckpoint newest (taken_checkpoint heading.now taking.now) }
-    requires flags { length taking.now.changed.items ≡ length taking.now.tracker }
     requires short { IfSome journal IsShort }
     requires savable { EachLeft D.meaning.images disk.old (IsSavable journal (keeping_of heading.now taking.now)) }
     ensures put { IfOk result (λ next. EachLeft D.meaning.images disk.new (EndsWith next (taken_checkpoint heading.now taking.now))) }
@@ -167,7 +163,6 @@ fn put_behind<D: Disk>(
     taking: &Taking,
 ) -> Result<Journal, CommitFault>
     requires lawful { IsCheckpoint newest (taken_checkpoint heading.now taking.now) }
-    requires flags { length taking.now.changed.items ≡ length taking.now.tracker }
     requires short { IsShort journal }
     requires newest { journal.version ≡ newest }
     requires ends { journal.end ≤ 2 ^ 55 }
@@ -184,7 +179,7 @@ fn put_behind<D: Disk>(
     ensures cause { HasCommitCause result (D.meaning.faults disk.old) (D.meaning.faults disk.new) }
     ensures terms { KeepsTerms D.meaning disk.old disk.new }
 {
-    let change = change_of(alloc, heading, taking)?;
+    let change = change_parts(heading, taking);
     journal.append(alloc, disk, &change)
 }
 
@@ -210,7 +205,7 @@ fn put_beside<D: Disk>(
     ensures cause { HasCommitCause result (D.meaning.faults disk.old) (D.meaning.faults disk.new) }
     ensures terms { KeepsTerms D.meaning disk.old disk.new }
 {
-    let checkpoint = checkpoint_of(alloc, heading, taking)?;
+    let checkpoint = checkpoint_parts(heading, taking);
     rewrite(alloc, journal.as_ref(), disk, &checkpoint)
 }
 
@@ -237,49 +232,33 @@ fn spelled_size(heading: &Heading<'_>, taking: &Taking) -> u64
     ensures is { result ≡ length (checkpoint_spelling newest (taken_checkpoint heading.now taking.now)) }
     ensures short { result ≤ 2 ^ 52 }
 {
-    spellings_are_short();
-    let mut size = 29;
-    for text in heading.eras.as_slice() {
-        size += 4 + text.as_slice().len() as u64;
-    }
-    for place in 0..taking.tracker.len() {
-        size += row_size(taking.tracker.row(place));
-    }
-    size
-}
-
-// How many bytes a row takes.
-fn row_size(row: &Row) -> u64
-    requires path { IsShortText row.now.path }
-    requires front { length row.now.front ≤ front_limit }
-    requires state { length row.now.state < 2 ^ 32 }
-    ensures { result ≡ length (row_spelling newest row.now) }
-{
-    let texts = row.path.len() + row.front.as_slice().len() + row.state.as_slice().len();
-    let ends = 24 * row.ends.as_slice().len();
-    68 + (texts + ends) as u64
+    checkpoint_size(&checkpoint_parts(heading, taking))
 }
 
 // The checkpoint of what was taken.
-fn checkpoint_of(
-    alloc: Global,
-    heading: &Heading<'_>,
-    taking: &Taking,
-) -> Result<Checkpoint, AllocError>
-    requires { IsCheckpoint newest (taken_checkpoint heading.now taking.now) }
-    ensures { IfOk result (λ checkpoint. checkpoint ≡ taken_checkpoint heading.now taking.now) }
+fn checkpoint_parts<'c>(heading: &Heading<'c>, taking: &'c Taking) -> CheckpointParts<'c>
+    ensures { checkpoint_of_parts result ≡ taken_checkpoint heading.now taking.now }
 {
-    let mut rows = Vec::new(alloc);
-    for place in 0..taking.tracker.len() {
-        rows.push(taking.tracker.row(place).copy(alloc)?)?;
-    }
-    Ok(Checkpoint {
-        eras: copy_eras(alloc, heading.eras)?,
+    CheckpointParts {
+        eras: heading.eras,
         output_length: taking.end,
         observed: heading.observed,
         next_id: taking.tracker.len() as u32 + 1,
-        rows: Rows::new(rows),
-    })
+        rows: taking.tracker.as_slice(),
+    }
+}
+
+// What changed by what was taken.
+fn change_parts<'c>(heading: &Heading<'_>, taking: &'c Taking) -> ChangeParts<'c>
+    ensures { change_of_parts result ≡ taken_change heading.now taking.now }
+{
+    ChangeParts {
+        output_length: taking.end,
+        observed: heading.observed,
+        next_id: taking.tracker.len() as u32 + 1,
+        rows: taking.tracker.as_slice(),
+        changed: taking.changed.as_slice(),
+    }
 }
 
 /// The same texts.
@@ -291,23 +270,4 @@ pub(crate) fn copy_eras(alloc: Global, eras: &Eras) -> Result<Eras, AllocError>
         texts.push(Bytes::from_slice(alloc, text.as_slice())?)?;
     }
     Ok(Eras::new(texts))
-}
-
-// What changed by what was taken.
-fn change_of(alloc: Global, heading: &Heading<'_>, taking: &Taking) -> Result<Change, AllocError>
-    requires { length taking.now.changed.items ≡ length taking.now.tracker }
-    ensures { IfOk result (λ change. change ≡ taken_change heading.now taking.now) }
-{
-    let mut rows = Vec::new(alloc);
-    for place in 0..taking.tracker.len() {
-        if taking.changed[place] {
-            rows.push(taking.tracker.row(place).copy(alloc)?)?;
-        }
-    }
-    Ok(Change {
-        output_length: taking.end,
-        observed: heading.observed,
-        next_id: taking.tracker.len() as u32 + 1,
-        rows: Rows::new(rows),
-    })
 }

@@ -4,7 +4,7 @@ ghost use Rattle.checkpoint_store.specs.Rules.{IsVersion};
 use crate::texts::{add_line, hexadecimal, number, one_line};
 use checkpoint_store::laws::older_checkpoints_are_newest;
 use checkpoint_store::{
-    Change, Checkpoint, Eras, NEWEST_VERSION, Rows, apply, decode, encode, encode_change,
+    ChangeParts, Checkpoint, Eras, NEWEST_VERSION, Rows, apply, decode, encode, encode_change,
 };
 use entry_model::Text;
 use file_tracker::{Bytes, End, Ends, Row};
@@ -18,7 +18,7 @@ pub fn checkpoint(alloc: Global, bytes: &[u8]) -> Result<String, AllocError> {
         Err(fault) => return format!(in alloc; "{fault}"),
     };
     let mut again = Vec::new(alloc);
-    encode(alloc, &checkpoint, &mut again)?;
+    encode(alloc, &checkpoint.parts(), &mut again)?;
     text_and_spelling(alloc, &checkpoint, &again)
 }
 
@@ -171,11 +171,13 @@ fn spelled(alloc: Global, next_id: u32, ids: &str) -> Result<Vec<u8>, AllocError
         let id = word.parse::<u32>().unwrap_or(0);
         rows.push(row_of(alloc, id, 100, Base::Third.eras().len())?)?;
     }
-    let change = Change {
+    let changed = vec![in alloc; true; rows.len()]?;
+    let change = ChangeParts {
         output_length: 10,
         observed: 6,
         next_id,
-        rows: Rows::new(rows),
+        rows: rows.as_slice(),
+        changed: changed.as_slice(),
     };
     let mut bytes = Vec::new(alloc);
     encode_change(alloc, &change, &mut bytes)?;

@@ -1,8 +1,10 @@
 -- The table of open groups: what changes at one place, and what holds of all of it.
-use Rattle.std.proofs.Common.{◌≡◌, ℕ, zero, suc, inl, inr, ◌+◌, ◌-◌, ◌<◌, ◌≤◌, true, false, List, [], ◌∷◌, ◌++◌, length, take, drop, get_or, set, refl, sym, ap, subst, ◌∙◌, append_assoc, arith}
+use Rattle.std.proofs.Common.{eq-eqb, None, Some, Option, ◌*◌, ◌%◌, ◌≡◌, ℕ, zero, suc, inl, inr, ◌+◌, ◌-◌, ◌<◌, ◌≤◌, true, false, List, [], ◌∷◌, ◌++◌, length, take, drop, get_or, set, refl, sym, ap, subst, ◌∙◌, append_assoc, arith}
 use Rattle.std.specs.Prelude.{bytes_eq, remove, string_bytes}
+use Rattle.std.specs.Option.{IsSome, option_to_list}
 use Rattle.std.proofs.lemmas.Bool.{cases_Bool}
-use Rattle.std.proofs.lemmas.List.{map-append, map-set, set_at, take_at, drop_at, length-map, length-append, length-set, length_push}
+use Rattle.memchr.specs.Find.{Nowhere, Passes, is_byte}
+use Rattle.std.proofs.lemmas.List.{get_or_at, get_or-drop, take_all, at_drop_more, map-append, map-set, set_at, take_at, drop_at, length-map, length-append, length-set, length-drop, length_push, same_from_push}
 use Rattle.std.proofs.lemmas.List.Sums.{sum_by-cons, sum_by-append}
 use Rattle.std.proofs.lemmas.Slice.Eq.{bytes_eq-Decides}
 use Rattle.recombine.specs.Limits.{group_limit, batch_limit}
@@ -10,7 +12,7 @@ use Rattle.recombine.specs.declared.group.OpenGroup.{OpenGroup}
 use Rattle.recombine.specs.Group.{Group}
 use Rattle.recombine.specs.Sources.{is_of, AreOfOthers}
 use Rattle.recombine.specs.Steps.{text_bytes}
-use Rattle.recombine.specs.Table.{group_seen, groups_seen, IsOpen, AreOpen, IsTable, IsAt, Changes, Tells, without}
+use Rattle.recombine.specs.Table.{group_seen, groups_seen, IsOpen, AreOpen, IsTable, IsAt, IsFound, IsFoundAt, IsPlace, Changes, Tells, mark_of, marks_of, mark_on, without}
 
 -- ---- sources
 
@@ -83,6 +85,20 @@ bytes_cons g ys = sum_by-cons (λ (g : Group). length g.text) g ys
 pub bytes_around : (xs ys : List Group) (g : Group) → text_bytes (xs ++ g ∷ ys) ≡ text_bytes xs + (length g.text + text_bytes ys)
 bytes_around xs ys g = bytes_append xs (g ∷ ys) ∙ ap (λ n. text_bytes xs + n) (bytes_cons g ys)
 
+-- ---- the marks of sources
+
+abbrev mark_of_group : Group → ℕ
+mark_of_group group = mark_of group.source
+
+marks_around : (xs ys : List Group) (g : Group) → marks_of (xs ++ g ∷ ys) ≡ marks_of xs ++ mark_of g.source ∷ marks_of ys
+marks_around xs ys g = map-append mark_of_group xs (g ∷ ys)
+
+remove_at : (xs ys : List ℕ) (x place : ℕ) → length xs ≡ place → remove (xs ++ x ∷ ys) place ≡ xs ++ ys
+remove_at xs ys x place count =
+    ap (λ (l : List ℕ). l ++ drop (suc place) (xs ++ x ∷ ys)) (take_at xs (x ∷ ys) place count)
+    ∙ ap (λ (l : List ℕ). xs ++ drop (suc place) l) (sym (append_assoc xs (x ∷ []) ys))
+    ∙ ap (λ (l : List ℕ). xs ++ l) (drop_at (xs ++ x ∷ []) ys (suc place) (omega (arith, length_push xs x, count)))
+
 -- ---- a place of the groups in memory
 
 -- the groups in front of a place, the one at it and those behind it
@@ -115,9 +131,9 @@ set_around items place g h a =
     map-set group_seen items place h ∙ ap (λ (gs : List Group). set gs place (group_seen h)) (seen_around items place g a)
     ∙ set_at (groups_seen a.before) (group_seen g) (groups_seen a.behind) (group_seen h) place (seen_count items place g a)
 
-pub table_put : (items : List OpenGroup) (bytes then place : ℕ) (g h : OpenGroup) → IsTable (groups_seen items) bytes → place < length items → g ≡ get_or items place g
-    → h.source ≡ g.source → (IsOpen (group_seen g) → IsOpen (group_seen h)) → then + length (string_bytes g.text) ≡ bytes + length (string_bytes h.text) → IsTable (groups_seen (set items place h)) then
-table_put items bytes then place g h table in_range is same one sizes =
+pub table_put : (marks : List ℕ) (items : List OpenGroup) (bytes then place : ℕ) (g h : OpenGroup) → IsTable (groups_seen items) bytes marks → place < length items → g ≡ get_or items place g
+    → h.source ≡ g.source → (IsOpen (group_seen g) → IsOpen (group_seen h)) → then + length (string_bytes g.text) ≡ bytes + length (string_bytes h.text) → IsTable (groups_seen (set items place h)) then marks
+table_put marks items bytes then place g h table in_range is same one sizes =
     let a = around items place g in_range is in
     let all = subst AreOpen (seen_around items place g a) table.are_open in
     let opened = open_put (groups_seen a.before) (groups_seen a.behind) (group_seen g) (group_seen h) same (one (open_at (groups_seen a.before) (groups_seen a.behind) (group_seen g) all)) all in
@@ -130,6 +146,10 @@ table_put items bytes then place g h table in_range is same one sizes =
       are_open = subst AreOpen (sym put) opened;
       few = omega (arith, table.few, length-map (set items place h) group_seen, length-map items group_seen, length-set items place h);
       counted = omega (arith, was, now, sizes);
+      marked =
+          table.marked ∙ ap marks_of (seen_around items place g a) ∙ marks_around (groups_seen a.before) (groups_seen a.behind) (group_seen g)
+          ∙ ap (λ (source : List ℕ). marks_of (groups_seen a.before) ++ mark_of source ∷ marks_of (groups_seen a.behind)) (sym same)
+          ∙ sym (ap marks_of put ∙ marks_around (groups_seen a.before) (groups_seen a.behind) (group_seen h));
     }
 
 same_front : (xs ys zs us : List Group) (g h : Group) → xs ++ g ∷ ys ≡ zs ++ h ∷ us → length xs ≡ length zs → (xs ≡ zs) × ((g ≡ h) × (ys ≡ us))
@@ -162,9 +182,9 @@ remove_around items place g a =
     ∙ ap (λ (gs : List OpenGroup). groups_seen (a.before ++ gs)) (drop_at (a.before ++ g ∷ []) a.behind (suc place) (omega (arith, length_push a.before g, a.place_is)))
     ∙ map-append group_seen a.before a.behind
 
-pub table_remove : (items : List OpenGroup) (bytes place : ℕ) (g : OpenGroup) → IsTable (groups_seen items) bytes → place < length items → g ≡ get_or items place g
-    → (length (string_bytes g.text) ≤ bytes) × IsTable (groups_seen (remove items place)) (bytes - length (string_bytes g.text))
-table_remove items bytes place g table in_range is =
+pub table_remove : (marks : List ℕ) (items : List OpenGroup) (bytes place : ℕ) (g : OpenGroup) → IsTable (groups_seen items) bytes marks → place < length items → g ≡ get_or items place g
+    → (length (string_bytes g.text) ≤ bytes) × IsTable (groups_seen (remove items place)) (bytes - length (string_bytes g.text)) (remove marks place)
+table_remove marks items bytes place g table in_range is =
     let a = around items place g in_range is in
     let all = subst AreOpen (seen_around items place g a) table.are_open in
     let gone = remove_around items place g a in
@@ -180,6 +200,10 @@ table_remove items bytes place g table in_range is =
         are_open = subst AreOpen (sym gone) (open_but (groups_seen a.before) (groups_seen a.behind) (group_seen g) all);
         few = omega (arith, table.few, count, old);
         counted = omega (arith, was, now);
+        marked =
+            ap (λ (l : List ℕ). remove l place) (table.marked ∙ ap marks_of (seen_around items place g a) ∙ marks_around (groups_seen a.before) (groups_seen a.behind) (group_seen g))
+            ∙ remove_at (marks_of (groups_seen a.before)) (marks_of (groups_seen a.behind)) (mark_of g.source) place (length-map (groups_seen a.before) mark_of_group ∙ seen_count items place g a)
+            ∙ sym (ap marks_of gone ∙ map-append mark_of_group (groups_seen a.before) (groups_seen a.behind));
       },
     )
 
@@ -199,15 +223,21 @@ changes_remove items place g in_range is =
 pub seen_push : (items : List OpenGroup) (g : OpenGroup) → groups_seen (items ++ g ∷ []) ≡ groups_seen items ++ group_seen g ∷ []
 seen_push items g = map-append group_seen items (g ∷ [])
 
-pub table_push : (items : List OpenGroup) (bytes : ℕ) (g : OpenGroup) → IsTable (groups_seen items) bytes → AreOfOthers g.source (groups_seen items) → IsOpen (group_seen g) → length (groups_seen items) < group_limit
-    → IsTable (groups_seen (items ++ g ∷ [])) (bytes + length (string_bytes g.text))
-table_push items bytes g table new one room =
+-- a mark that was put behind the others, and taken back
+pub marks_back : (marks back : List ℕ) (mark : ℕ) (taken : Option ℕ) → IsSome taken → marks ++ mark ∷ [] ≡ back ++ option_to_list taken → back ≡ marks
+marks_back marks back mark None some e = absurd (cc some)
+marks_back marks back mark (Some last) some e = (same_from_push back marks last mark (sym e)).0
+
+pub table_push : (marks : List ℕ) (items : List OpenGroup) (bytes : ℕ) (g : OpenGroup) → IsTable (groups_seen items) bytes marks → AreOfOthers g.source (groups_seen items) → IsOpen (group_seen g) → length (groups_seen items) < group_limit
+    → IsTable (groups_seen (items ++ g ∷ [])) (bytes + length (string_bytes g.text)) (marks ++ mark_of g.source ∷ [])
+table_push marks items bytes g table new one room =
     let put = seen_push items g in
     record {
       are_open = subst AreOpen (sym put) (open_push (groups_seen items) (group_seen g) table.are_open new one);
       few = omega (arith, room, ap length put, length_push (groups_seen items) (group_seen g));
       counted = ap (λ n. n + length (string_bytes g.text)) table.counted
           ∙ sym (ap text_bytes put ∙ bytes_append (groups_seen items) (group_seen g ∷ []) ∙ ap (λ n. text_bytes (groups_seen items) + n) (bytes_cons (group_seen g) [] ∙ omega arith));
+      marked = ap (λ (l : List ℕ). l ++ mark_of g.source ∷ []) table.marked ∙ sym (ap marks_of put ∙ map-append mark_of_group (groups_seen items) (group_seen g ∷ []));
     }
 
 -- ---- looking for a source
@@ -222,9 +252,9 @@ others_next s items place g in_range is other so_far =
     subst (λ (gs : List OpenGroup). AreOfOthers s (groups_seen gs)) (sym next)
     (subst (AreOfOthers s) (sym (seen_push a.before g)) (others_append s (groups_seen a.before) (group_seen g ∷ []) (subst (λ (gs : List OpenGroup). AreOfOthers s (groups_seen gs)) front so_far) (other, tt)))
 
-pub at_place : (s : List ℕ) (items : List OpenGroup) (bytes place : ℕ) (g : OpenGroup) → IsTable (groups_seen items) bytes → place < length items → g ≡ get_or items place g → is_of s (group_seen g) ≡ true
+pub at_place : (s : List ℕ) (marks : List ℕ) (items : List OpenGroup) (bytes place : ℕ) (g : OpenGroup) → IsTable (groups_seen items) bytes marks → place < length items → g ≡ get_or items place g → is_of s (group_seen g) ≡ true
     → AreOfOthers s (groups_seen (take place items)) → IsAt s (groups_seen items) place
-at_place s items bytes place g table in_range is own_source so_far =
+at_place s marks items bytes place g table in_range is own_source so_far =
     let a = around items place g in_range is in
     let front : take place items ≡ a.before = ap (take place) a.parts ∙ take_at a.before (g ∷ a.behind) place a.place_is in
     let all = open_back (groups_seen a.before) (group_seen g ∷ groups_seen a.behind) (subst AreOpen (seen_around items place g a) table.are_open) in
@@ -239,6 +269,58 @@ at_place s items bytes place g table in_range is own_source so_far =
       others_behind = subst (λ (t : List ℕ). AreOfOthers t (groups_seen a.behind)) (sym (same_source s g.source own_source)) all.1.0;
     }
 
+item_at : (items : List OpenGroup) (place : ℕ) → place < length items → (g : OpenGroup) × (g ≡ get_or items place g)
+item_at [] place in_range = absurd (omega (arith, in_range))
+item_at (x ∷ items) zero in_range = (x, refl)
+item_at (x ∷ items) (suc place) in_range = item_at items place (omega (arith, in_range))
+
+mark_at : (items : List OpenGroup) (place : ℕ) (g : OpenGroup) → place < length items → g ≡ get_or items place g → get_or (marks_of (groups_seen items)) place 0 ≡ mark_of g.source
+mark_at items place g in_range is =
+    let a = around items place g in_range is in
+    ap (λ (l : List ℕ). get_or l place 0) (ap marks_of (seen_around items place g a) ∙ marks_around (groups_seen a.before) (groups_seen a.behind) (group_seen g))
+    ∙ get_or_at (marks_of (groups_seen a.before)) (mark_of g.source) (marks_of (groups_seen a.behind)) 0 place (length-map (groups_seen a.before) mark_of_group ∙ seen_count items place g a)
+
+module _ (s : List ℕ) (items : List OpenGroup) (marks : List ℕ) (marked : marks ≡ marks_of (groups_seen items)) (from mark : ℕ) (hay : List ℕ) (hay_is : hay ≡ drop from marks) (mark_is : mark ≡ mark_of s)
+    (start : AreOfOthers s (groups_seen (take from items))) where
+  other_at : (n : ℕ) (g : OpenGroup) → from + n < length items → g ≡ get_or items (from + n) g → (Passes (is_byte mark) hay n → ⊥) → is_of s (group_seen g) ≡ false
+  other_at n g in_range is differs = elim (cases_Bool (is_of s (group_seen g))) [
+    | inl own ↦
+        let here : get_or hay n 0 ≡ mark =
+        ap (λ (l : List ℕ). get_or l n 0) hay_is ∙ get_or-drop from marks n 0 ∙ ap (λ (l : List ℕ). get_or l (from + n) 0) marked
+        ∙ mark_at items (from + n) g in_range is ∙ ap mark_of (sym (same_source s g.source own)) ∙ sym mark_is in
+        absurd (differs (eq-eqb (get_or hay n 0) mark here))
+    | inr other ↦ other
+  ]
+
+  pub reaches : (n : ℕ) → n < length hay → from + n < length items
+  reaches n high =
+      omega (arith, ap length hay_is, length-drop from marks, ap length marked, length-map (groups_seen items) mark_of_group, length-map items group_seen, high)
+
+  pub ends_at : from ≤ length marks → from + length hay ≡ length items
+  ends_at within =
+      omega (arith, ap length hay_is, length-drop from marks, ap length marked, length-map (groups_seen items) mark_of_group, length-map items group_seen, within)
+
+  pub others_over : (n : ℕ) → from + n ≤ length items → Nowhere (Passes (is_byte mark) hay) 0 n → AreOfOthers s (groups_seen (take (from + n) items))
+  others_over zero within differ = let on : from ≡ from + zero = omega arith in subst (λ (k : ℕ). AreOfOthers s (groups_seen (take k items))) on start
+  others_over (suc n) within differ =
+      let on : from + n + 1 ≡ from + suc n = omega arith in
+      let in_range : from + n < length items = omega (arith, within) in
+      let g = item_at items (from + n) in_range in
+      let so_far = others_over n (omega (arith, within)) (λ k low high. differ k low (omega (arith, high))) in
+      subst (λ (k : ℕ). AreOfOthers s (groups_seen (take k items))) on
+      (others_next s items (from + n) g.0 in_range g.1 (other_at n g.0 in_range g.1 (differ n (omega arith) (omega arith))) so_far)
+
+pub lengths : (items : List OpenGroup) (marks : List ℕ) → marks ≡ marks_of (groups_seen items) → length marks ≡ length items
+lengths items marks marked = ap length marked ∙ length-map (groups_seen items) mark_of_group ∙ length-map items group_seen
+
+pub all_others : (s : List ℕ) (items : List OpenGroup) (n : ℕ) → length items ≤ n → AreOfOthers s (groups_seen (take n items)) → AreOfOthers s (groups_seen items)
+all_others s items n all others = subst (λ (gs : List OpenGroup). AreOfOthers s (groups_seen gs)) (take_all n items all) others
+
+pub placed : (s : List ℕ) (marks : List ℕ) (items : List OpenGroup) (bytes : ℕ) (gs : List Group) → IsTable (groups_seen items) bytes marks → groups_seen items ≡ gs → (found : Option ℕ) → IsFound s items found → IsPlace s gs found
+placed s marks items bytes gs table seen None others = subst (AreOfOthers s) seen others
+placed s marks items bytes gs table seen (Some place) found =
+    subst (λ (hs : List Group). IsAt s hs place) seen (at_place s marks items bytes place found.group table found.in_range found.is found.own found.before)
+
 -- ---- what contracts say of groups, of those in memory
 
 pub seen_range : (items : List OpenGroup) (gs : List Group) (place : ℕ) → groups_seen items ≡ gs → place < length gs → place < length items
@@ -250,8 +332,8 @@ seen_changes items gs place change then is changes = subst (λ (hs : List Group)
 pub group_at : (items : List OpenGroup) (gs : List Group) (place : ℕ) (g : OpenGroup) → groups_seen items ≡ gs → place < length gs → g ≡ get_or items place g → Tells gs place (λ group. group ≡ group_seen g)
 group_at items gs place g seen in_range is before behind group parts count = sym ((changes_remove items place g (seen_range items gs place seen in_range) is).1 before behind group (seen ∙ parts) count)
 
-pub entries_most : (items : List OpenGroup) (bytes place : ℕ) (g : OpenGroup) → IsTable (groups_seen items) bytes → place < length items → g ≡ get_or items place g → g.entries ≤ batch_limit
-entries_most items bytes place g table in_range is =
+pub entries_most : (marks : List ℕ) (items : List OpenGroup) (bytes place : ℕ) (g : OpenGroup) → IsTable (groups_seen items) bytes marks → place < length items → g ≡ get_or items place g → g.entries ≤ batch_limit
+entries_most marks items bytes place g table in_range is =
     let a = around items place g in_range is in
     (open_at (groups_seen a.before) (groups_seen a.behind) (group_seen g) (subst AreOpen (seen_around items place g a) table.are_open)).most
 

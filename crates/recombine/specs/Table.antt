@@ -1,5 +1,5 @@
 -- Open groups in memory, and what holds of them at any time.
-use Rattle.std.specs.Prelude.{◌≡◌, ◌⊎◌, ℕ, ◌≤◌, Option, None, Some, List, [], ◌∷◌, ◌++◌, length, map, Bool, true, false, if◌then◌else◌, string_bytes, ⊤}
+use Rattle.std.specs.Prelude.{◌≡◌, ◌⊎◌, ℕ, ◌≤◌, ◌<◌, ◌+◌, ◌*◌, ◌%◌, slice_index_or, take, Option, None, Some, List, [], ◌∷◌, ◌++◌, length, map, Bool, true, false, if◌then◌else◌, string_bytes, ⊤}
 use Rattle.entry_model.specs.Lawful.{NestsWithin}
 use Rattle.entry_model.specs.LogRecord.{log_record}
 use Rattle.entry_model.specs.declared.entry.Entry.{Entry}
@@ -34,13 +34,38 @@ abbrev pub AreOpen : List Group → Type 0
 AreOpen [] = ⊤
 AreOpen (group ∷ groups) = IsOpen group × (AreOfOthers group.source groups × AreOpen groups)
 
--- with the number of bytes that their texts have together
-pub record IsTable (groups : List Group) (bytes : ℕ) : Type 0 where
+-- what more bytes make of a mark
+abbrev pub mark_on : ℕ → List ℕ → ℕ
+mark_on mark [] = mark
+mark_on mark (byte ∷ bytes) = mark_on ((mark * 31 + byte) % 256) bytes
+
+-- a byte by which most sources are told apart
+abbrev pub mark_of : List ℕ → ℕ
+mark_of source = mark_on 0 source
+
+abbrev pub marks_of : List Group → List ℕ
+marks_of groups = map (λ group. mark_of group.source) groups
+
+-- with the number of bytes that their texts have together, and the marks of their sources
+pub record IsTable (groups : List Group) (bytes : ℕ) (marks : List ℕ) : Type 0 where
   pub are_open : AreOpen groups
   pub few : length groups ≤ group_limit
   pub counted : bytes ≡ text_bytes groups
+  pub marked : marks ≡ marks_of groups
 
 -- ---- where the group of a source is
+
+-- the group at this place in memory is that of the source, and none in front of it is
+pub record IsFoundAt (source : List ℕ) (items : List OpenGroup) (place : ℕ) : Type 0 where
+  pub group : OpenGroup
+  pub in_range : place < length items
+  pub is : group ≡ slice_index_or items place group
+  pub own : is_of source (group_seen group) ≡ true
+  pub before : AreOfOthers source (groups_seen (take place items))
+
+abbrev pub IsFound : List ℕ → List OpenGroup → Option ℕ → Type 0
+IsFound source items None = AreOfOthers source (groups_seen items)
+IsFound source items (Some place) = IsFoundAt source items place
 
 -- the group of the source is at this place, with these in front of it and behind it
 pub record IsAt (source : List ℕ) (groups : List Group) (place : ℕ) : Type 0 where

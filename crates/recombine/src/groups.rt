@@ -6,10 +6,11 @@ ghost use Rattle.state_codec.specs.Limits.{levels};
 ghost use Rattle.recombine.specs.Limits.{group_limit, batch_limit};
 ghost use Rattle.recombine.specs.Sources.{AreOfOthers};
 ghost use Rattle.recombine.specs.Steps.{text_bytes};
-ghost use Rattle.recombine.specs.Table.{group_seen, groups_seen, IsOpen, AreOpen, IsPlace, Changes, Tells, with_piece, with_entries, with_base, without};
+ghost use Rattle.recombine.specs.Table.{group_seen, groups_seen, IsOpen, AreOpen, IsFound, IsPlace, Changes, Tells, marks_of, mark_of as mark_of_bytes, with_piece, with_entries, with_base, without};
 
 use crate::group::OpenGroup;
 use entry_model::{Entry, Text};
+use memchr::memchr;
 use std::alloc::{AllocError, Global};
 use std::marker::Model;
 use std::mem;
@@ -19,6 +20,8 @@ use std::mem;
 #[derive(Drop)]
 pub struct Groups {
     in_order: Vec<OpenGroup>,
+    // A mark of each source, by which most sources are told apart.
+    marks: Vec<u8>,
     // How many bytes their texts have together.
     bytes: usize,
 }
@@ -35,7 +38,7 @@ impl Model for Groups {
 
     ghost view = { λ groups. groups_seen groups.in_order.items };
 
-    ghost invariant = { λ groups. IsTable (groups_seen groups.in_order.items) groups.bytes };
+    ghost invariant = { λ groups. IsTable (groups_seen groups.in_order.items) groups.bytes groups.marks.items };
 }
 
 impl Groups {
@@ -45,6 +48,7 @@ impl Groups {
     {
         Groups {
             in_order: Vec::new(alloc),
+            marks: Vec::new(alloc),
             bytes: 0,
         }
     }
@@ -84,12 +88,7 @@ impl Groups {
     pub(crate) fn place_of(&self, source: &Text) -> Option<usize>
         ensures { IsPlace source.now self.now result }
     {
-        for (place, group) in self.in_order.iter().enumerate() {
-            if *source == group.source {
-                return Some(place);
-            }
-        }
-        None
+        place_in(self.in_order.as_slice(), self.marks.as_slice(), source)
     }
 
     /// How many entries the group at a place has.
@@ -139,6 +138,7 @@ impl Groups {
         ensures left { Changes self.old place without self.new }
         ensures taken { Tells self.old place (λ group. group ≡ group_seen result) }
     {
+        let _mark = self.marks.remove(place);
         let group = self.in_order.remove(place);
         self.bytes -= group.text.as_str().len();
         group
@@ -153,9 +153,18 @@ impl Groups {
         ensures { OnOk result (self.new ≡ self.old ++ group_seen group ∷ []) }
     {
         let size = group.text.as_str().len();
-        self.in_order.push(group)?;
-        self.bytes += size;
-        Ok(())
+        let mark = mark_of(group.source.as_str().as_bytes());
+        self.marks.push(mark)?;
+        match self.in_order.push(group) {
+            Ok(()) => {
+                self.bytes += size;
+                Ok(())
+            }
+            Err(_) => {
+                let _mark = self.marks.pop();
+                Err(AllocError)
+            }
+        }
     }
 
     /// Takes all groups out, in order.
@@ -166,4 +175,31 @@ impl Groups {
         let Groups { in_order, .. } = mem::replace(self, Groups::new(alloc));
         in_order
     }
+}
+
+// Where the group of the source is. Sources are compared where their marks are the same.
+fn place_in(groups: &[OpenGroup], marks: &[u8], source: &Text) -> Option<usize>
+    requires { marks.now ≡ marks_of (groups_seen groups.now) }
+    ensures { IsFound source.now groups.now result }
+{
+    let mark = mark_of(source.as_str().as_bytes());
+    let mut from = 0;
+    'places: while let Some(step) = memchr(mark, &marks[from..]) {
+        let place = from + step;
+        if *source == groups[place].source {
+            return Some(place);
+        }
+        from = place + 1;
+    }
+    None
+}
+
+fn mark_of(source: &[u8]) -> u8
+    ensures { result ≡ mark_of_bytes source.now }
+{
+    let mut mark: u32 = 0;
+    for byte in source {
+        mark = (mark * 31 + *byte as u32) % 256;
+    }
+    mark as u8
 }

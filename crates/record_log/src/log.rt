@@ -27,7 +27,8 @@ impl Log {
     ghost use Rattle.record_log.specs.LogOf.{EndsWith};
     ghost use Rattle.record_log.specs.Appended.{appended, KeepsLog, GainsRecord, Appends};
 
-    /// Adds a record with this payload behind the others.
+    /// Adds a record with this payload behind the others. The payload is written from where it lies: with room for 17 bytes
+    /// more it takes no further memory.
     ///
     /// At each moment a crash leaves the log as it was or with the record, and after Ok with it. Where fewer than four
     /// calls on the disk succeeded it leaves the log as it was. After a fault the disk is to be read again.
@@ -35,16 +36,16 @@ impl Log {
         self,
         alloc: Global,
         disk: &mut D,
-        payload: &[u8],
+        payload: Vec<u8>,
     ) -> Result<Log, CommitFault>
         requires file { IsSlotFile self.slot.file }
         requires stands { EachLeft D.meaning.images disk.old (EndsWith self) }
-        requires ends { self.end + 17 + length payload.now ≤ last_number }
-        ensures log { IfOk result (λ log. log ≡ appended self payload.now) }
+        requires ends { self.end + 17 + length payload.items ≤ last_number }
+        ensures log { IfOk result (λ log. log ≡ appended self payload.items) }
         ensures file { IfOk result (λ log. IsSlotFile log.slot.file) }
 
-        ensures crash { Passes D.meaning.images (Appends self payload.now) disk.old disk.new }
-        ensures appended { OnOk result (LeavesChanged D.meaning.images (GainsRecord self payload.now) disk.old disk.new) }
+        ensures crash { Passes D.meaning.images (Appends self payload.items) disk.old disk.new }
+        ensures appended { OnOk result (LeavesChanged D.meaning.images (GainsRecord self payload.items) disk.old disk.new) }
         ensures early { DoneFewer 4 (D.meaning.done disk.old) (D.meaning.done disk.new)
             → Passes D.meaning.images (KeepsLog self) disk.old disk.new }
         ensures one { OnOk result (LeavesOne D.meaning.images disk.old → LeavesOne D.meaning.images disk.new) }
@@ -55,16 +56,17 @@ impl Log {
         ensures worn_only { (sequence : ℕ) → result ≡ Err (CommitFault.Worn sequence) → (sequence ≡ last_number) × (disk.new ≡ disk.old) }
         ensures cause { HasCommitCause result (D.meaning.faults disk.old) (D.meaning.faults disk.new) }
         ensures done { HasDone result 6 (D.meaning.done disk.old) (D.meaning.done disk.new) }
-        ensures counted { HasWritten result self.slot.file (length payload.now + 18) (D.meaning.written disk.old) (D.meaning.written disk.new) }
+        ensures counted { HasWritten result self.slot.file (length payload.items + 18) (D.meaning.written disk.old) (D.meaning.written disk.new) }
         ensures terms { KeepsTerms D.meaning disk.old disk.new }
     {
         let sequence = next_sequence(self.sequence)?;
-        let body = frame::body(alloc, sequence, payload)?;
+        let end = self.end + frame::HEAD_SIZE + payload.len() as u64;
+        let body = frame::body(sequence, payload)?;
         write_synced(alloc, disk, self.slot.file, self.end, &[CLOSED])?;
         frame::write(alloc, disk, self.slot.file, self.end, &body)?;
         Ok(Log {
             slot: self.slot,
-            end: self.end + frame::HEAD_SIZE + payload.len() as u64,
+            end,
             sequence,
         })
     }

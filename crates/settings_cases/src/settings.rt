@@ -120,5 +120,12 @@ pub fn show_settings(alloc: Global, whole: bool, said: &Settings) -> Result<Stri
     }
     let observed = said.include_observed_time;
     show_flag("include_observed_time", whole, false, observed, &mut out)?;
+    show_size(
+        "flush_after_polls",
+        whole,
+        0,
+        said.flush_after_polls,
+        &mut out,
+    )?;
     Ok(out)
 }

@@ -479,15 +479,19 @@ default_front = (omega arith, omega arith)
 default_size : (64 ≤ 1048576) × (1048576 ≤ 4194304)
 default_size = (omega arith, omega arith)
 
+default_flush : (0 ≤ 0) × (0 ≤ 1000)
+default_flush = (omega arith, omega arith)
+
 no_operators : length {A = OpSpec} [] ≤ 64
 no_operators = omega arith
 
--- what four of the keys say
+-- what five of the keys say
 record KeysSay (d : Data) (said : Settings) : Type 0 where
   include : must [] (codes "include") some_texts d ≡ Ok said.include
   front : may [] (codes "fingerprint_size") (whole 16 4096) 1000 d ≡ Ok said.fingerprint_size
   max : may [] (codes "max_log_size") (whole 64 4194304) 1048576 d ≡ Ok said.max_log_size
   operators : may [] (codes "operators") op.operators [] d ≡ Ok said.operators
+  flush : may [] (codes "flush_after_polls") (whole 0 1000) 0 d ≡ Ok said.flush_after_polls
 
 keys_say : (d : Data) (said : Settings) → settings_of d ≡ Ok said → KeysSay d said
 unfolding settings_of
@@ -505,13 +509,15 @@ keys_say d said e =
     let resource = binds (may [] (codes "resource") fields datum.no_members d) _ said attributes.2 in
     let operators = binds (may [] (codes "operators") op.operators [] d) _ said resource.2 in
     let observed_time = binds (may [] (codes "include_observed_time") flag false d) _ said operators.2 in
-    subst (KeysSay d) (same_value _ said observed_time.2) (record { include = include.1; front = fingerprint.1; max = max.1; operators = operators.1 })
+    let flush = binds (may [] (codes "flush_after_polls") (whole 0 1000) 0 d) _ said observed_time.2 in
+    subst (KeysSay d) (same_value _ said flush.2) (record { include = include.1; front = fingerprint.1; max = max.1; operators = operators.1; flush = flush.1 })
 
 settings_of_keep : (d : Data) (said : Settings) → settings_of d ≡ Ok said → KeepsLimits said
 settings_of_keep d said e =
     let keys = keys_say d said e in
     let size = from_kind (λ n. (64 ≤ n) × (n ≤ 4194304)) 1048576 (whole 64 4194304) (codes "max_log_size") (get (codes "max_log_size") d) said.max_log_size default_size (whole_within 64 4194304 (codes "max_log_size")) keys.max in
     let front = from_kind (λ n. (16 ≤ n) × (n ≤ 4096)) 1000 (whole 16 4096) (codes "fingerprint_size") (get (codes "fingerprint_size") d) said.fingerprint_size default_front (whole_within 16 4096 (codes "fingerprint_size")) keys.front in
+    let flush = from_kind (λ n. (0 ≤ n) × (n ≤ 1000)) 0 (whole 0 1000) (codes "flush_after_polls") (get (codes "flush_after_polls") d) said.flush_after_polls default_flush (whole_within 0 1000 (codes "flush_after_polls")) keys.flush in
     let all = from_kind AllKeep [] op.operators (codes "operators") (get (codes "operators") d) said.operators (λ i o at. absurd (not_there o at)) (operators_keep (codes "operators")) keys.operators in
     record {
       some_include = from_must (λ l. 1 ≤ length l) some_texts (codes "include") (get (codes "include") d) said.include (some_listed (codes "include")) keys.include;
@@ -519,6 +525,7 @@ settings_of_keep d said e =
       fingerprint_size_to = front.1;
       max_log_size_from = size.0;
       max_log_size_to = size.1;
+      flush_after_polls_to = flush.1;
       few_operators = from_kind (λ all. length all ≤ 64) [] op.operators (codes "operators") (get (codes "operators") d) said.operators no_operators (few_operators (codes "operators")) keys.operators;
       few_routes = λ i o at. few_of o.kind (all i o at).kind;
       operators = all;

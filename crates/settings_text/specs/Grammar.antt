@@ -27,7 +27,7 @@ is_top_key name =
     || bytes_eq name (codes "preserve_leading_whitespaces") || bytes_eq name (codes "preserve_trailing_whitespaces")
     || bytes_eq name (codes "include_file_name") || bytes_eq name (codes "include_file_path") || bytes_eq name (codes "include_file_record_number")
     || bytes_eq name (codes "attributes") || bytes_eq name (codes "resource") || bytes_eq name (codes "operators")
-    || bytes_eq name (codes "include_observed_time")
+    || bytes_eq name (codes "include_observed_time") || bytes_eq name (codes "flush_after_polls")
 
 -- Each line has a key, its kind and its default.
 unfoldable pub flags_of : Data → Result Flags SettingsFault
@@ -60,6 +60,7 @@ settings_of d = do
   resource ← may [] (codes "resource") fields no_members d
   operators ← may [] (codes "operators") operators.operators [] d
   include_observed_time ← may [] (codes "include_observed_time") flag false d
+  flush_after_polls ← may [] (codes "flush_after_polls") (whole 0 1000) 0 d
   Ok (record {
     include = include;
     exclude = exclude;
@@ -76,6 +77,7 @@ settings_of d = do
     resource = resource;
     operators = operators;
     include_observed_time = include_observed_time;
+    flush_after_polls = flush_after_polls;
   })
 
 -- the JSON value of a text in UTF-8

@@ -47,6 +47,7 @@ pub record KeepsLimits (said : Settings) : Type 0 where
   pub fingerprint_size_to : said.fingerprint_size ≤ 4096
   pub max_log_size_from : 64 ≤ said.max_log_size
   pub max_log_size_to : said.max_log_size ≤ 4194304
+  pub flush_after_polls_to : said.flush_after_polls ≤ 1000
   pub few_operators : length said.operators ≤ 64
   pub few_routes : (place : ℕ) (operator : OpSpec) → slice_get said.operators place ≡ Some operator → route_count operator.kind ≤ 65534
   pub operators : (place : ℕ) (operator : OpSpec) → slice_get said.operators place ≡ Some operator → OperatorKeepsLimits operator

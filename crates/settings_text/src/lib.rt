@@ -95,6 +95,7 @@ impl Words for TopKeys {
             "resource",
             "operators",
             "include_observed_time",
+            "flush_after_polls",
         ];
         is_one_of(name, &words)
     }
@@ -152,6 +153,7 @@ fn settings_of(alloc: Global, object: &Value) -> Result<Settings, SettingsFault>
     let resource = fields(alloc, object, "", "resource")?;
     let operators = operators(alloc, object)?;
     let include_observed_time = flag(alloc, object, "", "include_observed_time", false)?;
+    let flush_after_polls = whole(alloc, object, "", "flush_after_polls", 0, 1_000, 0)?;
     Ok(Settings {
         include,
         exclude,
@@ -168,6 +170,7 @@ fn settings_of(alloc: Global, object: &Value) -> Result<Settings, SettingsFault>
         resource,
         operators,
         include_observed_time,
+        flush_after_polls,
     })
 }
 

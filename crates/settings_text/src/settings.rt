@@ -54,6 +54,8 @@ pub struct Settings {
     pub operators: Operators,
     /// Whether each line of the output has the time at which its entry was taken.
     pub include_observed_time: bool,
+    /// At which quiet poll what waits at the end of a file is flushed: 0 (never) to 1,000.
+    pub flush_after_polls: u32,
 }
 
 // By hand, so that what drops one goes by this call, and not by what each field may hold.
@@ -75,6 +77,7 @@ impl Drop for Settings {
             resource: _resource,
             operators: _operators,
             include_observed_time: _,
+            flush_after_polls: _,
         } = self;
     }
 }

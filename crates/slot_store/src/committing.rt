@@ -25,21 +25,23 @@ use std::alloc::Global;
 /// Puts a payload into the slot that doesn't count, with the sequence number after that of `before`, or 1. `before` is
 /// the slot that counts; its sequence number may be above that slot's own.
 ///
+/// The payload is written from where it lies: with room for 17 bytes more it takes no further memory.
+///
 /// At each moment a crash leaves the old payload or the new, and after Ok the new. Where fewer than four calls on the
 /// disk succeeded it leaves the old one.
 pub fn commit<D: Disk>(
     alloc: Global,
     disk: &mut D,
     before: Option<&Slot>,
-    payload: &[u8],
+    payload: Vec<u8>,
 ) -> Result<Slot, CommitFault>
-    ensures slot { IfOk result (λ slot. slot ≡ next_slot (option_copied before.entry) payload.now) }
+    ensures slot { IfOk result (λ slot. slot ≡ next_slot (option_copied before.entry) payload.items) }
     ensures file { IfOk result (λ slot. IsSlotFile slot.file) }
 
     ensures crash { EachLeft D.meaning.images disk.old (Chooses (option_copied before.entry))
-        → Passes D.meaning.images (Commits (option_copied before.entry) payload.now) disk.old disk.new }
+        → Passes D.meaning.images (Commits (option_copied before.entry) payload.items) disk.old disk.new }
     ensures committed { OnOk result (EachLeft D.meaning.images disk.old (Chooses (option_copied before.entry))
-        → EachLeft D.meaning.images disk.new (IsCommitted (option_copied before.entry) payload.now)) }
+        → EachLeft D.meaning.images disk.new (IsCommitted (option_copied before.entry) payload.items)) }
     ensures early { DoneFewer 4 (D.meaning.done disk.old) (D.meaning.done disk.new)
         → EachLeft D.meaning.images disk.old (Chooses (option_copied before.entry))
         → Passes D.meaning.images KeepsChoice disk.old disk.new }
@@ -54,11 +56,11 @@ pub fn commit<D: Disk>(
     ensures worn_only { (sequence : ℕ) → result ≡ Err (CommitFault.Worn sequence) → (sequence ≡ last_number) × (disk.new ≡ disk.old) }
     ensures cause { HasCommitCause result (D.meaning.faults disk.old) (D.meaning.faults disk.new) }
     ensures done { HasDone result 8 (D.meaning.done disk.old) (D.meaning.done disk.new) }
-    ensures counted { HasWritten result (free_file (option_copied before.entry)) (length payload.now + 18) (D.meaning.written disk.old) (D.meaning.written disk.new) }
+    ensures counted { HasWritten result (free_file (option_copied before.entry)) (length payload.items + 18) (D.meaning.written disk.old) (D.meaning.written disk.new) }
     ensures terms { KeepsTerms D.meaning disk.old disk.new }
 {
-    let next = next_slot(before, payload)?;
-    let body = frame::body(alloc, next.sequence, payload)?;
+    let next = next_slot(before, payload.as_slice())?;
+    let body = frame::body(next.sequence, payload)?;
     clear(alloc, disk, next.file)?;
     frame::write(alloc, disk, next.file, 0, &body)?;
     Ok(next)

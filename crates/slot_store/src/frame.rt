@@ -81,14 +81,15 @@ fn parts_of(front: &[u8]) -> Option<(u8, Head)>
     Some((*gate, head))
 }
 
-/// What stands behind the gate of a frame.
-pub fn body(alloc: Global, sequence: u64, payload: &[u8]) -> Result<Vec<u8>, AllocError>
-    ensures { IfOk result (λ bytes. bytes.items ≡ frame_body sequence payload.now) }
+/// What stands behind the gate of a frame. It takes no further memory where `payload` has room for 16 bytes more.
+pub fn body(sequence: u64, payload: Vec<u8>) -> Result<Vec<u8>, AllocError>
+    ensures { IfOk result (λ bytes. bytes.items ≡ frame_body sequence payload.items) }
 {
-    let mut bytes = Vec::new(alloc);
+    let length = payload.len();
+    let mut bytes = payload;
     bytes.extend_from_slice(&sequence.to_be_bytes())?;
-    bytes.extend_from_slice(&(payload.len() as u64).to_be_bytes())?;
-    bytes.extend_from_slice(payload)?;
+    bytes.extend_from_slice(&(length as u64).to_be_bytes())?;
+    bytes.rotate_right(16);
     Ok(bytes)
 }
 

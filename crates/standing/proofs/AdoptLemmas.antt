@@ -1,7 +1,6 @@
 -- What stands when other settings are adopted.
-use Rattle.std.proofs.Common.{◌≡◌, ◌≢◌, ℕ, zero, suc, ◌+◌, ◌-◌, ◌<◌, ◌≤◌, List, [], ◌∷◌, ◌++◌, length, take, drop, map, Bool, true, false, None, Some, IsTrue, refl, sym, ap, subst, ◌∙◌, inl, inr, arith, append_assoc, length-append}
+use Rattle.std.proofs.Common.{◌≡◌, ◌≢◌, ℕ, zero, suc, ◌+◌, ◌-◌, ◌<◌, ◌≤◌, List, [], ◌∷◌, ◌++◌, length, take, drop, map, Bool, true, false, None, Some, IsTrue, refl, sym, ap, subst, ◌∙◌, arith, append_assoc, length-append}
 use Rattle.std.proofs.lemmas.List.{append-nil, length-map}
-use Rattle.std.proofs.lemmas.List.Concat.{flat_map-append}
 use Rattle.std.proofs.lemmas.List.Elements.{All-append, All-nil, All-cons, All-head, All-tail, All-weaker}
 use Rattle.std.specs.List.{All, flat_map}
 use Rattle.std.specs.Prelude.{Option, slice_get, is_some, IfSome, if◌then◌else◌}
@@ -10,20 +9,20 @@ use Rattle.file_tracker.specs.declared.ends.End.{End}
 use Rattle.outside.specs.World.{History, bytes}
 use Rattle.standing.specs.Adopted.{with_era, end_of, row_adopted, lines_closed, closing_time, Adopts}
 use Rattle.standing.specs.AreRules.{AreRules}
-use Rattle.standing.specs.Closed.{Made, ClosedPart, AreClosed, made_in, closed_output, flagged, all_made, entries_in, flags_in}
+use Rattle.standing.specs.Closed.{Made, ClosedPart, AreClosed, made_in, flagged, all_made, entries_in, flags_in}
 use Rattle.standing.specs.Eras.{Eras, AreEras, all_eras, era_at, era_count, last_era, last_of, texts_of}
 use Rattle.standing.specs.Marks.{Mark, of_id, numbered, untimed}
-use Rattle.standing.specs.Part.{HasTaken, Part, part_from, part_output, first_point, last_point, last_part}
+use Rattle.standing.specs.Part.{HasTaken, part_from, part_output, first_point, last_point, last_part}
 use Rattle.standing.specs.Prefixes.{IsPrefix}
-use Rattle.standing.specs.Rows.{Row, Checkpoint, IsRowAt, AreInOrder, AreNumbered, KeepStates}
-use Rattle.standing.specs.Rules.{Rules, output_text}
+use Rattle.standing.specs.Rows.{Row, Checkpoint, IsRowAt, KeepStates}
+use Rattle.standing.specs.Rules.{Rules}
 use Rattle.standing.specs.Standing.{Lengthens}
-use Rattle.standing.specs.Stands.{RowStands, LinesStand, Stands, IsSound, CheckpointStands, IsIdOf, AreFrontsApart}
+use Rattle.standing.specs.Stands.{RowStands, LinesStand, CheckpointStands, IsIdOf}
 use Rattle.standing.specs.Times.{AreTimed, AreBefore, NoneLater}
 use Rattle.standing.specs.Tokens.{UpTo}
 use Rattle.standing.proofs.EraLemmas.{last_laws, last_at}
 use Rattle.standing.proofs.MarkLemmas.{of_id-append, of_id-numbered, of_id-others, untimed-append, untimed-numbered, numbered-append, All-numbered}
-use Rattle.standing.proofs.PartLemmas.{closed_lines, entries_flagged, flags_flagged, flagged-append, entries-append, flags-append, many-flagged, made_goes_on}
+use Rattle.standing.proofs.PartLemmas.{closed_lines, entries_flagged, flags_flagged, entries-append, flags-append, many-flagged, made_goes_on}
 use Rattle.standing.proofs.PassLemmas.{longer_text}
 use Rattle.standing.proofs.TimeLemmas.{timed_append, numbered_times, before_of_id}
 use Rattle.standing.proofs.TokenLemmas.{up_to_none}

@@ -2,7 +2,7 @@
 use Rattle.std.proofs.Common.{◌≡◌, ℕ, ◌-◌, List, take, drop, sym, subst, None}
 use Rattle.outside.specs.World.{History, bytes}
 use Rattle.standing.specs.Apart.{Apart}
-use Rattle.standing.specs.Closed.{Made, entries_in, all_made}
+use Rattle.standing.specs.Closed.{entries_in, all_made}
 use Rattle.standing.specs.Eras.{Eras, AreEras, last_era}
 use Rattle.standing.specs.Look.{Look, size}
 use Rattle.standing.specs.Marks.{of_id, numbered, untimed}

@@ -7,6 +7,8 @@ use Rattle.std.proofs.lemmas.List.{drop-drop, map-append}
 use Rattle.std.proofs.lemmas.List.Elements.{All-nil, All-cons}
 use Rattle.std.proofs.lemmas.List.Sums.{sum_by-cons}
 use Rattle.entry_model.specs.LogRecord.{of_text}
+use Rattle.idle_flush.proofs.RestLemmas.{uses_all}
+use Rattle.idle_flush.specs.Rests.{rest_cuts}
 use Rattle.line_splitter.specs.Cuts.{Cut, cuts_within, cuts, IsCutRule}
 use Rattle.line_splitter.specs.LineTokens.{first_cut}
 use Rattle.line_splitter.proofs.CutLemmas.{option_tells, rule_used, cuts-none, cuts-some, used_by-cuts, cuts-append}
@@ -63,6 +65,7 @@ each_line_is_rules =
         within = used_by-cuts (first_cut 64) rule;
         lasting = λ content more. (cuts (first_cut 64) (drop (used_by (cuts (first_cut 64) content)) content ++ more), cuts-append (first_cut 64) rule content more);
         going_on = cuts_go_on (first_cut 64) rule;
+        resting = λ content. record { taken = rest_cuts 64 content; are = refl; uses = uses_all 64 content (omega arith) };
       };
       operators = record {
         fresh_is_state = refl;

@@ -12,6 +12,7 @@ pub mod OwnerLemmas
 pub mod TellLemmas
 pub mod OutcomeLemmas
 pub mod TakenLemmas
+pub mod FlushLemmas
 pub mod ReadLemmas
 pub mod StepLemmas
 pub mod LookLemmas

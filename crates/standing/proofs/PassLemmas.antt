@@ -7,11 +7,10 @@ use Rattle.std.specs.List.{All, flat_map}
 use Rattle.std.specs.Prelude.{Option, None, Some, IfSome, nat_lt}
 use Rattle.outside.specs.World.{History, look}
 use Rattle.standing.specs.Apart.{Apart}
-use Rattle.standing.specs.AreRules.{AreRules}
 use Rattle.standing.specs.Eras.{Eras, AreEras, last_era, texts_of}
 use Rattle.standing.specs.Look.{Look, Outcome, skips, finds_nothing, finds_compressed, finds_no_room, finds_new, finds_row, Progress, ComesAt, new_row, piece, size, outcome, progress_after, lines_added, lines_of, all_taken}
 use Rattle.standing.specs.Looks.{progress_by, Come}
-use Rattle.standing.specs.Pass.{Stretch, Pass, start_at, IsObserved, IsQuiet, time_of}
+use Rattle.standing.specs.Pass.{Stretch, Pass, start_at, time_of}
 use Rattle.standing.specs.Prefixes.{IsPrefix}
 use Rattle.standing.specs.Standing.{Found, nothing, damaged, found, kept, checkpoint_of, Lengthens, Sound, Standing}
 use Rattle.standing.specs.Marks.{Mark, numbered}

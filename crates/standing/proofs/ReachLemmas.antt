@@ -6,7 +6,6 @@ use Rattle.std.proofs.lemmas.List.{take_all, drop-drop, drop-append-le, take-app
 use Rattle.std.proofs.lemmas.Option.{slice_get_within}
 use Rattle.outside.specs.World.{History, look}
 use Rattle.standing.specs.Apart.{Apart}
-use Rattle.standing.specs.AreRules.{AreRules}
 use Rattle.standing.specs.Closed.{Made}
 use Rattle.standing.specs.Eras.{Eras, AreEras, last_era}
 use Rattle.standing.specs.Limits.{most_taken}
@@ -27,7 +26,7 @@ use Rattle.standing.proofs.EraLemmas.{last_laws}
 use Rattle.standing.proofs.LookLemmas.{found_owner, known_ready, new_ready}
 use Rattle.standing.proofs.MomentLemmas.{at_look, later_then}
 use Rattle.standing.proofs.OutcomeLemmas.{finds_row-tells, finds_new-tells, skips-tells, finds_nothing-tells}
-use Rattle.standing.proofs.PassLemmas.{ProgressStands, HaveTime}
+use Rattle.standing.proofs.PassLemmas.{ProgressStands}
 use Rattle.standing.proofs.PlaceLemmas.{changes_by_set, changes_by_push}
 use Rattle.standing.proofs.ReadLemmas.{row_after-read, IsReady}
 use Rattle.standing.proofs.RowLemmas.{owner_lasts}

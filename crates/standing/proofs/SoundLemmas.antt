@@ -1,5 +1,5 @@
 -- A poll keeps a checkpoint sound, whatever the rows stand for.
-use Rattle.std.proofs.Common.{◌≡◌, ◌+◌, List, [], ◌∷◌, Bool, true, false, cond, IsTrue, refl, sym, ap, subst, ◌∙◌, inl, inr}
+use Rattle.std.proofs.Common.{◌≡◌, ◌+◌, List, [], ◌∷◌, true, false, cond, IsTrue, refl, sym, ap, subst, ◌∙◌, inl, inr}
 use Rattle.std.specs.List.{All}
 use Rattle.std.specs.Prelude.{nat_lt}
 use Rattle.std.proofs.lemmas.List.{length-set, length_push}
@@ -10,7 +10,6 @@ use Rattle.standing.specs.Look.{Look, Outcome, skips, finds_nothing, finds_compr
 use Rattle.standing.specs.Looks.{progress_by}
 use Rattle.standing.specs.Poll.{Poll}
 use Rattle.standing.specs.Rows.{Row, AreNumbered}
-use Rattle.standing.specs.Rules.{Rules}
 use Rattle.standing.proofs.OutcomeLemmas.{finds_row-tells}
 use Rattle.standing.proofs.PlaceLemmas.{changes_by_set, changes_by_push}
 use Rattle.standing.proofs.ReadLemmas.{with_front}

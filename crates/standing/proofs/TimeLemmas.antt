@@ -1,5 +1,5 @@
 -- Times of lines, one list behind another.
-use Rattle.std.proofs.Common.{◌≡◌, ℕ, ◌+◌, ◌≤◌, List, [], ◌∷◌, ◌++◌, Bool, None, Some, map, refl, sym, ap, subst, ◌∙◌, arith, ◌==◌}
+use Rattle.std.proofs.Common.{◌≡◌, ℕ, ◌+◌, ◌≤◌, List, [], ◌∷◌, ◌++◌, Bool, None, Some, map, refl, sym, subst, arith, ◌==◌}
 use Rattle.std.specs.List.{All}
 use Rattle.std.specs.Prelude.{Option, is_some, IfSome}
 use Rattle.std.proofs.lemmas.List.Elements.{All-append, All-cons, All-nil, All-head, All-tail, All-weaker, All-filter}

@@ -1,16 +1,16 @@
 -- The worked histories of an adoption and of a flush.
-use Rattle.std.proofs.Common.{◌≡◌, ℕ, zero, suc, ◌+◌, ◌≤◌, List, [], ◌∷◌, ◌++◌, Bool, true, false, length, IsTrue, None, Some, Option, refl, sym, ap, subst, ◌∙◌, inl, inr, arith}
+use Rattle.std.proofs.Common.{◌≡◌, ℕ, zero, suc, ◌+◌, ◌≤◌, List, [], ◌∷◌, ◌++◌, true, false, length, IsTrue, None, Some, Option, refl, sym, ap, subst, ◌∙◌, inl, inr, arith}
 use Rattle.std.specs.Prelude.{codes, IfSome}
 use Rattle.std.proofs.lemmas.List.Elements.{All-nil, All-cons}
 use Rattle.line_splitter.specs.Cuts.{cut, cuts_within, cuts}
 use Rattle.line_splitter.specs.LineTokens.{line_end, first_cut}
 use Rattle.idle_flush.specs.Rests.{rest_cut, without_line_end}
-use Rattle.outside.specs.World.{create, append, look}
+use Rattle.outside.specs.World.{append, look}
 use Rattle.standing.specs.Adopted.{Adopts}
 use Rattle.standing.specs.AreRules.{AreRules}
 use Rattle.standing.specs.Eras.{AreEras, texts_of}
-use Rattle.standing.specs.Example.{each_line, other_line, one_era, two_eras, line_text, begun, polled, first_stretch, first_looks, first_checkpoint, first_lines, adopted_row, adopted_checkpoint, grown, grown_looks, grown_stretch, grown_checkpoint, grown_lines, row_of, look_at, mark_of, flushing_poll, still_row, still_checkpoint, still_looks, still_stretch, flushed_checkpoint, flushed_lines}
-use Rattle.standing.specs.Look.{Look, outcome, row_after, lines_added, all_taken}
+use Rattle.standing.specs.Example.{each_line, other_line, one_era, two_eras, line_text, begun, polled, first_stretch, first_looks, first_checkpoint, first_lines, adopted_row, adopted_checkpoint, grown, grown_looks, grown_stretch, grown_checkpoint, grown_lines, row_of, mark_of, flushing_poll, still_row, still_checkpoint, still_looks, still_stretch, flushed_checkpoint, flushed_lines}
+use Rattle.standing.specs.Look.{outcome, row_after, lines_added, all_taken}
 use Rattle.standing.specs.Marks.{Mark, of_id}
 use Rattle.standing.specs.Pass.{Pass}
 use Rattle.standing.specs.Poll.{poll_in}
@@ -27,7 +27,7 @@ use Rattle.standing.proofs.PolledLemmas.{first_named, not_first}
 
 other_line_is_rules : AreRules other_line
 other_line_is_rules = let rules = each_line_is_rules in record {
-  tokens = record { each_uses = rules.tokens.each_uses; within = rules.tokens.within; lasting = rules.tokens.lasting; going_on = rules.tokens.going_on };
+  tokens = record { each_uses = rules.tokens.each_uses; within = rules.tokens.within; lasting = rules.tokens.lasting; going_on = rules.tokens.going_on; resting = rules.tokens.resting };
   operators = record {
     fresh_is_state = rules.operators.fresh_is_state;
     state_goes_on = rules.operators.state_goes_on;

@@ -3,15 +3,16 @@ use Rattle.std.specs.Prelude.{◌≡◌, ℕ, ◌+◌, ◌<◌, ◌≤◌, List,
 use Rattle.line_splitter.specs.Cuts.{Cut}
 use Rattle.standing.specs.Marks.{Mark}
 use Rattle.standing.specs.Rules.{Rules}
-use Rattle.standing.specs.Tokens.{used_by, used}
+use Rattle.standing.specs.Tokens.{AreCutOf, used_by, used}
 
--- each token uses some bytes, all together no more than there are; more bytes behind leave the tokens; and the bytes
--- behind some of the tokens have the others
+-- each token uses some bytes, all together no more than there are; more bytes behind leave the tokens; the bytes
+-- behind some of the tokens have the others; and a rest is used to its end
 pub record AreTokenRules (rules : Rules) : Type 0 where
   pub each_uses : (content : List ℕ) → All (λ (c : Cut). 1 ≤ c.used) (rules.cuts content)
   pub within : (content : List ℕ) → used rules content ≤ length content
   pub lasting : (content more : List ℕ) → (rest : List Cut) × (rules.cuts (content ++ more) ≡ rules.cuts content ++ rest)
   pub going_on : (content : List ℕ) (taken behind : List Cut) → rules.cuts content ≡ taken ++ behind → rules.cuts (drop (used_by taken) content) ≡ behind
+  pub resting : (content : List ℕ) → AreCutOf (length content) (rules.rest content)
 
 -- tokens may be taken in parts, each from the state that the one before it left
 pub record AreOperatorRules (rules : Rules) : Type 0 where

@@ -1,5 +1,5 @@
 -- The settings that were in force one after another, each until the next ones were adopted.
-use Rattle.std.specs.Prelude.{◌≡◌, ℕ, zero, suc, ◌+◌, List, ◌∷◌, [], length, map, Option, None, slice_get, All}
+use Rattle.std.specs.Prelude.{◌≡◌, ℕ, zero, suc, List, ◌∷◌, [], length, map, Option, None, slice_get, All}
 use Rattle.standing.specs.AreRules.{AreRules}
 use Rattle.standing.specs.Rules.{Rules}
 

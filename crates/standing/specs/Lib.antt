@@ -24,3 +24,4 @@ pub mod Sums
 pub mod Example
 pub mod OwnNames
 pub mod Included
+pub mod Flush

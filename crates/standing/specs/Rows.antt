@@ -1,5 +1,5 @@
 -- What is kept of the files and of the output from one run to the next.
-use Rattle.std.specs.Prelude.{◌≡◌, ℕ, ◌+◌, All, IsTrue, List, [], ◌∷◌, length, Some, slice_get}
+use Rattle.std.specs.Prelude.{◌≡◌, ℕ, ◌+◌, All, IsTrue, List, [], length, Some, slice_get}
 pub use Rattle.checkpoint_store.specs.declared.Checkpoint.{Checkpoint}
 pub use Rattle.file_tracker.specs.declared.row.Row.{Row}
 use Rattle.standing.specs.Rules.{Rules}

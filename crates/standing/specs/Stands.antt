@@ -1,5 +1,5 @@
 -- What rows and an output stand for in a history.
-use Rattle.std.specs.Prelude.{◌≡◌, ◌≢◌, ℕ, ◌+◌, ◌-◌, ◌≤◌, List, [], ◌∷◌, length, take, drop, None, Some, slice_get, All}
+use Rattle.std.specs.Prelude.{◌≡◌, ◌≢◌, ℕ, ◌+◌, ◌≤◌, List, length, take, None, Some, slice_get, All}
 use Rattle.outside.specs.World.{History, bytes}
 use Rattle.standing.specs.Closed.{Made, AreClosed, all_made, entries_in, flags_in}
 use Rattle.standing.specs.Eras.{Eras, era_count, last_era, texts_of}
@@ -8,7 +8,7 @@ use Rattle.standing.specs.Owner.{IsOwner, MayBegin}
 use Rattle.standing.specs.Part.{HasTaken, first_point, last_part}
 use Rattle.standing.specs.Prefixes.{IsPrefix}
 use Rattle.standing.specs.Rows.{Row, Checkpoint, IsRowAt, AreNumbered, KeepStates}
-use Rattle.standing.specs.Rules.{Rules, output_text}
+use Rattle.standing.specs.Rules.{output_text}
 use Rattle.standing.specs.Times.{AreTimed, NoneLater}
 
 -- These are all lines of the row: those of the tokens that it has taken of its owner's bytes, part by part, each once and in

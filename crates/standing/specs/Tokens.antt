@@ -23,3 +23,9 @@ pub record UpTo (rules : Rules) (content : List ℕ) (bound : ℕ) (tokens : Lis
   pub split : rules.cuts content ≡ taken ++ behind
   pub uses : used_by taken ≡ bound
   pub are : tokens ≡ texts taken
+
+-- These tokens are cut out of so many bytes, one behind another, without a byte between two of them or behind the last one.
+pub record AreCutOf (count : ℕ) (tokens : List (List ℕ)) : Type 0 where
+  pub taken : List Cut
+  pub are : tokens ≡ texts taken
+  pub uses : used_by taken ≡ count

@@ -7,6 +7,7 @@ ghost use Rattle.standing.specs.Apart.{Apart};
 ghost use Rattle.standing.specs.AreRules.{AreRules};
 ghost use Rattle.standing.specs.Closed.{all_made, entries_in};
 ghost use Rattle.standing.specs.Eras.{AreEras, Eras, last_era, texts_of};
+ghost use Rattle.standing.specs.Flush.{Flushes, TakesAll, TakesPiece, TakesRange};
 ghost use Rattle.standing.specs.Look.{ComesAt, Look, Progress, after_look, fed, size};
 ghost use Rattle.standing.specs.Marks.{Mark, numbered, of_id, untimed};
 ghost use Rattle.standing.specs.Moments.{IsLater, IsNamed, KeepsNames, LeaveNames};
@@ -72,6 +73,16 @@ pub fn a_look_keeps_standing()
         → let start : Progress = record { rows = rows; next_id = next_id; added = [] } in
         let after = after_look (poll_in eras first stamp) here start in
         Stands eras (look here.file ∷ here.moment) after.rows after.next_id (output ++ output_text (last_era eras) after.added) }
+{}
+
+/// What a look takes of a file whose row isn't past its end, whether or not what waits is flushed: tokens that follow one another
+/// without a gap from the row's old offset to its new one. What waits is flushed exactly where the settings ask for it and
+/// enough looks found the file as long, and then all of it is taken.
+pub fn a_look_takes_a_range()
+    ensures range { (poll : Poll) (here : Look) (row : Row) → AreRules poll.rules → row.offset ≤ size here → TakesRange poll here row }
+    ensures flushed { (poll : Poll) (here : Look) (row : Row) → row.offset ≤ size here → Flushes poll here row → TakesAll poll here row }
+    ensures not_flushed { (poll : Poll) (here : Look) (row : Row) → row.offset ≤ size here → (Flushes poll here row → ⊥)
+        → TakesPiece poll here row }
 {}
 
 /// A poll keeps what stands, where files can be told apart in the history that ends with it: from what was found before

@@ -123,3 +123,13 @@ check_interrupted_reads() {
     before_the_first && traced pread64 error=EINTR:when=1+2 || return 1
     grep -q 'EINTR.*INJECTED' "$work/calls" && diff "$work/report" <(summary 2 4 0 1284) && all_there
 }
+
+# Where one row grew, 129 bytes are written: the byte that keeps the record closed, the record behind it, and the byte that opens it.
+check_bytes_of_a_checkpoint() {
+    can_trace || return 0
+    a_log 'hello\nwor'
+    quietly && printf 'ld\n' >>app.log || return 1
+    local on=()
+    on_files checkpoint.a
+    traced write,pwrite64 && [ "$(sed -n 's/.*) *= \([0-9]*\)$/\1/p' "$work/calls" | paste -s -d ' ')" = '1 127 1' ]
+}

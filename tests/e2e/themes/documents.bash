@@ -122,7 +122,7 @@ check_keys_have_examples() {
             echo "there is no example of $key"
             return 1
         }
-    done < <(document rows "$root/docs/SETTINGS.md" Key Value Default 'What it says' | sed '/^include_observed_time/q')
+    done < <(document rows "$root/docs/SETTINGS.md" Key Value Default 'What it says' | sed '/^flush_after_polls/q')
     mkdir blocks && document blocks "$root/docs/SETTINGS.md" blocks || return 1
     for type in $(sed -n 's/^### `\(.*\)`$/\1/p' "$root/docs/SETTINGS.md"); do
         grep -q -F "\"type\": \"$type\"" blocks/*.settings || {

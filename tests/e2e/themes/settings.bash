@@ -9,6 +9,7 @@ check_settings_refused() {
         ends 3 'settings out-of-range fingerprint_size' '{"include":["a"],"fingerprint_size":15}' &&
         ends 3 'settings fraction fingerprint_size' '{"include":["a"],"fingerprint_size":16.5}' &&
         ends 3 'settings wrong-kind include_observed_time' '{"include":["a"],"include_observed_time":"true"}' &&
+        ends 3 'settings out-of-range flush_after_polls' '{"include":["a"],"flush_after_polls":1001}' &&
         ends 3 'settings wrong-kind operators' '{"include_observed_time":1,"include":["a"],"operators":1}' &&
         ends 3 'settings missing operators[0].field' '{"include":["a"],"operators":[{"type":"remove"}]}' &&
         ends 3 'same-id 1' "${settings%\}},\"operators\":[{\"type\":\"noop\",\"id\":\"a\"},{\"type\":\"noop\",\"id\":\"a\"}]}" &&
@@ -69,7 +70,8 @@ check_keys_of_a_file() {
         gives '"include_file_name":false,"preserve_leading_whitespaces":true' ' a \n' '[" a", {}, {}]' &&
         gives '"include_file_name":false,"preserve_trailing_whitespaces":true' ' a \n' '["a ", {}, {}]' &&
         gives '"include_file_name":false,"fingerprint_size":16' 'a\n' '["a", {}, {}]' &&
-        gives '"include_file_name":false,"include_observed_time":true' 'a\n' '["a", {}, {}]'
+        gives '"include_file_name":false,"include_observed_time":true' 'a\n' '["a", {}, {}]' &&
+        gives '"include_file_name":false,"flush_after_polls":2' 'a\n' '["a", {}, {}]'
 }
 
 # To switch a key on is to change the settings, and so it is to write its default.

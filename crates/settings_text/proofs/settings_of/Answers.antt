@@ -87,6 +87,13 @@ returns-in_err-include_observed_time c =
     let p = err_from_is_err_and r.result r.ensures.1 in
     rw (p.1, p.2) (λ some. rw (← c.in-Some.ensures, c.in_ok-check_known.ensures, c.in_ok-include.ensures, c.in_ok-exclude.ensures, c.in_ok-start_at.ensures, c.in_ok-fingerprint_size.ensures, c.in_ok-max_log_size.ensures, c.in_ok-multiline.ensures, c.in_ok-flags.ensures, c.in_ok-attributes.ensures, c.in_ok-resource.ensures, c.in_ok-operators.ensures, c.in_err-include_observed_time.ensures some) refl)
 
+pub returns-in_err-flush_after_polls : goal.returns-in_err-flush_after_polls
+unfolding settings_of
+returns-in_err-flush_after_polls c =
+    let r = c.from_residual-in_err-flush_after_polls in
+    let p = err_from_is_err_and r.result r.ensures.1 in
+    rw (p.1, p.2) (λ some. rw (← c.in-Some.ensures, c.in_ok-check_known.ensures, c.in_ok-include.ensures, c.in_ok-exclude.ensures, c.in_ok-start_at.ensures, c.in_ok-fingerprint_size.ensures, c.in_ok-max_log_size.ensures, c.in_ok-multiline.ensures, c.in_ok-flags.ensures, c.in_ok-attributes.ensures, c.in_ok-resource.ensures, c.in_ok-operators.ensures, c.in_ok-include_observed_time.ensures, c.in_err-flush_after_polls.ensures some) refl)
+
 pub returns : goal.returns
 unfolding settings_of
-returns c = rw (← c.in-Some.ensures, c.in_ok-check_known.ensures, c.in_ok-include.ensures, c.in_ok-exclude.ensures, c.in_ok-start_at.ensures, c.in_ok-fingerprint_size.ensures, c.in_ok-max_log_size.ensures, c.in_ok-multiline.ensures, c.in_ok-flags.ensures, c.in_ok-attributes.ensures, c.in_ok-resource.ensures, c.in_ok-operators.ensures, c.in_ok-include_observed_time.ensures) refl
+returns c = rw (← c.in-Some.ensures, c.in_ok-check_known.ensures, c.in_ok-include.ensures, c.in_ok-exclude.ensures, c.in_ok-start_at.ensures, c.in_ok-fingerprint_size.ensures, c.in_ok-max_log_size.ensures, c.in_ok-multiline.ensures, c.in_ok-flags.ensures, c.in_ok-attributes.ensures, c.in_ok-resource.ensures, c.in_ok-operators.ensures, c.in_ok-include_observed_time.ensures, c.in_ok-flush_after_polls.ensures) refl

@@ -55,7 +55,7 @@ returns-in-Err-clause-control_long g c = λ is.
 
 pub returns-clause-ends : goal.returns-clause-ends
 returns-clause-ends g c =
-    let keeps = keeps_opened (meanings g.T.Tree.meaning g.D.Disk.meaning g.K.Sink.meaning g.C.Clock.meaning) (rules_of_session c.in-Ok.session).front_size c.args.tree.now c.args.disk.now c.open_session.new.disk c.args.report.now c.args.clock.now
+    let keeps = keeps_opened (meanings g.T.Tree.meaning g.D.Disk.meaning g.K.Sink.meaning g.C.Clock.meaning) (rules_of_session c.in-Ok.session) c.args.tree.now c.args.disk.now c.open_session.new.disk c.args.report.now c.args.clock.now
     (λ from image early left. g.met.D.Disk.counts_now c.args.disk.now from image early left) c.open_session.ensures.crash in
     let served = c.serve.ensures.served (moment c.args.tree.now c.args.disk.now c.args.report.now c.args.clock.now) keeps in
     serves (record {

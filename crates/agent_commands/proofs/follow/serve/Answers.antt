@@ -28,7 +28,7 @@ loop-report-init g c = record {
   within = omega arith;
   leads = λ begun keeps. leads_none _ begun _ _ _;
   crash = same_grows _ _ (passes_none c.args.disk.now);
-  standing = told_stands_none g.D.Disk.meaning.images (rules_of_session c.args.session).front_size c.args.disk.now (g.T.Tree.meaning.world c.args.tree.now);
+  standing = told_stands_none g.D.Disk.meaning.images (rules_of_session c.args.session) c.args.disk.now (g.T.Tree.meaning.world c.args.tree.now);
   goes = told_later_same (g.T.Tree.meaning.world c.args.tree.now);
   disk_stood = refl;
   control_stood = refl;
@@ -116,8 +116,8 @@ returns-in-Err-clause-standing g c =
     let now = c.loop-report in
     let images = g.D.Disk.meaning.images in
     let world = g.T.Tree.meaning.world in
-    told_stands_then images (rules_of_session c.args.session).front_size c.args.disk.now now.disk c.turn.new.disk _ _ _ c.turn.ensures.later now.invariant.crash.later now.invariant.standing
-    (subst (λ (r : Rules). Told (KeepsStandingSince images r.front_size now.disk c.turn.new.disk) (world now.tree) (world c.turn.new.tree)) now.invariant.rules c.turn.ensures.standing)
+    told_stands_then images (rules_of_session c.args.session) c.args.disk.now now.disk c.turn.new.disk _ _ _ c.turn.ensures.later now.invariant.crash.later now.invariant.standing
+    (subst (λ (r : Rules). Told (KeepsStandingSince images r now.disk c.turn.new.disk) (world now.tree) (world c.turn.new.tree)) now.invariant.rules c.turn.ensures.standing)
 
 pub returns-in-Err-clause-control_failed : goal.returns-in-Err-clause-control_failed
 returns-in-Err-clause-control_failed g c = λ is. absurd ((other_status c.in-Err.status c.in-Err.ensures.answers).1 is)
@@ -165,9 +165,9 @@ loop-report-preserved g c =
     let ms = meanings g.T.Tree.meaning g.D.Disk.meaning g.K.Sink.meaning g.C.Clock.meaning in
     let first = moment c.args.tree.now c.args.disk.now c.args.report.now c.args.clock.now in
     let here = moment now.tree now.disk now.report now.clock in
-    let still : KeepsFrom ms (rules_of_session now.session).front_size here here = record { later = omega arith; goes = told_later_same (world now.tree); standing = told_stands_none images (rules_of_session now.session).front_size now.disk (world now.tree) } in
+    let still : KeepsFrom ms (rules_of_session now.session) here here = record { later = omega arith; goes = told_later_same (world now.tree); standing = told_stands_none images (rules_of_session now.session) now.disk (world now.tree) } in
     let turned = c.in-Ok.ensures.turns here still in
-    let so_far : KeepsFrom ms (rules_of_session c.args.session).front_size first here = record { later = now.invariant.crash.later; goes = now.invariant.goes; standing = now.invariant.standing } in
+    let so_far : KeepsFrom ms (rules_of_session c.args.session) first here = record { later = now.invariant.crash.later; goes = now.invariant.goes; standing = now.invariant.standing } in
     let poll : next.result ≡ Ok Poll = search rules in
     let asks = subst (λ request. Told (Asks now.left request) (g.S.Source.meaning.rest now.control) (g.S.Source.meaning.rest next.new.control)) poll next.ensures.asks in
     record {
@@ -179,10 +179,10 @@ loop-report-preserved g c =
       leads = λ begun keeps. leads_on ms begun c.args.session (g.S.Source.meaning.rest c.args.control.now) (moment c.args.tree.now c.args.disk.now c.args.report.now c.args.clock.now)
           now.number now.left next.new.left now.session c.in-Ok.next _ _ (moment now.tree now.disk now.report now.clock) (moment c.turn.new.tree c.turn.new.disk c.turn.new.report c.turn.new.clock)
           (now.invariant.leads begun keeps) (record { asks = asks; spends = next.ensures.spends }) (c.in-Ok.ensures.turns begun
-          (subst (λ (r : Rules). KeepsFrom ms r.front_size begun here) (sym now.invariant.rules) (keeps_then ms (rules_of_session c.args.session).front_size begun first here keeps so_far)));
+          (subst (λ (r : Rules). KeepsFrom ms r begun here) (sym now.invariant.rules) (keeps_then ms (rules_of_session c.args.session) begun first here keeps so_far)));
       crash = passes_grow_on (now.number - 1) (now.number + 1 - 1) _ _ _ (omega (arith, now.invariant.counted)) now.invariant.crash c.turn.ensures.crash;
-      standing = told_stands_then images (rules_of_session c.args.session).front_size c.args.disk.now now.disk c.turn.new.disk _ _ _ c.turn.ensures.later now.invariant.crash.later now.invariant.standing
-          (subst (λ (r : Rules). Told (KeepsStandingSince images r.front_size now.disk c.turn.new.disk) (world now.tree) (world c.turn.new.tree)) now.invariant.rules c.turn.ensures.standing);
+      standing = told_stands_then images (rules_of_session c.args.session) c.args.disk.now now.disk c.turn.new.disk _ _ _ c.turn.ensures.later now.invariant.crash.later now.invariant.standing
+          (subst (λ (r : Rules). Told (KeepsStandingSince images r now.disk c.turn.new.disk) (world now.tree) (world c.turn.new.tree)) now.invariant.rules c.turn.ensures.standing);
       goes = told_later_then (world c.args.tree.now) (world now.tree) (world c.turn.new.tree) now.invariant.goes c.turn.ensures.later;
       disk_stood = c.in-Ok.ensures.disk_stood (λ is. let no : Ok c.in-Ok.next ≡ Err 7 = is in cc) ∙ now.invariant.disk_stood;
       control_stood = subst (λ r. HasOneCause r (g.S.Source.meaning.faults now.control) (g.S.Source.meaning.faults next.new.control)) poll next.ensures.cause ∙ now.invariant.control_stood;

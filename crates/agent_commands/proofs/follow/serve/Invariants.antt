@@ -27,7 +27,7 @@ invariant-loop-report g l =
       within : l.left + l.number ≤ max_control + 1;
       leads : LeadsFrom (meanings trees disks sinks g.C.Clock.meaning) l.fn.session (sources.rest l.fn.control) (moment l.fn.tree l.fn.disk l.fn.report l.fn.clock) l.number l.left l.session (sources.rest l.control) (moment l.tree l.disk l.report l.clock);
       crash : Passes disks.images (GrowsBy (l.number - 1)) l.fn.disk l.disk;
-      standing : Told (KeepsStandingSince disks.images (rules_of_session l.fn.session).front_size l.fn.disk l.disk) (trees.world l.fn.tree) (trees.world l.tree);
+      standing : Told (KeepsStandingSince disks.images (rules_of_session l.fn.session) l.fn.disk l.disk) (trees.world l.fn.tree) (trees.world l.tree);
       goes : Told GoesLater (trees.world l.fn.tree) (trees.world l.tree);
       disk_stood : disks.faults l.disk ≡ disks.faults l.fn.disk;
       control_stood : sources.faults l.control ≡ sources.faults l.fn.control;

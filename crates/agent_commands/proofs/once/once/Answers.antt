@@ -61,7 +61,7 @@ returns-clause-ends g c =
       opens = c.in-Ok.ensures.ok;
       next = c.in_default.field-0;
       turns = c.in_default.ensures.turns (moment c.args.tree.now c.args.disk.now c.args.report.now c.args.clock.now)
-          (keeps_opened (meanings g.T.Tree.meaning g.D.Disk.meaning g.K.Sink.meaning g.C.Clock.meaning) (rules_of_session c.in-Ok.session).front_size c.args.tree.now c.args.disk.now c.open_session.new.disk c.args.report.now c.args.clock.now
+          (keeps_opened (meanings g.T.Tree.meaning g.D.Disk.meaning g.K.Sink.meaning g.C.Clock.meaning) (rules_of_session c.in-Ok.session) c.args.tree.now c.args.disk.now c.open_session.new.disk c.args.report.now c.args.clock.now
           (λ from image early left. g.met.D.Disk.counts_now c.args.disk.now from image early left) c.open_session.ensures.crash);
     })
 

@@ -13,10 +13,10 @@ returns-in_err-done-clause-fault g c =
     rw (p.1, p.2) (poll_fault g.T.Tree.meaning c.args.session c.args.tree.now c.poll.new.tree c.in_err-done.field-0.0 (λ size is. c.in_err-done.ensures.full size (ap Err is)) (λ sequence is. (c.in_err-done.ensures.worn sequence (ap Err is)).1))
 
 pub returns-in_err-done-clause-crash : goal.returns-in_err-done-clause-crash
-returns-in_err-done-clause-crash g c = poll_grows g.T.Tree.meaning g.D.Disk.meaning c.args.session c.args.tree.now c.poll.new.tree c.args.disk.now c.poll.new.disk c.requires.session c.requires.stands c.poll.ensures.crash
+returns-in_err-done-clause-crash g c = poll_grows c.settings_give_one_set_of_rules.ensures.rules g.T.Tree.meaning g.D.Disk.meaning c.args.session c.args.tree.now c.poll.new.tree c.args.disk.now c.poll.new.disk c.requires.session c.requires.stands c.poll.ensures.crash
 
 pub returns-clause-crash : goal.returns-clause-crash
-returns-clause-crash g c = poll_grows g.T.Tree.meaning g.D.Disk.meaning c.args.session c.args.tree.now c.poll.new.tree c.args.disk.now c.poll.new.disk c.requires.session c.requires.stands c.poll.ensures.crash
+returns-clause-crash g c = poll_grows c.settings_give_one_set_of_rules.ensures.rules g.T.Tree.meaning g.D.Disk.meaning c.args.session c.args.tree.now c.poll.new.tree c.args.disk.now c.poll.new.disk c.requires.session c.requires.stands c.poll.ensures.crash
 
 pub returns-clause-whole : goal.returns-clause-whole
 returns-clause-whole g c =

@@ -1,4 +1,4 @@
-use Rattle.checkpoint_journal.proofs.ShortLemmas.{checkpoint_short, change_short}
+use Rattle.checkpoint_store.proofs.ShortLemmas.{checkpoint_short, change_short}
 use Rattle.checkpoint_journal.proofs.laws.spellings_are_short.Goals as goal
 
 pub returns-clause-checkpoint : goal.returns-clause-checkpoint

@@ -2,7 +2,7 @@ use Rattle.std.proofs.Common.{◌≡◌, ℕ, List, length, sym, ap, ◌∙◌, 
 use Rattle.std.specs.Prelude.{map, slice_index}
 use Rattle.checkpoint_store.specs.Rules.{IsCheckpoint}
 use Rattle.checkpoint_journal.proofs.SaysLemmas.{says_lawful}
-use Rattle.checkpoint_journal.proofs.ShortLemmas.{base_short}
+use Rattle.checkpoint_store.proofs.ShortLemmas.{base_short}
 use Rattle.checkpoint_journal.proofs.peeking.understood.Goals as goal
 
 pub returns-clause-lawful : goal.returns-clause-lawful

@@ -3,6 +3,7 @@ use Rattle.std.specs.Int.{w32, w64, to_be_bytes}
 use Rattle.std.specs.List.{flat_map}
 use Rattle.state_codec.specs.Spelling.{bytes_spelling}
 use Rattle.checkpoint_store.specs.Limits.{newest}
+use Rattle.checkpoint_store.specs.Parts.{checkpoint_of_parts}
 use Rattle.checkpoint_store.specs.declared.Checkpoint.{Checkpoint}
 use Rattle.checkpoint_store.specs.Spelling.{rows_spelling}
 use Rattle.checkpoint_store.proofs.PutLemmas.{put_before, put_two_before}
@@ -10,7 +11,7 @@ use Rattle.checkpoint_store.proofs.put.encode.Goals as goal
 
 pub returns : goal.returns
 returns c =
-    let k : Checkpoint = c.args.checkpoint.now in
+    let k : Checkpoint = checkpoint_of_parts c.args.checkpoint.now in
     let r = c.put_rows.result in
     let new : List ℕ = c.put_rows.new.out.items in
     let s7 : List ℕ = rows_spelling newest k.rows in
@@ -26,4 +27,4 @@ returns c =
     (put_before r c.put_eras.new.out.items c.put_u64.new.out.items new s4 (s5 ++ (s6 ++ s7)) c.in_ok-put_u64.ensures
     (put_before r c.put_u64.new.out.items c.put_u64-2.new.out.items new s5 (s6 ++ s7) c.in_ok-put_u64-2.ensures
     (put_before r c.put_u64-2.new.out.items c.put_u32.new.out.items new s6 s7 c.in_ok-put_u32.ensures
-    (rw c.as_slice-2.ensures at c.put_rows.ensures)))))
+    c.put_rows.ensures))))

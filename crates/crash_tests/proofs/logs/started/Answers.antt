@@ -21,5 +21,5 @@ returns-clause-stands c =
     (record {
       each = λ image left.
           let is = rewritten.each image left in
-          record { base = c.args.base.now; records = []; log_is = is.log_is; ends = is.ends };
+          record { base = c.args.base.items; records = []; log_is = is.log_is; ends = is.ends };
     })

@@ -24,10 +24,9 @@ loop-from-init g c =
     let good : IsTrue ((rules_in c.args.setup.now).is_state (feeding_row c.args.feeding.now).state) = c.a_row_tells_its_state.ensures.restored text (state_text states) states (record { kinds = c.requires.sane.states; told = refl }) in
     let offset : ℕ = c.args.feeding.now.offset in
     record {
-      reading = subst (λ (l : List ℕ). IsReading trees disks c.args.setup.now c.args.file c.args.feeding.now c.args.feeding.now c.args.end.now c.args.end.now offset l c.args.tree.now c.args.tree.now c.args.disk.now c.args.disk.now) (sym c.new-carried.ensures.items)
-          (reading_begins trees disks c.args.setup.now laws c.args.file c.args.feeding.now c.args.end.now c.args.tree.now c.args.disk.now good (omega (arith, c.requires.begins)));
+      reading = reading_begins trees disks c.args.setup.now laws c.args.file c.args.feeding.now c.args.end.now c.args.tree.now c.args.disk.now good (omega (arith, c.requires.begins)) c.requires.none;
       sane = c.requires.sane;
-      offset = omega (arith, ap length c.new-carried.ensures.items);
+      offset = omega (arith, ap length c.requires.none);
       later = omega arith;
       ends = c.requires.ends;
       keeps_tree = keeps_tree_within trees (length c.args.buffer.now) 0 (offset - offset) c.args.tree.now c.args.tree.now (omega arith) (keeps_tree_none trees (length c.args.buffer.now) c.args.tree.now);
@@ -48,7 +47,7 @@ returns-then-not-is_whole-clause-ok g c =
     let not_whole : c.read_piece-count.result.1 ≡ Whole → ⊥ = c.is_whole.ensures.no c.if-not-is_whole.true in
     let buffer = c.read_piece-count.new.buffer in
     let none : take c.read_piece-count.result.0 buffer ≡ [] = ap (λ (n : ℕ). take n buffer) (c.read_piece-count.ensures.none not_whole) in
-    reads_on trees disks c.args.setup.now laws c.args.file c.args.feeding.now c.loop-from.feeding c.loop-from.feeding c.args.end.now c.loop-from.end c.loop-from.end c.loop-from.from c.last_of-last.result c.loop-from.carried.items (take c.read_piece-count.result.0 buffer) [] c.args.tree.now c.loop-from.tree c.read_piece-count.new.tree c.args.disk.now c.loop-from.disk c.loop-from.disk
+    reads_on trees disks c.args.setup.now laws c.args.file c.args.feeding.now c.loop-from.feeding c.loop-from.feeding c.args.end.now c.loop-from.end c.loop-from.end c.loop-from.from c.last_of-last.result (take c.read_piece-count.result.0 buffer) c.args.tree.now c.loop-from.tree c.read_piece-count.new.tree c.args.disk.now c.loop-from.disk c.loop-from.disk
     inv.keeps_disk.terms.tells good inv.reading c.read_piece-count.result.1 none c.last_of-last.ensures (λ is. absurd (not_whole is)) (λ _. c.loop-from-test.true) (omega (arith, c.loop-from-test.true)) c.read_piece-count.ensures.tree.world c.read_piece-count.ensures.tree.cause
 
 pub returns-then-not-is_whole-clause-tree : goal.returns-then-not-is_whole-clause-tree
@@ -102,7 +101,7 @@ returns-in_err-feed_carried-clause-full g c = λ size is.
     let fault : c.in_err-feed_carried.field-0.0 ≡ OutputFull size = cc (made.1, made.2, is) in
     let whole = c.is_whole.ensures.yes c.if-not-is_whole.false in
     let read = rw whole at c.read_piece-count.ensures.tree in
-    fills_up trees disks c.args.setup.now laws c.args.file c.args.feeding.now c.loop-from.feeding c.loop-from.feeding c.args.end.now c.loop-from.end c.loop-from.end c.loop-from.from c.last_of-last.result c.loop-from.carried.items piece [] c.args.tree.now c.loop-from.tree c.read_piece-count.new.tree c.args.disk.now c.loop-from.disk c.loop-from.disk
+    fills_up trees disks c.args.setup.now laws c.args.file c.args.feeding.now c.loop-from.feeding c.loop-from.feeding c.args.end.now c.loop-from.end c.loop-from.end c.loop-from.from c.last_of-last.result piece c.args.tree.now c.loop-from.tree c.read_piece-count.new.tree c.args.disk.now c.loop-from.disk c.loop-from.disk
     inv.keeps_disk.terms.tells good inv.reading size (omega (arith, count_is, c.read_piece-count.ensures.within.1)) c.last_of-last.ensures read.world read.cause
     (rw c.in_ok-extend_from_slice.ensures.items at (c.in_err-feed_carried.ensures.full size (ap Err fault)))
 
@@ -121,7 +120,7 @@ loop-from-preserved g c =
     let count : ℕ = c.read_piece-count.result.0 in
     let buffer = c.read_piece-count.new.buffer in
     let piece : List ℕ = take count buffer in
-    let bytes : List ℕ = c.loop-from.carried.items ++ piece in
+    let bytes : List ℕ = c.loop-from.feeding.carried.items ++ piece in
     let count_is : length piece ≡ count = length-take-le count buffer c.read_piece-count.ensures.within.0 in
     let whole = c.is_whole.ensures.yes c.if-not-is_whole.false in
     let read = rw whole at c.read_piece-count.ensures.tree in
@@ -130,11 +129,11 @@ loop-from-preserved g c =
     let appends = rw c.in_ok-extend_from_slice.ensures.items at c.in_ok-feed_carried.ensures.ok in
     let tells = c.in_ok-feed_carried.ensures.disk.terms.tells in
     record {
-      reading = subst (λ (n : ℕ). IsReading trees disks c.args.setup.now c.args.file c.args.feeding.now c.feed_carried.new.feeding c.args.end.now c.feed_carried.new.end (c.loop-from.from + n) c.feed_carried.new.carried.items c.args.tree.now c.read_piece-count.new.tree c.args.disk.now c.feed_carried.new.disk) count_is
-          (reading_on trees disks c.args.setup.now laws c.args.file c.args.feeding.now c.loop-from.feeding c.feed_carried.new.feeding c.args.end.now c.loop-from.end c.feed_carried.new.end c.loop-from.from c.last_of-last.result c.loop-from.carried.items piece c.feed_carried.new.carried.items c.args.tree.now c.loop-from.tree c.read_piece-count.new.tree c.args.disk.now c.loop-from.disk c.feed_carried.new.disk
-          inv.keeps_disk.terms.tells good inv.reading (omega (arith, count_is, c.read_piece-count.ensures.within.1)) c.last_of-last.ensures read.world read.cause fed rest appends);
+      reading = subst (λ (n : ℕ). IsReading trees disks c.args.setup.now c.args.file c.args.feeding.now c.feed_carried.new.feeding c.args.end.now c.feed_carried.new.end (c.loop-from.from + n) c.args.tree.now c.read_piece-count.new.tree c.args.disk.now c.feed_carried.new.disk) count_is
+          (reading_on trees disks c.args.setup.now laws c.args.file c.args.feeding.now c.loop-from.feeding c.feed_carried.new.feeding c.args.end.now c.loop-from.end c.feed_carried.new.end c.loop-from.from c.last_of-last.result piece c.args.tree.now c.loop-from.tree c.read_piece-count.new.tree c.args.disk.now c.loop-from.disk c.feed_carried.new.disk
+          inv.keeps_disk.terms.tells good inv.reading (omega (arith, count_is, c.read_piece-count.ensures.within.1)) c.last_of-last.ensures read.world read.cause fed rest c.feed_carried.ensures.flushed appends);
       sane = c.in_ok-feed_carried.ensures.sane;
-      offset = omega (arith, ap (λ (r : Row). r.offset) fed, ap length rest, length-drop (used rules bytes) bytes, laws.tokens.within bytes, length-append c.loop-from.carried.items piece, count_is, inv.offset);
+      offset = omega (arith, ap (λ (r : Row). r.offset) fed, ap length rest, length-drop (used rules bytes) bytes, laws.tokens.within bytes, length-append c.loop-from.feeding.carried.items piece, count_is, inv.offset);
       later = omega (arith, inv.later, appends.end_is);
       ends = ends_then disks _ c.loop-from.end c.feed_carried.new.end c.loop-from.disk c.feed_carried.new.disk tells appends inv.ends;
       keeps_tree = keeps_tree_within trees most ((c.loop-from.from - offset) + count) ((c.loop-from.from + count) - offset) c.args.tree.now c.read_piece-count.new.tree (omega (arith, inv.reading.from_is))

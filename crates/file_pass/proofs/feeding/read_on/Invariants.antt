@@ -10,9 +10,9 @@ invariant-loop-from g l =
     let trees = g.T.Tree.meaning in
     let disks = g.D.Disk.meaning in
     record {
-      reading : IsReading trees disks l.setup l.file l.fn.feeding l.feeding l.fn.end l.end l.from l.carried.items l.fn.tree l.tree l.fn.disk l.disk;
+      reading : IsReading trees disks l.setup l.file l.fn.feeding l.feeding l.fn.end l.end l.from l.fn.tree l.tree l.fn.disk l.disk;
       sane : IsSane l.setup l.feeding l.end;
-      offset : l.feeding.offset + length l.carried.items ≡ l.from;
+      offset : l.feeding.offset + length l.feeding.carried.items ≡ l.from;
       later : l.fn.end ≤ l.end;
       ends : IsTrue (disks.images.tells l.disk) → length (disks.images.seen l.disk Output) ≡ l.end;
       keeps_tree : KeepsTree trees (length l.fn.buffer) (l.from - l.fn.feeding.offset) l.fn.tree l.tree;

@@ -10,7 +10,7 @@ use Rattle.outside.specs.declared.fault.CallFault.TheVariants.{Failed, Memory}
 use Rattle.file_pass.specs.Fed.{poll_of, rules_in}
 use Rattle.file_pass.specs.declared.ending.OpenFile.{OpenFile}
 use Rattle.file_pass.specs.declared.taking.TheConstants.{BUFFER_SIZE}
-use Rattle.file_pass.proofs.Flagging.{unchanged_none}
+use Rattle.file_pass.proofs.Flagging.{growth_none}
 use Rattle.file_pass.proofs.Joining.{tree_opens, tree_file, takes_file, fills_file, takes_missed, takes_lost}
 use Rattle.file_pass.proofs.taking.open_path.Goals as goal
 
@@ -83,10 +83,10 @@ returns-in-Err-Memory-clause-tree g c =
     tree_opens g.T.Tree.meaning BUFFER_SIZE c.as_str.result.now (Err Memory) c.args.tree.now c.open_file.new.self (λ handle size is. let no : Err Memory ≡ Ok (File handle size) = is in cc) opened.history opened.cause c.open_file.ensures.nameless c.open_file.ensures.taken c.open_file.ensures.widest c.open_file.ensures.plan c.open_file.ensures.bound
 
 pub returns-in-Ok-Gone-clause-flags : goal.returns-in-Ok-Gone-clause-flags
-returns-in-Ok-Gone-clause-flags g c = unchanged_none c.args.taking.now.tracker c.args.taking.now.changed.items
+returns-in-Ok-Gone-clause-flags g c = growth_none (rules_in c.args.setup.now) c.args.taking.now.tracker c.args.taking.now.changed.items
 
 pub returns-in-Ok-NotAFile-clause-flags : goal.returns-in-Ok-NotAFile-clause-flags
-returns-in-Ok-NotAFile-clause-flags g c = unchanged_none c.args.taking.now.tracker c.args.taking.now.changed.items
+returns-in-Ok-NotAFile-clause-flags g c = growth_none (rules_in c.args.setup.now) c.args.taking.now.tracker c.args.taking.now.changed.items
 
 pub returns-in-Err-Failed-clause-flags : goal.returns-in-Err-Failed-clause-flags
-returns-in-Err-Failed-clause-flags g c = unchanged_none c.args.taking.now.tracker c.args.taking.now.changed.items
+returns-in-Err-Failed-clause-flags g c = growth_none (rules_in c.args.setup.now) c.args.taking.now.tracker c.args.taking.now.changed.items

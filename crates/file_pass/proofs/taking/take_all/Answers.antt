@@ -1,62 +1,31 @@
-use Rattle.std.proofs.Common.{◌≡◌, ◌∙◌, take, sym, ap, subst, arith, refl, Err, List, ℕ}
-use Rattle.std.proofs.lemmas.Grind.{common_steps}
-use Rattle.std.proofs.lemmas.List.{take_all}
-use Rattle.file_pass.specs.AllTaken.{TakesAll}
-use Rattle.file_pass.specs.Full.{lines_text}
-use Rattle.file_pass.specs.declared.fault.PassFault.TheVariants.{OutputFull}
-use Rattle.file_pass.specs.declared.taking.TheConstants.{BUFFER_SIZE}
-use Rattle.file_pass.proofs.DiskLemmas.{keeps_disk_none, keeps_disk_then, ends_then}
-use Rattle.file_pass.proofs.Joining.{tree_none, tree_then, takes_all_none, takes_all_more, takes_all_fill, one_more, firsts_more}
-use Rattle.file_pass.proofs.Flagging.{unchanged_none, unchanged_then}
+use Rattle.std.proofs.Common.{◌≡◌, ◌≤◌, ◌∙◌, Bool, length, drop, map, sym, ap, arith, List}
+use Rattle.std.proofs.lemmas.Result.{err_from_is_err_and}
+use Rattle.file_tracker.specs.declared.row.Row.{Row}
+use Rattle.file_pass.specs.Fed.{rules_in}
+use Rattle.file_pass.proofs.Flagging.{growth_ends, looks_within, written_back}
+use Rattle.file_pass.proofs.Joining.{tree_none}
+use Rattle.file_pass.proofs.DiskLemmas.{keeps_disk_none}
 use Rattle.file_pass.proofs.taking.take_all.Goals as goal
 
-pub loop-path-init : goal.loop-path-init
-loop-path-init g c = record {
-  taken = takes_all_none g.T.Tree.meaning g.D.Disk.meaning c.args.setup.now c.args.taking.now c.args.tree.now c.args.disk.now c.stand.ensures;
-  sane = c.requires.sane;
-  flags = unchanged_none c.args.taking.now.tracker c.args.taking.now.changed.items;
-  keeps_tree = tree_none g.T.Tree.meaning BUFFER_SIZE c.args.tree.now;
-  keeps_disk = keeps_disk_none g.D.Disk.meaning c.args.taking.now.end c.args.disk.now;
-  stood = refl;
-  long = grind (arith, common_steps);
-  ends = c.requires.ends;
-}
+pub flag_looks-requires-clause-rows : goal.flag_looks-requires-clause-rows
+flag_looks-requires-clause-rows g c =
+    omega (arith, ap length c.in_ok-looks.ensures, looks_within (rules_in c.args.setup.now) c.args.taking.now.tracker, c.in_ok-take_each.ensures.flags.more)
 
-pub take_path-requires-clause-included : goal.take_path-requires-clause-included
-take_path-requires-clause-included g c = c.requires.included c.path-item.result (c.loop-path.path-index, c.loop-path-test.true, sym c.path-item.is)
+pub flag_looks-requires-clause-flags : goal.flag_looks-requires-clause-flags
+flag_looks-requires-clause-flags g c = ap length c.deref_mut.ensures.value ∙ c.in_ok-take_each.ensures.sane.flags
 
-pub take_path-requires-clause-short : goal.take_path-requires-clause-short
-take_path-requires-clause-short g c = c.requires.short c.path-item.result (c.loop-path.path-index, c.loop-path-test.true, sym c.path-item.is)
+pub returns-clause-flags : goal.returns-clause-flags
+returns-clause-flags g c =
+    let given = c.take_each.new.taking.changed in
+    let changed : List Bool = c.flag_looks.new.changed in
+    let marks = rw (c.deref.ensures.value, c.deref_mut.ensures.value) at c.flag_looks.ensures in
+    let back = written_back given.len changed (drop (length changed) given.items) (c.flag_looks.ensures.long ∙ c.deref_mut.ensures.len) in
+    rw back (growth_ends (rules_in c.args.setup.now) c.args.taking.now.tracker c.take_each.new.taking.tracker c.args.taking.now.changed.items given.items changed c.in_ok-looks.looks.items c.in_ok-looks.ensures c.in_ok-take_each.ensures.flags marks)
 
-pub returns-in_err-take_path-clause-full : goal.returns-in_err-take_path-clause-full
-returns-in_err-take_path-clause-full g c = λ size is.
-    let same : OutputFull size ≡ c.in_err-take_path.field-0.0 = rw is at c.from_residual-in_err-take_path.ensures.1 in
-    takes_all_fill g.T.Tree.meaning g.D.Disk.meaning c.args.setup.now (take c.loop-path.path-index c.args.paths.now) c.path-item.result c.args.paths.now c.args.taking.now c.loop-path.taking c.args.tree.now c.loop-path.tree c.take_path.new.tree c.args.disk.now c.loop-path.disk size
-    c.loop-path.invariant.taken (firsts_more c.args.paths.now c.loop-path.path-index c.path-item.result c.loop-path-test.true c.path-item.is) (c.in_err-take_path.ensures.full size (ap Err (sym same)))
-
-pub returns-in_err-take_path-clause-tree : goal.returns-in_err-take_path-clause-tree
-returns-in_err-take_path-clause-tree g c = tree_then g.T.Tree.meaning BUFFER_SIZE c.args.tree.now c.loop-path.tree c.take_path.new.tree c.loop-path.invariant.keeps_tree c.take_path.ensures.tree
-
-pub returns-in_err-take_path-clause-disk : goal.returns-in_err-take_path-clause-disk
-returns-in_err-take_path-clause-disk g c =
-    keeps_disk_then g.D.Disk.meaning c.args.taking.now.end c.loop-path.taking.end c.args.disk.now c.loop-path.disk c.take_path.new.disk (omega (arith, c.loop-path.invariant.taken.takes.appends.end_is)) c.loop-path.invariant.keeps_disk c.take_path.ensures.disk
-
-pub loop-path-preserved : goal.loop-path-preserved
-loop-path-preserved g c =
-    let inv = c.loop-path.invariant in
-    let one = one_more c.args.paths.now c.loop-path.path-index c.path-item.result c.loop-path-test.true c.path-item.is in
-    let ok = c.in_ok-take_path.ensures.ok in
-    record {
-      taken = rw one (takes_all_more g.T.Tree.meaning g.D.Disk.meaning c.args.setup.now (take c.loop-path.path-index c.args.paths.now) c.path-item.result c.args.taking.now c.loop-path.taking c.take_path.new.taking c.args.tree.now c.loop-path.tree c.take_path.new.tree c.args.disk.now c.loop-path.disk c.take_path.new.disk
-          inv.keeps_disk.terms.tells inv.taken ok);
-      sane = c.in_ok-take_path.ensures.sane;
-      flags = unchanged_then c.args.taking.now.tracker c.loop-path.taking.tracker c.take_path.new.taking.tracker c.args.taking.now.changed.items c.loop-path.taking.changed.items c.take_path.new.taking.changed.items inv.flags c.in_ok-take_path.ensures.flags;
-      keeps_tree = tree_then g.T.Tree.meaning BUFFER_SIZE c.args.tree.now c.loop-path.tree c.take_path.new.tree inv.keeps_tree c.take_path.ensures.tree;
-      keeps_disk = keeps_disk_then g.D.Disk.meaning c.args.taking.now.end c.loop-path.taking.end c.args.disk.now c.loop-path.disk c.take_path.new.disk (omega (arith, inv.taken.takes.appends.end_is)) inv.keeps_disk c.take_path.ensures.disk;
-      stood = c.in_ok-take_path.ensures.cause ∙ inv.stood;
-      long = grind (arith, common_steps);
-      ends = ends_then g.D.Disk.meaning (lines_text ok.takes.added) c.loop-path.taking.end c.take_path.new.taking.end c.loop-path.disk c.take_path.new.disk c.take_path.ensures.disk.terms.tells ok.takes.appends inv.ends;
-    }
-
-pub returns-clause-ok : goal.returns-clause-ok
-returns-clause-ok g c = subst (λ (paths : List (List ℕ)). TakesAll g.T.Tree.meaning g.D.Disk.meaning c.args.setup.now paths c.args.taking.now c.loop-path.taking c.args.tree.now c.loop-path.tree c.args.disk.now c.loop-path.disk) (take_all c.loop-path.path-index c.args.paths.now c.loop-path-test.false) c.loop-path.invariant.taken
+pub returns-clause-sane : goal.returns-clause-sane
+returns-clause-sane g c =
+    let was = c.in_ok-take_each.ensures.sane in
+    let given = c.take_each.new.taking.changed in
+    let changed : List Bool = c.flag_looks.new.changed in
+    let back = written_back given.len changed (drop (length changed) given.items) (c.flag_looks.ensures.long ∙ c.deref_mut.ensures.len) in
+    record { rows = was.rows; few = was.few; era = was.era; flags = ap length back ∙ c.flag_looks.ensures.long ∙ ap length c.deref_mut.ensures.value ∙ was.flags; end_within = was.end_within; lines = was.lines }

@@ -4,7 +4,7 @@ use Rattle.file_pass.specs.Fed.{poll_of, rules_in}
 use Rattle.file_pass.specs.declared.ending.Ending.TheVariants.{Whole}
 use Rattle.file_pass.specs.declared.fault.PassFault.TheVariants.{OutputFull}
 use Rattle.file_pass.specs.declared.taking.TheConstants.{BUFFER_SIZE}
-use Rattle.file_pass.proofs.Flagging.{unchanged_none}
+use Rattle.file_pass.proofs.Flagging.{growth_none}
 use Rattle.file_pass.proofs.Joining.{finds_idle, tree_then, front_unread, front_takes, front_fills, front_tree}
 use Rattle.file_pass.proofs.Opening.{open_nothing}
 use Rattle.file_pass.proofs.taking.take_opened.Goals as goal
@@ -60,7 +60,7 @@ returns-clause-tree g c =
     c.take_seen.ensures.tree
 
 pub returns-then-file-eq0-clause-flags : goal.returns-then-file-eq0-clause-flags
-returns-then-file-eq0-clause-flags g c = unchanged_none c.args.taking.now.tracker c.args.taking.now.changed.items
+returns-then-file-eq0-clause-flags g c = growth_none (rules_in c.args.setup.now) c.args.taking.now.tracker c.args.taking.now.changed.items
 
 pub returns-then-not-is_whole-clause-flags : goal.returns-then-not-is_whole-clause-flags
-returns-then-not-is_whole-clause-flags g c = unchanged_none c.args.taking.now.tracker c.args.taking.now.changed.items
+returns-then-not-is_whole-clause-flags g c = growth_none (rules_in c.args.setup.now) c.args.taking.now.tracker c.args.taking.now.changed.items

@@ -4,7 +4,7 @@ use Rattle.standing.specs.AreRules.{AreRules}
 use Rattle.standing.specs.Limits.{is_compressed}
 use Rattle.file_pass.specs.Fed.{poll_of, rules_in}
 use Rattle.file_pass.specs.declared.fault.PassFault.TheVariants.{OutputFull}
-use Rattle.file_pass.proofs.Flagging.{unchanged_none, unchanged_then}
+use Rattle.file_pass.proofs.Flagging.{growth_none, growth_then}
 use Rattle.file_pass.proofs.Bridging.{seen_taken}
 use Rattle.file_pass.proofs.Filling.{seen_fills}
 use Rattle.file_pass.proofs.Finding.{settled_within}
@@ -53,8 +53,8 @@ returns-in-None-clause-ok g c =
     (λ world. seen_full (poll_of c.args.setup.now) c.args.path.now c.args.file c.args.taking.now.tracker world c.args.front.now c.settle.new.taking.tracker plain some (rw c.in-None.is at c.in_ok-place.ensures.settles)))
 
 pub returns-then-starts_with-clause-flags : goal.returns-then-starts_with-clause-flags
-returns-then-starts_with-clause-flags g c = unchanged_none c.args.taking.now.tracker c.args.taking.now.changed.items
+returns-then-starts_with-clause-flags g c = growth_none (rules_in c.args.setup.now) c.args.taking.now.tracker c.args.taking.now.changed.items
 
 pub returns-in_ok-found-in-Some-clause-flags : goal.returns-in_ok-found-in-Some-clause-flags
 returns-in_ok-found-in-Some-clause-flags g c =
-    unchanged_then c.args.taking.now.tracker c.settle.new.taking.tracker c.take_row.new.taking.tracker c.args.taking.now.changed.items c.settle.new.taking.changed.items c.take_row.new.taking.changed.items c.in_ok-place.ensures.flags c.in_ok-found-in-Some.ensures.flags
+    growth_then (rules_in c.args.setup.now) c.args.taking.now.tracker c.settle.new.taking.tracker c.take_row.new.taking.tracker c.args.taking.now.changed.items c.settle.new.taking.changed.items c.take_row.new.taking.changed.items c.in_ok-place.ensures.flags c.in_ok-found-in-Some.ensures.flags

@@ -1,3 +1,4 @@
+use Rattle.std.proofs.Common.{arith, length-drop}
 use Rattle.std.proofs.lemmas.List.{take_rest}
 use Rattle.pipeline.specs.Origin.{origin_of}
 use Rattle.pipeline.specs.Parts.{settings_of, network}
@@ -17,6 +18,15 @@ returns-clause-finished c =
       fed = fed_then (settings_of c.args.self.now) (network c.args.self.now) (origin_of c.args.id c.args.path.now c.args.observed) graph lines _ _ c.args.state.now c.feed_by.new.state c.feed_by-2.new.state c.args.out.now.items c.feed_by.new.out.items c.feed_by-2.new.out.items (c.in_ok-used.ensures.fed (origin_of c.args.id c.args.path.now c.args.observed) c.in_ok-source.ensures) rest;
       closed = closed;
     })
+
+pub returns-clause-records : goal.returns-clause-records
+returns-clause-records c =
+    let within = rw (take_rest c.args.bytes.now c.in_ok-used.used) at c.in_ok-feed_by.ensures.within in
+    on_ok c.close.result _ _ c.close.ensures.closed
+    (λ closed. omega (arith, closed.records, c.in_ok-feed_by.ensures.records, within, length-drop c.in_ok-used.used c.args.bytes.now, c.in_ok-used.ensures.records, c.in_ok-used.ensures.within))
+
+pub returns-clause-lines : goal.returns-clause-lines
+returns-clause-lines c = on_ok c.close.result _ _ c.close.ensures.lines (λ closed. omega (arith, closed, c.in_ok-feed_by.ensures.lines, c.in_ok-used.ensures.lines))
 
 pub feed_by-requires-clause-source : goal.feed_by-requires-clause-source
 feed_by-requires-clause-source c = (origin_of c.args.id c.args.path.now c.args.observed, c.in_ok-source.ensures)

@@ -1,5 +1,7 @@
-use Rattle.std.proofs.Common.{[], ◌∷◌, ◌++◌, length, drop, sym, ap, arith, length-append}
+use Rattle.std.proofs.Common.{[], ◌∷◌, ◌++◌, length, drop, refl, sym, ap, arith, length-append}
 use Rattle.graph_core.specs.Traces.{start_states}
+use Rattle.idle_flush.proofs.RestLemmas.{uses_all}
+use Rattle.idle_flush.specs.Rests.{rest_cuts}
 use Rattle.line_splitter.proofs.CutLemmas.{used_by-cuts, cuts-append}
 use Rattle.line_splitter.specs.Cuts.{cuts, used_by, IsCutRule}
 use Rattle.pipeline.proofs.Feeding.{GraphLaws}
@@ -25,6 +27,7 @@ returns c = λ settings_text keeps.
         within = used_by-cuts first rule;
         lasting = λ content more. (cuts first (drop (used_by (cuts first content)) content ++ more), cuts-append first rule content more);
         going_on = cuts_go_on first rule;
+        resting = λ content. record { taken = rest_cuts settings.max_log_size content; are = refl; uses = uses_all settings.max_log_size content (omega (arith, keeps.max_log_size_from)) };
       };
       operators = record {
         fresh_is_state = is_told pipeline.graph (states_spelling (start_states (network pipeline))) (start_states (network pipeline)) (first_told pipeline.graph);

@@ -10,7 +10,7 @@ returns-in_err-slot-clause-crash g c stands =
     let before = option_copied c.args.before in
     let same = c.as_ref.ensures.value ∙ c.slot_before-before.ensures in
     passes_by (c.commit.ensures.crash (record { each = λ image left. subst (λ slot. Chooses slot image) (sym same) (stands_chooses before image (stands.each image left)) }))
-    (λ x y left commits. rewrites before c.args.payload.now x y (stands.each x left) (subst (λ slot. Commits slot c.args.payload.now x y) same commits))
+    (λ x y left commits. rewrites before c.args.payload.items x y (stands.each x left) (subst (λ slot. Commits slot c.args.payload.items x y) same commits))
 
 pub returns-in_err-slot-clause-early : goal.returns-in_err-slot-clause-early
 returns-in_err-slot-clause-early g c fewer stands =
@@ -24,7 +24,7 @@ returns-clause-crash g c stands =
     let before = option_copied c.args.before in
     let same = c.as_ref.ensures.value ∙ c.slot_before-before.ensures in
     passes_by (c.commit.ensures.crash (record { each = λ image left. subst (λ slot. Chooses slot image) (sym same) (stands_chooses before image (stands.each image left)) }))
-    (λ x y left commits. rewrites before c.args.payload.now x y (stands.each x left) (subst (λ slot. Commits slot c.args.payload.now x y) same commits))
+    (λ x y left commits. rewrites before c.args.payload.items x y (stands.each x left) (subst (λ slot. Commits slot c.args.payload.items x y) same commits))
 
 pub returns-clause-early : goal.returns-clause-early
 returns-clause-early g c fewer stands =
@@ -38,4 +38,4 @@ returns-clause-rewritten g c stands =
     let before = option_copied c.args.before in
     let same = c.as_ref.ensures.value ∙ c.slot_before-before.ensures in
     let committed = c.in_ok-slot.ensures.committed (record { each = λ image left. subst (λ slot. Chooses slot image) (sym same) (stands_chooses before image (stands.each image left)) }) in
-    record { each = λ image left. is_rewritten before c.args.payload.now image (subst (λ slot. IsCommitted slot c.args.payload.now image) same (committed.each image left)) }
+    record { each = λ image left. is_rewritten before c.args.payload.items image (subst (λ slot. IsCommitted slot c.args.payload.items image) same (committed.each image left)) }

@@ -89,10 +89,6 @@ keep-requires-clause-lawful g c =
     let times = times_of session _ _ _ c.stamp_of-stamp.ensures c.kept_time.ensures in
     lawful_own g.T.Tree.meaning g.D.Disk.meaning session c.requires.session c.requires.rules _ c.in_ok-walk.walk c.in_ok-walk.taking c.args.tree.now c.pass.new.tree c.args.disk.now c.pass.new.disk c.in_ok-walk.ensures.ok _ (set_up session _ _ c.requires.session same c.max.ensures (later_by session _ _ c.requires.session times)) times c.max.ensures c.requires.stands c.pass.ensures.disk
 
-pub keep-requires-clause-flags : goal.keep-requires-clause-flags
-keep-requires-clause-flags g c =
-    c.in_ok-walk.ensures.ok.sane.flags
-
 pub keep-requires-clause-short : goal.keep-requires-clause-short
 keep-requires-clause-short g c =
     c.requires.session.journal

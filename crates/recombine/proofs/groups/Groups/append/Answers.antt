@@ -6,14 +6,14 @@ use Rattle.recombine.proofs.groups.Groups.append.Goals as goal
 pub invariant_of-self : goal.invariant_of-self
 invariant_of-self c =
     let g = c.index_mut-group.result.now in
-    table_put c.self.inside.in_order.items c.self.inside.bytes c.self.inside.bytes c.args.place g (record g { text = c.push_str.new.self }) c.self.invariant
+    table_put c.self.inside.marks.items c.self.inside.in_order.items c.self.inside.bytes c.self.inside.bytes c.args.place g (record g { text = c.push_str.new.self }) c.self.invariant
     (seen_range c.self.inside.in_order.items c.args.self.now c.args.place c.self.view_is c.requires.in_range) c.index_mut-group.ensures.value refl
     (λ o. record { some = o.some; most = o.most; shallow = o.shallow }) (ap (λ (t : List ℕ). c.self.inside.bytes + length t) (sym c.in_err-push_str.ensures.bytes))
 
 pub invariant_of-self-2 : goal.invariant_of-self-2
 invariant_of-self-2 c =
     let g = c.index_mut-group.result.now in
-    table_put c.self.inside.in_order.items c.self.inside.bytes (c.self.inside.bytes + length c.args.piece.now) c.args.place g (record g { text = c.push_str.new.self }) c.self.invariant
+    table_put c.self.inside.marks.items c.self.inside.in_order.items c.self.inside.bytes (c.self.inside.bytes + length c.args.piece.now) c.args.place g (record g { text = c.push_str.new.self }) c.self.invariant
     (seen_range c.self.inside.in_order.items c.args.self.now c.args.place c.self.view_is c.requires.in_range) c.index_mut-group.ensures.value refl
     (λ o. record { some = o.some; most = o.most; shallow = o.shallow })
     (omega (arith, ap length c.in_ok-push_str.ensures.bytes, length-append (string_bytes c.index_mut-group.result.now.text) c.args.piece.now))

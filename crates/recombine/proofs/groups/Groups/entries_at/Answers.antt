@@ -9,4 +9,4 @@ returns-clause-value c = λ before behind group parts count.
 
 pub returns-clause-most : goal.returns-clause-most
 returns-clause-most c =
-    entries_most c.self.inside.in_order.items c.self.inside.bytes c.args.place c.index.result.now c.self.invariant (seen_range c.self.inside.in_order.items c.args.self.now c.args.place c.self.view_is c.requires) c.index.ensures
+    entries_most c.self.inside.marks.items c.self.inside.in_order.items c.self.inside.bytes c.args.place c.index.result.now c.self.invariant (seen_range c.self.inside.in_order.items c.args.self.now c.args.place c.self.view_is c.requires) c.index.ensures

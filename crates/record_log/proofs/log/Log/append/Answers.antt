@@ -54,12 +54,12 @@ returns-in_err-write_synced-clause-early g c fewer =
 
 pub write-requires-clause-ends : goal.write-requires-clause-ends
 write-requires-clause-ends g c =
-    let long : length c.deref.result.now ≡ length c.args.payload.now + 16 = ap length (c.deref.ensures.value ∙ c.in_ok-body.ensures) ∙ length-frame_body c.in_ok-sequence.sequence c.args.payload.now in
+    let long : length c.deref.result.now ≡ length c.args.payload.items + 16 = ap length (c.deref.ensures.value ∙ c.in_ok-body.ensures) ∙ length-frame_body c.in_ok-sequence.sequence c.args.payload.items in
     omega (arith, c.requires.ends, slot_end c.args.self.slot.file c.requires.file)
 
 pub returns-in_err-write-clause-crash : goal.returns-in_err-write-clause-crash
 returns-in_err-write-clause-crash g c =
-    followed c.args.self c.args.payload.now c.deref.result.now (record { body_is = c.deref.ensures.value ∙ c.in_ok-body.ensures ∙ ap (λ n. frame_body n c.args.payload.now) c.in_ok-sequence.ensures.ok.0; in_range = omega (arith, c.in_ok-sequence.ensures.ok.0, c.in_ok-sequence.ensures.ok.1); within = c.requires.ends }) c.requires.stands c.write_synced.ensures.crash c.in_ok-write_synced.ensures.written c.write.ensures.crash
+    followed c.args.self c.args.payload.items c.deref.result.now (record { body_is = c.deref.ensures.value ∙ c.in_ok-body.ensures ∙ ap (λ n. frame_body n c.args.payload.items) c.in_ok-sequence.ensures.ok.0; in_range = omega (arith, c.in_ok-sequence.ensures.ok.0, c.in_ok-sequence.ensures.ok.1); within = c.requires.ends }) c.requires.stands c.write_synced.ensures.crash c.in_ok-write_synced.ensures.written c.write.ensures.crash
 
 pub returns-in_err-write-clause-early : goal.returns-in_err-write-clause-early
 returns-in_err-write-clause-early g c fewer =
@@ -72,19 +72,19 @@ returns-in_err-write-clause-done g c =
 
 pub returns-in_err-write-clause-counted : goal.returns-in_err-write-clause-counted
 returns-in_err-write-clause-counted g c =
-    let long : length c.deref.result.now ≡ length c.args.payload.now + 16 = ap length (c.deref.ensures.value ∙ c.in_ok-body.ensures) ∙ length-frame_body c.in_ok-sequence.sequence c.args.payload.now in
-    written_halves c.from_residual-in_err-write.result c.args.self.slot.file c.args.self.slot.file (length c.deref.result.now) (length c.args.payload.now + 18) _ _ _
+    let long : length c.deref.result.now ≡ length c.args.payload.items + 16 = ap length (c.deref.ensures.value ∙ c.in_ok-body.ensures) ∙ length-frame_body c.in_ok-sequence.sequence c.args.payload.items in
+    written_halves c.from_residual-in_err-write.result c.args.self.slot.file c.args.self.slot.file (length c.deref.result.now) (length c.args.payload.items + 18) _ _ _
     c.from_residual-in_err-write.ensures.0 refl (omega arith) c.write_synced.ensures.counted c.in_err-write.ensures.counted
 
 pub returns-clause-crash : goal.returns-clause-crash
 returns-clause-crash g c =
-    followed c.args.self c.args.payload.now c.deref.result.now (record { body_is = c.deref.ensures.value ∙ c.in_ok-body.ensures ∙ ap (λ n. frame_body n c.args.payload.now) c.in_ok-sequence.ensures.ok.0; in_range = omega (arith, c.in_ok-sequence.ensures.ok.0, c.in_ok-sequence.ensures.ok.1); within = c.requires.ends }) c.requires.stands c.write_synced.ensures.crash c.in_ok-write_synced.ensures.written c.write.ensures.crash
+    followed c.args.self c.args.payload.items c.deref.result.now (record { body_is = c.deref.ensures.value ∙ c.in_ok-body.ensures ∙ ap (λ n. frame_body n c.args.payload.items) c.in_ok-sequence.ensures.ok.0; in_range = omega (arith, c.in_ok-sequence.ensures.ok.0, c.in_ok-sequence.ensures.ok.1); within = c.requires.ends }) c.requires.stands c.write_synced.ensures.crash c.in_ok-write_synced.ensures.written c.write.ensures.crash
 
 pub returns-clause-appended : goal.returns-clause-appended
 returns-clause-appended g c =
     let log = c.args.self in
     let file = log.slot.file in
-    let terms : IsAppend log c.args.payload.now c.deref.result.now = record { body_is = c.deref.ensures.value ∙ c.in_ok-body.ensures ∙ ap (λ n. frame_body n c.args.payload.now) c.in_ok-sequence.ensures.ok.0; in_range = omega (arith, c.in_ok-sequence.ensures.ok.0, c.in_ok-sequence.ensures.ok.1); within = c.requires.ends } in
+    let terms : IsAppend log c.args.payload.items c.deref.result.now = record { body_is = c.deref.ensures.value ∙ c.in_ok-body.ensures ∙ ap (λ n. frame_body n c.args.payload.items) c.in_ok-sequence.ensures.ok.0; in_range = omega (arith, c.in_ok-sequence.ensures.ok.0, c.in_ok-sequence.ensures.ok.1); within = c.requires.ends } in
     record {
       each = λ image left.
           let two = c.in_ok-write.ensures.opened.each image left in
@@ -92,7 +92,7 @@ returns-clause-appended g c =
           let stands = c.requires.stands.each one.0 one.1 in (
             one.0,
             one.1,
-            gains_record log c.args.payload.now c.deref.result.now one.0 image terms stands
+            gains_record log c.args.payload.items c.deref.result.now one.0 image terms stands
                 (at_file_then one.2 two.2 (written_behind log.end c.deref.result.now (one.0 file) (two.0 file) (image file) stands.ends)),
           );
     }
@@ -112,6 +112,6 @@ returns-clause-one g c one =
 
 pub returns-clause-counted : goal.returns-clause-counted
 returns-clause-counted g c =
-    let long : length c.deref.result.now ≡ length c.args.payload.now + 16 = ap length (c.deref.ensures.value ∙ c.in_ok-body.ensures) ∙ length-frame_body c.in_ok-sequence.sequence c.args.payload.now in
-    written_whole c.args.self.slot.file c.args.self.slot.file (length c.deref.result.now) (length c.args.payload.now + 18) _ _ _
+    let long : length c.deref.result.now ≡ length c.args.payload.items + 16 = ap length (c.deref.ensures.value ∙ c.in_ok-body.ensures) ∙ length-frame_body c.in_ok-sequence.sequence c.args.payload.items in
+    written_whole c.args.self.slot.file c.args.self.slot.file (length c.deref.result.now) (length c.args.payload.items + 18) _ _ _
     refl (omega arith) c.write_synced.ensures.counted c.in_ok-write.ensures.counted
