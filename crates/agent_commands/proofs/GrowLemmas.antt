@@ -6,6 +6,7 @@ use Rattle.checkpoint_journal.specs.JournalOf.{HasJournal, log_of}
 use Rattle.checkpoint_journal.specs.declared.journal.Journal.{Journal}
 use Rattle.checkpoint_store.specs.declared.Checkpoint.{Checkpoint}
 use Rattle.file_pass.specs.Full.{lines_text}
+use Rattle.file_pass.specs.Moment as pass
 use Rattle.outside.proofs.Passing.{passes_by, passes_then}
 use Rattle.outside.specs.Crash.{Passes}
 use Rattle.outside.specs.Image.{Image, Same}
@@ -194,7 +195,7 @@ module _ {D : Type 0} {images : Images DiskFile D} where
 
 -- whatever a poll answers
 pub poll_grows : {T D : Type 0} (one_set : OneSet) (trees : TreeMeaning T) (disks : DiskMeaning D) (session : Session) (tree tree_after : T) (disk disk_after : D) → IsSession session → StandsOn disks.images session disk
-    → Passes disks.images (Stays session) disk disk_after ⊎ MayGain trees disks session tree tree_after disk disk_after
+    → Passes disks.images (Stays session) disk disk_after ⊎ MayGain (pass.meanings trees disks) session (pass.moment tree disk) (pass.moment tree_after disk_after)
     → Passes disks.images (GrowsBy 1) disk disk_after
 poll_grows one_set trees disks session tree tree_after disk disk_after is stands answered = elim answered [
   | inl stays ↦ passes_by stays (λ x y left step. grows_more 0 1 x y (omega arith) (stays_grows one_set session x y is (stands.each.each x left) step))

@@ -16,7 +16,7 @@ use Rattle.poll_core.proofs.StoodLemmas.{StandsBefore, stands_before}
 use Rattle.poll_core.specs.Adopting.{KeepsStandingIn}
 use Rattle.poll_core.specs.IsSession.{IsSession}
 use Rattle.poll_core.specs.MadeOf.{AreErasOf, HasRules}
-use Rattle.poll_core.specs.Polled.{IsStanding, IsSummed, TreeCounts}
+use Rattle.poll_core.specs.Polled.{IsStanding, IsSummed, Advance, Counting, advance}
 use Rattle.poll_core.specs.Reopens.{Reopens}
 use Rattle.poll_core.specs.SessionParts.{checkpoint_of_session, rules_of_session, stamp_of_session}
 use Rattle.poll_core.specs.Since.{KeepsStandingSince}
@@ -28,7 +28,6 @@ use Rattle.standing.proofs.MomentLemmas.{apart_before, later_none, later_then}
 use Rattle.standing.specs.Apart.{Apart}
 use Rattle.standing.specs.Eras.{Eras}
 use Rattle.standing.specs.Look.{Look, size}
-use Rattle.standing.specs.Marks.{Mark}
 use Rattle.standing.specs.Moments.{IsLater, IsNamed, KeepsNames}
 use Rattle.standing.specs.Rules.{Includes, Rules}
 use Rattle.standing.specs.Stands.{Stands}
@@ -131,8 +130,8 @@ module _ {D : Type 0} (images : Images DiskFile D) where
 
 -- the law of complete polls
 abbrev pub ReachesAll : Type 0
-ReachesAll = (session : Session) (next : Checkpoint) (added : List Mark) (summary : Summary) (counts counts_after : TreeCounts)
-    (old new : World) (summed : IsSummed session next added summary counts counts_after old new)
+ReachesAll = (session : Session) (next : Advance) (summary : Summary) (counts : Counting)
+    (old new : World) (summed : IsSummed session next summary counts old new)
     → TellsAll summary → (rules_of_session session).flush_after ≡ 0 → (output path : List ℕ) (file : ℕ) (eras : Eras) → IsSession session
     → AreErasOf session.eras eras
     → IsLater old.history new.history → Apart (rules_of_session session).front_size new.history
@@ -141,7 +140,7 @@ ReachesAll = (session : Session) (next : Checkpoint) (added : List Mark) (summar
     → AreBefore (stamp_of_session session) stands.marks
     → Includes (rules_of_session session) path → IsNamed new.history path file
     → (here : Look) × Contains summed.looks here × (here.file ≡ file)
-    × (0 < size here → IsReached eras new.history next.rows here)
+    × (0 < size here → IsReached eras new.history next.after.rows here)
 
 same_world : (one other : World) → Some one ≡ Some other → one ≡ other
 same_world one other same = cc
@@ -169,9 +168,9 @@ stood_rows images shown session own disk history stands stood =
 module _ {D : Type 0} (images : Images DiskFile D) (shown : (disk : D) → IsTrue (images.tells disk) → images.may_leave disk (images.seen disk)) (law : ReachesAll) (session : Session) (is : IsSession session) (own : SessionEras session) where
   holds_all : (after : Checkpoint) (summary : Summary) (disk : D) (old new : World) → StandsOn images session disk
       → HoldsAll session after summary (StoodSince images old.history disk disk) old new
-  holds_all after summary disk old new stands added counts counts_after summed complete stood path file included named =
+  holds_all after summary disk old new stands added counts summed complete stood path file included named =
       let before = stood_rows images shown session own disk old.history stands stood in
-      let found = law session after added summary counts counts_after old new summed complete.tells_all complete.never before.output path file before.eras is before.are complete.later complete.apart complete.lawful complete.names_kept before.stands (before_poll session is before.stands.marks before.times) included named in
+      let found = law session (advance after added) summary counts old new summed complete.tells_all complete.never before.output path file before.eras is before.are complete.later complete.apart complete.lawful complete.names_kept before.stands (before_poll session is before.stands.marks before.times) included named in
       record { here = found.0; looked = found.1; file_is = found.2; eras = before.eras; are = before.are; reached = found.3 }
 
   pub told_holds_all : (after : Checkpoint) (summary : Summary) (disk : D) (old new : Option World) → StandsOn images session disk → Told GoesLater old new
@@ -203,10 +202,10 @@ module _ {D : Type 0} (images : Images DiskFile D) (only_now : (disk : D) (image
   holds_since session after summary begun now first earlier None None later keeps is goes own = tt
   holds_since session after summary begun now first earlier None (Some y) later keeps is goes own = goes
   holds_since session after summary begun now first earlier (Some x) None later keeps is goes own = goes
-  holds_since session after summary begun now first earlier (Some x) (Some y) later keeps is goes own = λ added count count_after summed complete stood.
+  holds_since session after summary begun now first earlier (Some x) (Some y) later keeps is goes own = λ added counts summed complete stood.
       let rules : Rules = rules_of_session session in
       let kept : KeepsStandingSince images rules begun now first x = subst (λ (world : Option World). Told (KeepsStandingSince images rules begun now) world (Some x)) is keeps in
-      own x refl added count count_after summed complete (stood_now rules begun now first x y later kept complete.never complete.later complete.apart stood)
+      own x refl added counts summed complete (stood_now rules begun now first x y later kept complete.never complete.later complete.apart stood)
 
 -- ---- from the command's begin on
 

@@ -10,7 +10,7 @@ use Rattle.outside.specs.World.{History, Told, World}
 use Rattle.outside.specs.declared.disk.DiskFile.{DiskFile}
 use Rattle.outside.specs.declared.disk.DiskFile.TheVariants.{Settings}
 use Rattle.poll_core.specs.MadeOf.{AreErasOf, HasRules}
-use Rattle.poll_core.specs.Polled.{IsStanding, IsSummed, TreeCounts}
+use Rattle.poll_core.specs.Polled.{IsStanding, IsSummed, Counting, advance}
 use Rattle.poll_core.specs.SessionParts.{rules_of_session}
 use Rattle.poll_core.specs.Since.{KeepsStandingSince}
 use Rattle.poll_core.specs.Summed.{TellsAll}
@@ -74,6 +74,6 @@ pub record IsTaken (session : Session) (after : Checkpoint) (looks : List Look) 
 
 -- After a complete poll each file that has a path to be read is taken, where this stood before.
 abbrev pub HoldsAll : Session → Checkpoint → Summary → Type 0 → World → World → Type 0
-HoldsAll session after summary Stood old new = (added : List Mark) (counts counts_after : TreeCounts) (summed : IsSummed session after added summary counts counts_after old new)
+HoldsAll session after summary Stood old new = (added : List Mark) (counts : Counting) (summed : IsSummed session (advance after added) summary counts old new)
     → IsComplete session summary old new → Stood → (path : List ℕ) (file : ℕ) → Includes (rules_of_session session) path → IsNamed new.history path file
     → IsTaken session after summed.looks new file

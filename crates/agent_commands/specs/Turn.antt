@@ -1,6 +1,7 @@
 -- One poll of a command at a reading of the clock, and its report.
 use Rattle.std.specs.Prelude.{◌≡◌, ◌⊎◌, ⊤, ℕ, Some}
 use Rattle.checkpoint_journal.specs.Written.{IsWorn}
+use Rattle.file_pass.specs.Moment as pass
 use Rattle.outside.specs.ClockMeaning.{ClockMeaning, Reads}
 use Rattle.outside.specs.TreeMeaning.{TreeMeaning}
 use Rattle.outside.specs.World.{Told, World}
@@ -42,7 +43,7 @@ module _ {T D K C : Type 0} (meanings : Meanings T D K C) (session : Session) wh
 
   -- A poll at this time came to its end, with this session and these numbers.
   abbrev pub PollsTo : ℕ → Session → Summary → Moment T D K C → Moment T D K C → Type 0
-  PollsTo now next summary old new = Polled meanings.trees meanings.disks (session_at session now) next summary old.tree new.tree old.disk new.disk
+  PollsTo now next summary old new = Polled (pass.meanings meanings.trees meanings.disks) (session_at session now) next summary (pass.moment old.tree old.disk) (pass.moment new.tree new.disk)
 
   -- After a complete poll all is taken, if what a crash could leave when the command began stood for the history then.
   abbrev pub HoldsAllSince : ℕ → Moment T D K C → Session → Summary → Moment T D K C → Moment T D K C → Type 0

@@ -1,5 +1,6 @@
 // One poll of a command at a reading of the clock, and its report.
 ghost use Rattle.std.specs.Prelude.{◌≡◌, ◌≢◌, Err, Some, IfOk, IfErr};
+ghost use Rattle.file_pass.specs.Moment as pass;
 ghost use Rattle.file_pass.specs.TreeTerms.{GoesLater};
 ghost use Rattle.outside.specs.Count.{Rose};
 ghost use Rattle.outside.specs.Crash.{Passes};
@@ -80,7 +81,7 @@ fn poll<T: Tree, D: Disk>(
     requires session { IsSession session }
     requires stands { StandsOn D.meaning.images session disk.old }
     ensures session { IfOk result (λ done. IsSession done.0) }
-    ensures polled { IfOk result (λ done. Polled T.meaning D.meaning session done.0 done.1 tree.old tree.new disk.old disk.new) }
+    ensures polled { IfOk result (λ done. Polled (pass.meanings T.meaning D.meaning) session done.0 done.1 (pass.moment tree.old disk.old) (pass.moment tree.new disk.new)) }
     ensures whole { IfOk result (λ done. (first : World) → T.meaning.world tree.old ≡ Some first
         → Told (HoldsAll session (checkpoint_of_session done.0) done.1 (StoodSince D.meaning.images first.history disk.old disk.old))
         (T.meaning.world tree.old) (T.meaning.world tree.new)) }

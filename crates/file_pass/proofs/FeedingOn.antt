@@ -9,7 +9,6 @@ use Rattle.standing.specs.AreRules.{AreRules}
 use Rattle.standing.specs.Look.{fed, lines_of}
 use Rattle.standing.specs.Marks.{numbered}
 use Rattle.standing.specs.Rows.{Row}
-use Rattle.standing.specs.Rules.{Rules}
 use Rattle.standing.specs.Tokens.{tokens_of, used, used_by, texts}
 use Rattle.standing.proofs.MarkLemmas.{numbered-append}
 use Rattle.standing.proofs.TokenLemmas.{used-append, texts-append}

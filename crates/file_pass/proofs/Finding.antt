@@ -9,6 +9,7 @@ use Rattle.file_tracker.specs.Places.{place_of, with_front}
 use Rattle.file_tracker.specs.declared.row.Row.{Row}
 use Rattle.standing.proofs.PrefixLemmas.{begins-true}
 use Rattle.file_pass.specs.Settled.{IsKnown, Settles, admitted}
+use Rattle.file_pass.specs.declared.ending.SeenFile.{SeenFile}
 use Rattle.file_pass.specs.declared.setup.Setup.{Setup}
 use Rattle.file_pass.proofs.Listing.{set_same}
 
@@ -32,8 +33,8 @@ module _ (front : List ℕ) (rows : List Row) (place : ℕ) (row : Row) (known :
       }
 
 -- a row that was found or made stands there
-pub settled_within : (setup : Setup) (size : ℕ) (path front : List ℕ) (before : List Row) (place : ℕ) (after : List Row) → Settles setup size path front before (Some place) after → place < length after
-settled_within setup size path front before place after (inl known) =
-    omega (arith, slice_get_within before place known.row known.at, ap (λ (rows : List Row). length rows) known.grown, length-set before place (with_front front known.row))
-settled_within setup size path front before place after (inr fresh) =
-    omega (arith, fresh.last, ap (λ (rows : List Row). length rows) fresh.added, length_push before (admitted setup size path front (length before + 1)))
+pub settled_within : (setup : Setup) (seen : SeenFile) (before : List Row) (place : ℕ) (after : List Row) → Settles setup seen before (Some place) after → place < length after
+settled_within setup seen before place after (inl known) =
+    omega (arith, slice_get_within before place known.row known.at, ap (λ (rows : List Row). length rows) known.grown, length-set before place (with_front seen.front.now known.row))
+settled_within setup seen before place after (inr fresh) =
+    omega (arith, fresh.last, ap (λ (rows : List Row). length rows) fresh.added, length_push before (admitted setup seen.file.size seen.path.now seen.front.now (length before + 1)))

@@ -1,5 +1,5 @@
 -- Which rows are flagged, change after change.
-use Rattle.std.proofs.Common.{◌≡◌, ◌≢◌, ◌⊎◌, ◌↔◌, ℕ, ◌+◌, ◌<◌, ◌≤◌, zero, suc, List, [], ◌∷◌, ◌++◌, length, map, take, Bool, true, false, refl, sym, ap, subst, ◌∙◌, inl, inr, arith, eq-eqb}
+use Rattle.std.proofs.Common.{◌≡◌, ◌≢◌, ◌⊎◌, ◌↔◌, ℕ, ◌+◌, ◌<◌, ◌≤◌, zero, suc, List, [], ◌∷◌, ◌++◌, length, map, take, Bool, true, false, refl, sym, ap, subst, ◌∙◌, inl, inr, arith}
 use Rattle.std.proofs.lemmas.Bool.{cases_eq, cases_lt, ne_eqb}
 use Rattle.std.proofs.lemmas.List.{length-map, length-set, length_push, map-append}
 use Rattle.std.proofs.lemmas.Option.{slice_get_within, slice_get_past, same_Some}
@@ -9,7 +9,7 @@ use Rattle.file_tracker.specs.Places.{with_look}
 use Rattle.file_tracker.specs.declared.row.Row.{Row}
 use Rattle.idle_flush.specs.declared.idle.Idle.{Idle}
 use Rattle.standing.specs.Rules.{Rules}
-use Rattle.file_pass.specs.Grown.{LosesNothing, Stays, IsEmptied, HasGrown, IsNewOrGrown, IsSameButLook, FlagsGrowth}
+use Rattle.file_pass.specs.Grown.{LosesNothing, Stays, HasGrown, IsNewOrGrown, IsSameButLook, FlagsGrowth}
 use Rattle.file_pass.specs.Looks.{idle_of, looks_in, IsLookedAt, FlagsLooks}
 use Rattle.file_pass.specs.Unchanged.{HasChanged, IsNewOrChanged, KeepsUnchanged, FlagsChanges, HasNoFlag, HasFlagForEach}
 use Rattle.file_pass.specs.declared.taking.Taking.{Taking}

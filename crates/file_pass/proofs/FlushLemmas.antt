@@ -1,11 +1,10 @@
 -- What is made of a row whose file was read on, by cases, and beside a look at the file.
-use Rattle.std.proofs.Common.{◌≡◌, ◌≢◌, ◌⊎◌, ℕ, ◌+◌, ◌-◌, ◌<◌, ◌≤◌, List, [], ◌∷◌, ◌++◌, length, take, drop, min, Bool, true, false, true≢false, not, nat_lt, nat_le, ◌==◌, ◌&&◌, ◌||◌, cond, refl, sym, ap, subst, ◌∙◌, inl, inr, arith, length-append, length-drop, eq-eqb}
+use Rattle.std.proofs.Common.{◌≡◌, ℕ, ◌+◌, ◌-◌, ◌<◌, ◌≤◌, List, [], ◌∷◌, ◌++◌, length, drop, min, Bool, true, false, true≢false, not, nat_lt, nat_le, ◌==◌, ◌&&◌, ◌||◌, refl, sym, ap, ◌∙◌, inl, inr, arith, length-append, length-drop, eq-eqb}
 use Rattle.std.proofs.lemmas.Bool.{cases_lt, cond-false, le-ltb, lt-ltb, ltb-true, leb-true, ne_eqb, and_parts}
 use Rattle.std.proofs.lemmas.List.{append-nil, drop-drop, take_all}
 use Rattle.std.proofs.lemmas.Slice.Eq.{bytes_eq-Decides}
 use Rattle.std.specs.Prelude.{if◌then◌else◌, IsTrue}
 use Rattle.std.specs.Str.{bytes_eq}
-use Rattle.entry_model.specs.LogRecord.{LogRecord}
 use Rattle.file_tracker.specs.Places.{HasGone, with_front, with_look, with_progress}
 use Rattle.file_tracker.specs.declared.ends.End.{End}
 use Rattle.idle_flush.specs.Looked.{looked}
@@ -15,7 +14,7 @@ use Rattle.standing.specs.AreRules.{AreRules}
 use Rattle.standing.specs.Limits.{most_taken}
 use Rattle.standing.specs.Look as standing
 use Rattle.standing.specs.Look.{Look, Taken, all_taken, content, fed, front, lines_added, lines_of, look_taken, noted, piece, piece_taken, row_after, size}
-use Rattle.standing.specs.Marks.{Mark, numbered}
+use Rattle.standing.specs.Marks.{Mark}
 use Rattle.standing.specs.Poll.{Poll}
 use Rattle.standing.specs.Rows.{Row}
 use Rattle.standing.specs.Rules.{Rules}

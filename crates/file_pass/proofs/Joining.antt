@@ -9,7 +9,6 @@ use Rattle.outside.proofs.Seeing.{given_back}
 use Rattle.outside.proofs.Telling.{told_same, told_weaker, told_then}
 use Rattle.outside.specs.Closing.{Closes}
 use Rattle.outside.specs.Count.{raised, Rose, HasCause, NeverFalls}
-use Rattle.outside.specs.DiskMeaning.{DiskMeaning}
 use Rattle.outside.specs.Moment.{AtOneMoment}
 use Rattle.outside.specs.Listing.{kind_at}
 use Rattle.outside.specs.Opening.{Opens, OpensFile, OpensNothing}
@@ -26,29 +25,33 @@ use Rattle.standing.proofs.MomentLemmas.{later_then}
 use Rattle.standing.specs.Poll.{Poll}
 use Rattle.standing.specs.Marks.{Mark}
 use Rattle.standing.specs.Moments.{IsLater}
-use Rattle.standing.specs.Rules.{Rules, Includes}
-use Rattle.file_pass.specs.AllTaken.{TakesAll, TakesOne}
+use Rattle.standing.specs.Rules.{Includes}
+use Rattle.file_pass.specs.DiskTerms.{Appends}
+use Rattle.file_pass.specs.AllTaken.{AllTaken, TakesAll, TakesOne}
 use Rattle.file_pass.specs.Fed.{poll_of, rules_in}
-use Rattle.file_pass.specs.Full.{line_of, lines_text}
+use Rattle.file_pass.specs.Full.{Overflow, line_of, lines_text, overflow}
 use Rattle.file_pass.specs.Gain.{Gain, Counted, no_gain, both, gain_of, with_taken}
 use Rattle.file_pass.specs.LookTaken.{OpenTaken, SeenTaken}
+use Rattle.file_pass.specs.Moment.{Meanings, Moment, RowsAt, TakingAt, moment, rows_at}
 use Rattle.file_pass.specs.PathTaken.{PathTaken}
 use Rattle.file_pass.specs.Sane.{AreSaneRows, IsSaneTaking}
 use Rattle.file_pass.specs.Taken.{Finds, Takes, KeepsTreeAt}
 use Rattle.standing.specs.AreRules.{AreRules}
 use Rattle.file_pass.specs.TreeTerms.{KeepsTree, IsNoWider, GoesLater, SameHandles, HasEnding, ReadsOnly}
 use Rattle.file_pass.specs.Overflow.{AllFill, OpenFills, PathFills, SeenFills}
-use Rattle.file_pass.specs.Reads.{Reads}
+use Rattle.file_pass.specs.Reads.{Reads, piece_at}
+use Rattle.file_pass.specs.Step.{Step, step}
 use Rattle.file_pass.specs.declared.counts.Counts.{Counts}
 use Rattle.file_pass.specs.declared.ending.Ending.{Ending}
 use Rattle.file_pass.specs.declared.ending.Ending.TheVariants.{Whole, Failed as ReadFailed, Shrunk}
-use Rattle.file_pass.specs.declared.ending.OpenFile.{OpenFile}
+use Rattle.file_pass.specs.declared.ending.PathFile.{PathFile}
+use Rattle.file_pass.specs.declared.ending.SeenFile.{SeenFile}
 use Rattle.file_pass.specs.declared.found.Found.{Found}
 use Rattle.file_pass.specs.declared.found.Found.TheVariants.{Missed, Unread, Gone as NoFile}
 use Rattle.file_pass.specs.declared.setup.Setup.{Setup}
 use Rattle.file_pass.specs.declared.taking.Taking.{Taking}
 use Rattle.file_pass.proofs.DiskLemmas.{appends_none, appends_then, appends_same}
-use Rattle.file_pass.proofs.Opening.{later_moves, open_unread, open_shrunk, open_seen, open_fills, path_looked, path_fills, path_missed, path_lost, WithFile}
+use Rattle.file_pass.proofs.Opening.{path_file, later_moves, open_unread, open_shrunk, open_seen, open_fills, path_looked, path_fills, path_missed, path_lost, WithFile}
 use Rattle.file_pass.proofs.SaneLemmas.{text_long}
 use Rattle.file_pass.proofs.TreeLemmas.{keeps_tree_none, keeps_tree_then, no_wider_none}
 use Rattle.file_pass.proofs.Turning.{all_none, all_more, all_fill}
@@ -198,195 +201,179 @@ counted_more before mid after gain more a b = record {
   full = omega (arith, a.full, b.full);
 }
 
+-- the same beside another tree
+abbrev pub with_tree : {T D : Type 0} → T → RowsAt T D → RowsAt T D
+with_tree tree now = record now { outside = moment tree now.outside.disk }
+
 -- nothing was done
-module _ {T D : Type 0} (trees : TreeMeaning T) (disks : DiskMeaning D) where
-  pub takes_idle : (change : List Mark → World → World → Type 0) (gain : Gain) (end : ℕ) (tree : T) (disk : D) → gain.lines ≡ 0 → gain.failed ≡ 0 → ((world : World) → change [] world world) → Takes trees disks change gain end end tree tree disk disk
-  takes_idle change gain end tree disk no_lines no_failure idle = record {
+module _ {T D : Type 0} (means : Meanings T D) where
+  pub takes_idle : (change : Step → World → World → Type 0) (gain : Gain) (now : RowsAt T D) (rows_after : List Row) (end_after : ℕ) → end_after ≡ now.end → gain.lines ≡ 0 → gain.failed ≡ 0 → ((world : World) → change (step now.rows rows_after gain []) world world)
+      → Takes means change gain now (record { rows = rows_after; end = end_after; outside = now.outside })
+  takes_idle change gain now rows_after end_after ends no_lines no_failure idle = record {
     added = [];
     lines = no_lines;
-    appends = appends_none disks end disk;
+    appends = subst (λ (n : ℕ). Appends means.disks [] now.end n now.outside.disk now.outside.disk) (sym ends) (appends_none means.disks now.end now.outside.disk);
     rose = omega (arith, no_failure);
     read = omega arith;
-    world = told_same (change []) (trees.world tree) idle;
+    world = told_same (change (step now.rows rows_after gain [])) (means.trees.world now.outside.tree) idle;
   }
 
-  pub finds_idle : (change : Gain → List Mark → World → World → Type 0) (found : Found) (end : ℕ) (tree : T) (disk : D) → (gain_of found).lines ≡ 0 → (gain_of found).failed ≡ 0 → ((world : World) → change (with_taken 0 (gain_of found)) [] world world)
-      → Finds trees disks change found end end tree tree disk disk
-  finds_idle change found end tree disk no_lines no_failure idle = record { bytes = 0; takes = takes_idle (change (with_taken 0 (gain_of found))) (with_taken 0 (gain_of found)) end tree disk no_lines no_failure idle }
+  pub finds_idle : (change : Step → World → World → Type 0) (found : Found) (now : RowsAt T D) (rows_after : List Row) (end_after : ℕ) → end_after ≡ now.end → (gain_of found).lines ≡ 0 → (gain_of found).failed ≡ 0
+      → ((world : World) → change (step now.rows rows_after (with_taken 0 (gain_of found)) []) world world) → Finds means change found now (record { rows = rows_after; end = end_after; outside = now.outside })
+  finds_idle change found now rows_after end_after ends no_lines no_failure idle = record { bytes = 0; takes = takes_idle change (with_taken 0 (gain_of found)) now rows_after end_after ends no_lines no_failure idle }
 
   -- with a call on the tree alone
-  pub takes_call : (change : List Mark → World → World → Type 0) (gain : Gain) (end : ℕ) (old new : T) (disk : D) → gain.lines ≡ 0 → raised (trees.faults old) gain.failed ≤ trees.faults new → trees.taken new ≤ trees.taken old + gain.taken → Told (change []) (trees.world old) (trees.world new)
-      → Takes trees disks change gain end end old new disk disk
-  takes_call change gain end old new disk no_lines rose read told = record { added = []; lines = no_lines; appends = appends_none disks end disk; rose = rose; read = read; world = told }
+  pub takes_call : (change : Step → World → World → Type 0) (gain : Gain) (before : RowsAt T D) (tree_after : T) → gain.lines ≡ 0 → raised (means.trees.faults before.outside.tree) gain.failed ≤ means.trees.faults tree_after
+      → means.trees.taken tree_after ≤ means.trees.taken before.outside.tree + gain.taken → Told (change (step before.rows before.rows gain [])) (means.trees.world before.outside.tree) (means.trees.world tree_after)
+      → Takes means change gain before (with_tree tree_after before)
+  takes_call change gain before tree_after no_lines rose read told = record { added = []; lines = no_lines; appends = appends_none means.disks before.end before.outside.disk; rose = rose; read = read; world = told }
 
-  -- behind calls on the tree that didn't fail, and before others
-  pub takes_after : (first : World → World → Type 0) (change whole : List Mark → World → World → Type 0) (gain : Gain) (bytes end end_after : ℕ) (old mid new : T) (disk disk_after : D)
-      → ((added : List Mark) (x y z : World) → first x y → change added y z → whole added x z) → trees.faults mid ≡ trees.faults old → trees.taken mid + gain.taken ≤ trees.taken old + bytes → Told first (trees.world old) (trees.world mid)
-      → Takes trees disks change gain end end_after mid new disk disk_after → Takes trees disks whole (with_taken bytes gain) end end_after old new disk disk_after
-  takes_after first change whole gain bytes end end_after old mid new disk disk_after join same few told takes = record {
+  -- between calls on the tree that didn't fail, and behind a change of the rows that no call made
+  pub takes_between : (change whole : Step → World → World → Type 0) (gain : Gain) (bytes : ℕ) (rows : List Row) (end : ℕ) (tree tree_after : T) (before after : RowsAt T D) → before.end ≡ end
+      → means.trees.faults before.outside.tree ≡ means.trees.faults tree → means.trees.faults tree_after ≡ means.trees.faults after.outside.tree
+      → means.trees.taken before.outside.tree + gain.taken ≤ means.trees.taken tree + bytes → means.trees.taken tree_after ≡ means.trees.taken after.outside.tree
+      → ((added : List Mark) → Told (change (step before.rows after.rows gain added)) (means.trees.world before.outside.tree) (means.trees.world after.outside.tree) → Told (whole (step rows after.rows (with_taken bytes gain) added)) (means.trees.world tree) (means.trees.world tree_after))
+      → Takes means change gain before after → Takes means whole (with_taken bytes gain) (record { rows = rows; end = end; outside = moment tree before.outside.disk }) (with_tree tree_after after)
+  takes_between change whole gain bytes rows end tree tree_after before after ends same stays few none tells takes = record {
     added = takes.added;
     lines = takes.lines;
-    appends = takes.appends;
-    rose = omega (arith, same, takes.rose);
-    read = omega (arith, few, takes.read);
-    world = told_then first (change takes.added) (whole takes.added) (trees.world old) (trees.world mid) (trees.world new) (join takes.added) told takes.world;
-  }
-
-  pub takes_before : (change last whole : List Mark → World → World → Type 0) (gain : Gain) (end end_after : ℕ) (old mid new : T) (disk disk_after : D)
-      → ((added : List Mark) (x y z : World) → change added x y → last added y z → whole added x z) → trees.faults new ≡ trees.faults mid → trees.taken new ≡ trees.taken mid → ((added : List Mark) → Told (last added) (trees.world mid) (trees.world new))
-      → Takes trees disks change gain end end_after old mid disk disk_after → Takes trees disks whole gain end end_after old new disk disk_after
-  takes_before change last whole gain end end_after old mid new disk disk_after join same none told takes = record {
-    added = takes.added;
-    lines = takes.lines;
-    appends = takes.appends;
-    rose = omega (arith, same, takes.rose);
-    read = omega (arith, none, takes.read);
-    world = told_then (change takes.added) (last takes.added) (whole takes.added) (trees.world old) (trees.world mid) (trees.world new) (join takes.added) takes.world (told takes.added);
-  }
-
-  pub takes_same : (change whole : List Mark → World → World → Type 0) (gain : Gain) (end end_after : ℕ) (old new : T) (disk disk_after : D) → ((added : List Mark) (x y : World) → change added x y → whole added x y)
-      → Takes trees disks change gain end end_after old new disk disk_after → Takes trees disks whole gain end end_after old new disk disk_after
-  takes_same change whole gain end end_after old new disk disk_after weaken takes = record {
-    added = takes.added;
-    lines = takes.lines;
-    appends = takes.appends;
-    rose = takes.rose;
-    read = takes.read;
-    world = told_weaker (change takes.added) (whole takes.added) (trees.world old) (trees.world new) (weaken takes.added) takes.world;
-  }
-
-  pub finds_same : (change whole : Gain → List Mark → World → World → Type 0) (found : Found) (end end_after : ℕ) (old new : T) (disk disk_after : D)
-      → ((count : ℕ) (added : List Mark) (x y : World) → change (with_taken count (gain_of found)) added x y → whole (with_taken count (gain_of found)) added x y)
-      → Finds trees disks change found end end_after old new disk disk_after → Finds trees disks whole found end end_after old new disk disk_after
-  finds_same change whole found end end_after old new disk disk_after weaken finds = record {
-    bytes = finds.bytes;
-    takes = takes_same (change (with_taken finds.bytes (gain_of found))) (whole (with_taken finds.bytes (gain_of found))) (with_taken finds.bytes (gain_of found)) end end_after old new disk disk_after (weaken finds.bytes) finds.takes;
+    appends = subst (λ (n : ℕ). Appends means.disks (lines_text takes.added) n after.end before.outside.disk after.outside.disk) ends takes.appends;
+    rose = omega (arith, same, stays, takes.rose);
+    read = omega (arith, few, none, takes.read);
+    world = tells takes.added takes.world;
   }
 
   -- no path yet, and one more
-  pub takes_all_none : (setup : Setup) (taking : Taking) (tree : T) (disk : D) → Counted taking.counts no_gain taking.counts → TakesAll trees disks setup [] taking taking tree tree disk disk
-  takes_all_none setup taking tree disk counted = record {
+  pub takes_all_none : (setup : Setup) (now : TakingAt T D) → Counted now.taking.counts no_gain now.taking.counts → TakesAll means setup [] now now
+  takes_all_none setup now counted = record {
     gain = no_gain;
     counted = counted;
-    takes = takes_idle _ no_gain taking.end tree disk refl refl (λ world. all_none (poll_of setup) taking.tracker world);
+    takes = takes_idle (AllTaken (poll_of setup) []) no_gain (rows_at now.taking now.outside) now.taking.tracker now.taking.end refl refl refl (λ world. all_none (poll_of setup) now.taking.tracker world);
   }
 
-  pub takes_all_more : (setup : Setup) (paths : List (List ℕ)) (path : List ℕ) (before mid after : Taking) (old between new : T) (disk disk_between disk_after : D) → disks.images.tells disk_between ≡ disks.images.tells disk
-      → TakesAll trees disks setup paths before mid old between disk disk_between → TakesOne trees disks setup path mid after between new disk_between disk_after
-      → TakesAll trees disks setup (paths ++ path ∷ []) before after old new disk disk_after
-  takes_all_more setup paths path before mid after old between new disk disk_between disk_after tells a b = record {
+  pub takes_all_more : (setup : Setup) (paths : List (List ℕ)) (path : List ℕ) (before mid after : TakingAt T D) → means.disks.images.tells mid.outside.disk ≡ means.disks.images.tells before.outside.disk
+      → TakesAll means setup paths before mid → TakesOne means setup path mid after → TakesAll means setup (paths ++ path ∷ []) before after
+  takes_all_more setup paths path before mid after tells a b = record {
     gain = both a.gain b.gain;
-    counted = counted_more before.counts mid.counts after.counts a.gain b.gain a.counted b.counted;
+    counted = counted_more before.taking.counts mid.taking.counts after.taking.counts a.gain b.gain a.counted b.counted;
     takes = record {
       added = a.takes.added ++ b.takes.added;
       lines = omega (arith, a.takes.lines, b.takes.lines, length-append a.takes.added b.takes.added);
-      appends = appends_same disks (lines_text a.takes.added ++ lines_text b.takes.added) (lines_text (a.takes.added ++ b.takes.added)) before.end after.end disk disk_after (sym (flat_map-append line_of a.takes.added b.takes.added))
-          (appends_then disks (lines_text a.takes.added) (lines_text b.takes.added) before.end mid.end after.end disk disk_between disk_after tells a.takes.appends b.takes.appends);
+      appends = appends_same means.disks (lines_text a.takes.added ++ lines_text b.takes.added) (lines_text (a.takes.added ++ b.takes.added)) before.taking.end after.taking.end before.outside.disk after.outside.disk (sym (flat_map-append line_of a.takes.added b.takes.added))
+          (appends_then means.disks (lines_text a.takes.added) (lines_text b.takes.added) before.taking.end mid.taking.end after.taking.end before.outside.disk mid.outside.disk after.outside.disk tells a.takes.appends b.takes.appends);
       rose = omega (arith, a.takes.rose, b.takes.rose);
       read = omega (arith, a.takes.read, b.takes.read);
-      world = told_then _ _ _ (trees.world old) (trees.world between) (trees.world new)
-          (λ x y z first second. all_more (poll_of setup) paths path before.tracker mid.tracker after.tracker a.gain b.gain a.takes.added b.takes.added x y z first second) a.takes.world b.takes.world;
+      world = told_then _ _ _ (means.trees.world before.outside.tree) (means.trees.world mid.outside.tree) (means.trees.world after.outside.tree)
+          (λ x y z first second. all_more (poll_of setup) paths path before.taking.tracker mid.taking.tracker after.taking.tracker a.gain b.gain a.takes.added b.takes.added x y z first second) a.takes.world b.takes.world;
     };
   }
 
+  -- a line of the newest look would be too much
+  pub takes_all_fill : (setup : Setup) (paths : List (List ℕ)) (path : List ℕ) (all : List (List ℕ)) (before mid : TakingAt T D) (tree_after : T) (full : ℕ) → TakesAll means setup paths before mid → take (length paths + 1) all ≡ paths ++ path ∷ []
+      → Told (PathFills (poll_of setup) (overflow setup.limit mid.taking.end full) path mid.taking.tracker) (means.trees.world mid.outside.tree) (means.trees.world tree_after)
+      → Told (AllFill (poll_of setup) (overflow setup.limit before.taking.end full) all before.taking.tracker) (means.trees.world before.outside.tree) (means.trees.world tree_after)
+  takes_all_fill setup paths path all before mid tree_after full a firsts b =
+      told_then _ _ _ (means.trees.world before.outside.tree) (means.trees.world mid.outside.tree) (means.trees.world tree_after)
+      (λ x y z taken fills. all_fill (poll_of setup) paths path before.taking.tracker mid.taking.tracker mid.taking.tracker a.gain no_gain a.takes.added [] x y z taken setup.limit before.taking.end mid.taking.end full all a.takes.appends.end_is firsts fills)
+      a.takes.world b
+
 -- the front of an open file was read, or not
-module _ {T D : Type 0} (trees : TreeMeaning T) (disks : DiskMeaning D) (poll : Poll) (path : List ℕ) (file : OpenFile) (some : 0 < file.size) (before : List Row) where
-  takes_unread : (ending : Ending) (last : ℕ) (given : List ℕ) (count : ℕ) (end : ℕ) (old new : T) (disk : D) → (ending ≡ Whole → ⊥) → last ≤ file.size → count ≤ poll.rules.front_size → Told (Reads file.handle.0 0 last given ending) (trees.world old) (trees.world new)
-      → HasEnding ending (trees.faults old) (trees.faults new) → trees.taken new ≤ trees.taken old + count
-      → Takes trees disks (OpenTaken poll path file before before (with_taken count (gain_of (Unread ending)))) (with_taken count (gain_of (Unread ending))) end end old new disk disk
-  takes_unread Whole last given count end old new disk differs le few told cause read = absurd (differs refl)
-  takes_unread ReadFailed last given count end old new disk differs le few told cause read =
-      takes_call trees disks _ _ end old new disk refl cause.1 read (told_weaker _ _ (trees.world old) (trees.world new) (λ x y reads. open_unread poll path file before x y last given count few le some reads) told)
-  takes_unread Shrunk last given count end old new disk differs le few told cause read =
-      takes_call trees disks _ _ end old new disk refl (omega (arith, cause)) read (told_weaker _ _ (trees.world old) (trees.world new) (λ x y reads. open_shrunk poll path file before x y last given count few le reads) told)
-
-  module _ (old mid new : T) (seen_front : List ℕ) (last : ℕ) (is : last ≡ min poll.rules.front_size file.size) (many : length seen_front ≡ last) (told : Told (Reads file.handle.0 0 last seen_front Whole) (trees.world old) (trees.world mid)) (same : trees.faults mid ≡ trees.faults old) where
-    takes_open : (after : List Row) (gain : Gain) (count end end_after : ℕ) (disk disk_after : D) → count ≤ poll.rules.front_size → trees.taken mid ≤ trees.taken old + count
-        → Takes trees disks (SeenTaken poll path file seen_front before after gain) gain end end_after mid new disk disk_after
-        → Takes trees disks (OpenTaken poll path file before after (with_taken (count + gain.taken) gain)) (with_taken (count + gain.taken) gain) end end_after old new disk disk_after
-    takes_open after gain count end end_after disk disk_after few read takes =
-        takes_after trees disks (Reads file.handle.0 0 last seen_front Whole) (SeenTaken poll path file seen_front before after gain) (OpenTaken poll path file before after (with_taken (count + gain.taken) gain)) gain (count + gain.taken) end end_after old mid new disk disk_after
-        (λ added x y z reads taken. open_seen poll path file before x y z seen_front last is many reads after gain added count few taken) same (omega (arith, read)) told takes
-
-    pub fills_open : (limit end full : ℕ) → Told (SeenFills poll limit path file seen_front before end full) (trees.world mid) (trees.world new) → Told (OpenFills poll limit path file before end full) (trees.world old) (trees.world new)
-    fills_open limit end full fills =
-        told_then _ _ _ (trees.world old) (trees.world mid) (trees.world new) (λ x y z reads seen. open_fills poll path file before x y z seen_front last is many reads limit end full seen) told fills
+module _ {T D : Type 0} (means : Meanings T D) (poll : Poll) (at : PathFile) (some : 0 < at.file.size) (before : RowsAt T D) where
+  takes_unread : (ending : Ending) (last : ℕ) (given : List ℕ) (count : ℕ) (tree_after : T) → (ending ≡ Whole → ⊥) → last ≤ at.file.size → count ≤ poll.rules.front_size
+      → Told (Reads (piece_at at.file.handle.0 0 last given ending)) (means.trees.world before.outside.tree) (means.trees.world tree_after)
+      → HasEnding ending (means.trees.faults before.outside.tree) (means.trees.faults tree_after) → means.trees.taken tree_after ≤ means.trees.taken before.outside.tree + count
+      → Takes means (OpenTaken poll at) (with_taken count (gain_of (Unread ending))) before (with_tree tree_after before)
+  takes_unread Whole last given count tree_after differs le few told cause read = absurd (differs refl)
+  takes_unread ReadFailed last given count tree_after differs le few told cause read =
+      takes_call means (OpenTaken poll at) _ before tree_after refl cause.1 read (told_weaker _ _ (means.trees.world before.outside.tree) (means.trees.world tree_after) (λ x y reads. open_unread poll at before.rows x y last given count few le some reads) told)
+  takes_unread Shrunk last given count tree_after differs le few told cause read =
+      takes_call means (OpenTaken poll at) _ before tree_after refl (omega (arith, cause)) read
+      (told_weaker _ _ (means.trees.world before.outside.tree) (means.trees.world tree_after) (λ x y reads. open_shrunk poll at before.rows x y last given count few le reads) told)
 
   -- by what was read into a buffer
-  module _ (front old_front : List ℕ) (count : ℕ) (ending : Ending) (old mid : T) (reads : ReadsOnly trees (Reads file.handle.0 0 (length old_front) (take count front) ending) ending count (length old_front) old mid)
-      (long : length front ≡ length old_front) (many : length front ≡ min poll.rules.front_size file.size) where
-    pub front_unread : (end : ℕ) (disk : D) → (ending ≡ Whole → ⊥) → count ≤ poll.rules.front_size → Finds trees disks (OpenTaken poll path file before before) (Unread ending) end end old mid disk disk
-    front_unread end disk differs few = record {
+  module _ (front old_front : List ℕ) (count : ℕ) (ending : Ending) (tree_after : T) (reads : ReadsOnly means.trees (piece_at at.file.handle.0 0 (length old_front) (take count front) ending) count (length old_front) before.outside.tree tree_after)
+      (long : length front ≡ length old_front) (many : length front ≡ min poll.rules.front_size at.file.size) where
+    pub front_unread : (ending ≡ Whole → ⊥) → count ≤ poll.rules.front_size → Finds means (OpenTaken poll at) (Unread ending) before (with_tree tree_after before)
+    front_unread differs few = record {
       bytes = count;
-      takes = takes_unread ending (length old_front) (take count front) count end old mid disk differs (omega (arith, long, many)) few reads.world reads.cause reads.keeps.taken_then;
+      takes = takes_unread ending (length old_front) (take count front) count tree_after differs (omega (arith, long, many)) few reads.world reads.cause reads.keeps.taken_then;
     }
 
-    all_read : ending ≡ Whole → count ≡ length front → Told (Reads file.handle.0 0 (length front) front Whole) (trees.world old) (trees.world mid)
-    all_read is all =
-        let whole : take count front ≡ front = take_all count front (omega (arith, all)) in
-        subst (λ (e : Ending). Told (Reads file.handle.0 0 (length front) front e) (trees.world old) (trees.world mid)) is
-        (subst (λ (l : List ℕ). Told (Reads file.handle.0 0 (length front) l ending) (trees.world old) (trees.world mid)) whole
-        (subst (λ n. Told (Reads file.handle.0 0 n (take count front) ending) (trees.world old) (trees.world mid)) (sym long) reads.world))
+    pub front_tree : (most : ℕ) → length old_front ≤ most → KeepsTreeAt means.trees most before.outside.tree tree_after
+    front_tree most le = tree_wider means.trees (length old_front) most count before.outside.tree tree_after le reads.keeps
 
-    stood : ending ≡ Whole → trees.faults mid ≡ trees.faults old
-    stood is = subst (λ (e : Ending). HasEnding e (trees.faults old) (trees.faults mid)) is reads.cause
+-- the front was read, and is seen
+module _ {T D : Type 0} (means : Meanings T D) (poll : Poll) (at : SeenFile) (old_front : List ℕ) (count : ℕ) (ending : Ending) (tree : T) (mid : RowsAt T D)
+    (reads : ReadsOnly means.trees (piece_at at.file.handle.0 0 (length old_front) (take count at.front.now) ending) count (length old_front) tree mid.outside.tree)
+    (long : length at.front.now ≡ length old_front) (many : length at.front.now ≡ min poll.rules.front_size at.file.size) (is : ending ≡ Whole) (all : count ≡ length at.front.now) where
+  all_read : Told (Reads (piece_at at.file.handle.0 0 (length at.front.now) at.front.now Whole)) (means.trees.world tree) (means.trees.world mid.outside.tree)
+  all_read =
+      let front : List ℕ = at.front.now in
+      let whole : take count front ≡ front = take_all count front (omega (arith, all)) in
+      subst (λ (e : Ending). Told (Reads (piece_at at.file.handle.0 0 (length front) front e)) (means.trees.world tree) (means.trees.world mid.outside.tree)) is
+      (subst (λ (l : List ℕ). Told (Reads (piece_at at.file.handle.0 0 (length front) l ending)) (means.trees.world tree) (means.trees.world mid.outside.tree)) whole
+      (subst (λ n. Told (Reads (piece_at at.file.handle.0 0 n (take count front) ending)) (means.trees.world tree) (means.trees.world mid.outside.tree)) (sym long) reads.world))
 
-    pub front_takes : ending ≡ Whole → count ≡ length front → (new : T) (after : List Row) (found : Found) (end end_after : ℕ) (disk disk_after : D) → Finds trees disks (SeenTaken poll path file front before after) found end end_after mid new disk disk_after
-        → Finds trees disks (OpenTaken poll path file before after) found end end_after old new disk disk_after
-    front_takes is all new after found end end_after disk disk_after finds = record {
-      bytes = count + finds.bytes;
-      takes = takes_open old mid new front (length front) many refl (all_read is all) (stood is) after (with_taken finds.bytes (gain_of found)) count end end_after disk disk_after (omega (arith, all, many)) reads.keeps.taken_then finds.takes;
-    }
+  stood : means.trees.faults mid.outside.tree ≡ means.trees.faults tree
+  stood = subst (λ (e : Ending). HasEnding e (means.trees.faults tree) (means.trees.faults mid.outside.tree)) is reads.cause
 
-    pub front_fills : ending ≡ Whole → count ≡ length front → (new : T) (limit end full : ℕ) → Told (SeenFills poll limit path file front before end full) (trees.world mid) (trees.world new) → Told (OpenFills poll limit path file before end full) (trees.world old) (trees.world new)
-    front_fills is all new limit end full fills = fills_open old mid new front (length front) many refl (all_read is all) (stood is) limit end full fills
-
-    pub front_tree : (most : ℕ) → length old_front ≤ most → KeepsTreeAt trees most old mid
-    front_tree most le = tree_wider trees (length old_front) most count old mid le reads.keeps
-
--- a file was opened, taken and closed
-module _ {T D : Type 0} (trees : TreeMeaning T) (disks : DiskMeaning D) (poll : Poll) (path : List ℕ) (included : Includes poll.rules path) (file : OpenFile) (before : List Row) (old opened taken closed : T)
-    (opens : Told (OpensFile path file.handle.0 file.size) (trees.world old) (trees.world opened)) (closes : Told (Closes file.handle.0) (trees.world taken) (trees.world closed))
-    (still : trees.faults opened ≡ trees.faults old) (stays : trees.faults closed ≡ trees.faults taken) where
-  pub takes_file : (after : List Row) (found : Found) (end end_after : ℕ) (disk disk_after : D) → trees.taken opened ≡ trees.taken old → trees.taken closed ≡ trees.taken taken
-      → Finds trees disks (OpenTaken poll path file before after) found end end_after opened taken disk disk_after → Finds trees disks (PathTaken poll path before after) found end end_after old closed disk disk_after
-  takes_file after found end end_after disk disk_after opening_reads closing_reads finds =
+  pub front_takes : (found : Found) (after : RowsAt T D) → Finds means (SeenTaken poll at) found mid after → Finds means (OpenTaken poll (path_file at)) found (with_tree tree mid) after
+  front_takes found after finds =
       let gain : Gain = with_taken finds.bytes (gain_of found) in
-      let change = λ (added : List Mark). WithFile (OpenTaken poll path file before after gain added) path file in
       record {
-        bytes = finds.bytes;
-        takes =
-            takes_before trees disks change (λ _. Closes file.handle.0) (PathTaken poll path before after gain) gain end end_after old taken closed disk disk_after
-            (λ added x y z with_file closing. path_looked poll path included file before x with_file.opened y z with_file.opens closing after gain added with_file.changes) stays closing_reads (λ _. closes)
-            (takes_after trees disks (OpensFile path file.handle.0 file.size) (OpenTaken poll path file before after gain) change gain finds.bytes end end_after old opened taken disk disk_after
-            (λ added x y z opening changes. record { opened = y; opens = opening; changes = changes }) still (omega (arith, opening_reads)) opens finds.takes);
+        bytes = count + finds.bytes;
+        takes = takes_between means (SeenTaken poll at) (OpenTaken poll (path_file at)) gain (count + finds.bytes) mid.rows mid.end tree after.outside.tree mid after refl stood refl (omega (arith, reads.keeps.taken_then)) refl
+            (λ added. told_then _ _ _ (means.trees.world tree) (means.trees.world mid.outside.tree) (means.trees.world after.outside.tree)
+            (λ x y z whole taken. open_seen poll at x y z (length at.front.now) many refl whole (step mid.rows after.rows gain added) count (omega (arith, all, many)) taken) all_read) finds.takes;
       }
 
-  pub fills_file : (limit end full : ℕ) → Told (OpenFills poll limit path file before end full) (trees.world opened) (trees.world taken) → Told (PathFills poll limit path before end full) (trees.world old) (trees.world closed)
-  fills_file limit end full fills =
-      told_then _ _ _ (trees.world old) (trees.world taken) (trees.world closed)
-      (λ x y z with_file closing. path_fills poll path included file before x with_file.opened y z with_file.opens closing limit end full with_file.changes)
-      (told_then _ _ (WithFile (OpenFills poll limit path file before end full) path file) (trees.world old) (trees.world opened) (trees.world taken) (λ x y z opening changes. record { opened = y; opens = opening; changes = changes }) opens fills) closes
+  pub front_fills : (over : Overflow) (tree_after : T) → Told (SeenFills poll over at mid.rows) (means.trees.world mid.outside.tree) (means.trees.world tree_after) → Told (OpenFills poll over (path_file at) mid.rows) (means.trees.world tree) (means.trees.world tree_after)
+  front_fills over tree_after fills =
+      told_then _ _ _ (means.trees.world tree) (means.trees.world mid.outside.tree) (means.trees.world tree_after) (λ x y z whole seen. open_fills poll at x y z (length at.front.now) many refl whole over mid.rows seen) all_read fills
+
+-- a file was opened, taken and closed
+module _ {T D : Type 0} (means : Meanings T D) (poll : Poll) (at : PathFile) (included : Includes poll.rules at.path.now) (tree : T) (opened taken : RowsAt T D) (tree_after : T)
+    (opens : Told (OpensFile at.path.now at.file.handle.0 at.file.size) (means.trees.world tree) (means.trees.world opened.outside.tree)) (closes : Told (Closes at.file.handle.0) (means.trees.world taken.outside.tree) (means.trees.world tree_after))
+    (still : means.trees.faults opened.outside.tree ≡ means.trees.faults tree) (stays : means.trees.faults tree_after ≡ means.trees.faults taken.outside.tree) where
+  with_file : (change : World → World → Type 0) → Told change (means.trees.world opened.outside.tree) (means.trees.world taken.outside.tree) → Told (WithFile change at) (means.trees.world tree) (means.trees.world taken.outside.tree)
+  with_file change told = told_then _ _ _ (means.trees.world tree) (means.trees.world opened.outside.tree) (means.trees.world taken.outside.tree) (λ x y z opening changes. record { opened = y; opens = opening; changes = changes }) opens told
+
+  pub takes_file : (found : Found) → means.trees.taken opened.outside.tree ≡ means.trees.taken tree → means.trees.taken tree_after ≡ means.trees.taken taken.outside.tree
+      → Finds means (OpenTaken poll at) found opened taken → Finds means (PathTaken poll at.path.now) found (with_tree tree opened) (with_tree tree_after taken)
+  takes_file found opening_reads closing_reads finds =
+      let gain : Gain = with_taken finds.bytes (gain_of found) in
+      record {
+        bytes = finds.bytes;
+        takes = takes_between means (OpenTaken poll at) (PathTaken poll at.path.now) gain finds.bytes opened.rows opened.end tree tree_after opened taken refl still stays (omega (arith, opening_reads)) closing_reads
+            (λ added told. told_then _ _ _ (means.trees.world tree) (means.trees.world taken.outside.tree) (means.trees.world tree_after)
+            (λ x y z change closing. path_looked poll at included x change.opened y z change.opens closing (step opened.rows taken.rows gain added) change.changes) (with_file (OpenTaken poll at (step opened.rows taken.rows gain added)) told) closes) finds.takes;
+      }
+
+  pub fills_file : (over : Overflow) → Told (OpenFills poll over at opened.rows) (means.trees.world opened.outside.tree) (means.trees.world taken.outside.tree) → Told (PathFills poll over at.path.now opened.rows) (means.trees.world tree) (means.trees.world tree_after)
+  fills_file over fills =
+      told_then _ _ _ (means.trees.world tree) (means.trees.world taken.outside.tree) (means.trees.world tree_after)
+      (λ x y z change closing. path_fills poll at included x change.opened y z change.opens closing over opened.rows change.changes)
+      (with_file (OpenFills poll over at opened.rows) fills) closes
 
 -- a path that could not be opened, or was no file's
-module _ {T D : Type 0} (trees : TreeMeaning T) (disks : DiskMeaning D) (poll : Poll) (path : List ℕ) (before : List Row) (end : ℕ) (old new : T) (disk : D) where
-  pub takes_missed : Told (OpensNothing (miss path ∷ []) (λ _. Unit {0})) (trees.world old) (trees.world new) → Rose (trees.faults old) (trees.faults new) → trees.taken new ≡ trees.taken old
-      → Finds trees disks (PathTaken poll path before before) Missed end end old new disk disk
-  takes_missed told rose none = record {
+module _ {T D : Type 0} (means : Meanings T D) (poll : Poll) (path : List ℕ) (before : RowsAt T D) (tree_after : T) (none : means.trees.taken tree_after ≡ means.trees.taken before.outside.tree) where
+  pub takes_missed : Told (OpensNothing (miss path ∷ []) (λ _. Unit {0})) (means.trees.world before.outside.tree) (means.trees.world tree_after) → Rose (means.trees.faults before.outside.tree) (means.trees.faults tree_after)
+      → Finds means (PathTaken poll path) Missed before (with_tree tree_after before)
+  takes_missed told rose = record {
     bytes = 0;
-    takes = takes_call trees disks _ _ end old new disk refl rose.1 (omega (arith, none)) (told_weaker _ _ (trees.world old) (trees.world new) (λ x y opens. path_missed poll path before x y opens) told);
+    takes = takes_call means (PathTaken poll path) _ before tree_after refl rose.1 (omega (arith, none)) (told_weaker _ _ (means.trees.world before.outside.tree) (means.trees.world tree_after) (λ x y opens. path_missed poll path before.rows x y opens) told);
   }
 
-  pub takes_lost : (fact : History → Type 0) → ((history : History) → fact history → kind_at (names history) path ≡ Some PlainFile → ⊥) → Told (OpensNothing [] fact) (trees.world old) (trees.world new) → trees.faults new ≡ trees.faults old
-      → trees.taken new ≡ trees.taken old → Finds trees disks (PathTaken poll path before before) NoFile end end old new disk disk
-  takes_lost fact other told same none = record {
+  pub takes_lost : (fact : History → Type 0) → ((history : History) → fact history → kind_at (names history) path ≡ Some PlainFile → ⊥) → Told (OpensNothing [] fact) (means.trees.world before.outside.tree) (means.trees.world tree_after)
+      → means.trees.faults tree_after ≡ means.trees.faults before.outside.tree → Finds means (PathTaken poll path) NoFile before (with_tree tree_after before)
+  takes_lost fact other told same = record {
     bytes = 0;
-    takes = takes_call trees disks _ _ end old new disk refl (omega (arith, same)) (omega (arith, none)) (told_weaker _ _ (trees.world old) (trees.world new) (λ x y opens. path_lost poll path before x y fact opens other) told);
+    takes = takes_call means (PathTaken poll path) _ before tree_after refl (omega (arith, same)) (omega (arith, none)) (told_weaker _ _ (means.trees.world before.outside.tree) (means.trees.world tree_after) (λ x y opens. path_lost poll path before.rows x y fact opens other) told);
   }
 
 -- what was found at a path is counted
-module _ {T D : Type 0} (trees : TreeMeaning T) (disks : DiskMeaning D) (setup : Setup) (laws : AreRules (rules_in setup)) (before taken : Taking) (sane : IsSaneTaking setup before) (sane_taken : IsSaneTaking setup taken) (counts_same : taken.counts ≡ before.counts)
-    (change : List Mark → World → World → Type 0) (gain : Gain) (tree tree_after : T) (disk disk_after : D) (takes : Takes trees disks change gain before.end taken.end tree tree_after disk disk_after) where
+module _ {T D : Type 0} (means : Meanings T D) (setup : Setup) (laws : AreRules (rules_in setup)) (before taken : Taking) (sane : IsSaneTaking setup before) (sane_taken : IsSaneTaking setup taken) (counts_same : taken.counts ≡ before.counts)
+    (change : Step → World → World → Type 0) (gain : Gain) (old new : Moment T D) (takes : Takes means change gain (rows_at before old) (rows_at taken new)) where
   pub lines_fit : before.counts.lines + gain.lines ≤ taken.end
   lines_fit = omega (arith, sane.lines, takes.lines, takes.appends.end_is, text_long laws.lines.not_empty takes.added)
 
@@ -402,16 +389,6 @@ module _ {T D : Type 0} (trees : TreeMeaning T) (disks : DiskMeaning D) (setup :
     end_within = omega (arith, end, sane_taken.end_within);
     lines = omega (arith, end, lines_fit, counted.lines, ap (λ (c : Counts). c.lines) counts_same);
   }
-
--- a line of the newest look would be too much
-module _ {T D : Type 0} (trees : TreeMeaning T) (disks : DiskMeaning D) where
-  pub takes_all_fill : (setup : Setup) (paths : List (List ℕ)) (path : List ℕ) (all : List (List ℕ)) (before mid : Taking) (old between new : T) (disk disk_between : D) (full : ℕ) → TakesAll trees disks setup paths before mid old between disk disk_between
-      → take (length paths + 1) all ≡ paths ++ path ∷ [] → Told (PathFills (poll_of setup) setup.limit path mid.tracker mid.end full) (trees.world between) (trees.world new)
-      → Told (AllFill (poll_of setup) setup.limit all before.tracker before.end full) (trees.world old) (trees.world new)
-  takes_all_fill setup paths path all before mid old between new disk disk_between full a firsts b =
-      told_then _ _ _ (trees.world old) (trees.world between) (trees.world new)
-      (λ x y z taken fills. all_fill (poll_of setup) paths path before.tracker mid.tracker mid.tracker a.gain no_gain a.takes.added [] x y z taken setup.limit before.end mid.end full all a.takes.appends.end_is firsts fills)
-      a.takes.world b
 
 -- one path more of a list
 pub one_more : (paths : List (List ℕ)) (place : ℕ) (path : List ℕ) → place < length paths → path ≡ get_or paths place path → take (place + 1) paths ≡ take place paths ++ path ∷ []

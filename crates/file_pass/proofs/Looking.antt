@@ -13,12 +13,12 @@ use Rattle.standing.specs.Look.{all_taken, Look, Outcome, Progress, skips, finds
 use Rattle.standing.specs.Marks.{Mark}
 use Rattle.standing.specs.Pass.{is_short}
 use Rattle.standing.specs.Rows.{Row}
-use Rattle.standing.specs.Rules.{Rules}
 use Rattle.standing.specs.Sums.{is_filled}
 use Rattle.file_pass.specs.Flushed.{row_read, lines_read}
 use Rattle.file_pass.specs.Gain.{Gain, no_gain, one_file, one_if, with_taken}
 use Rattle.file_pass.specs.LookTaken.{IsGainOf, TakesLook}
 use Rattle.file_pass.specs.Seen.{progress_of}
+use Rattle.file_pass.specs.Step.{step}
 use Rattle.file_pass.specs.declared.ending.Ending.{Ending}
 use Rattle.file_pass.specs.declared.ending.Ending.TheVariants.{Whole}
 use Rattle.file_pass.proofs.FlushLemmas.{row_after_read, row_taken, lines_added_read, lines_taken}
@@ -73,7 +73,7 @@ more_not : (here : Look) (offset : ℕ) → size here ≤ offset + most_taken �
 more_not here offset within = and_false_right (here.end == size here) (nat_lt (offset + most_taken) (size here)) (le-ltb (offset + most_taken) (size here) within)
 
 -- whatever was read
-pub look_with : (poll : Poll) (here : Look) (before after : List Row) (added : List Mark) (gain : Gain) (count : ℕ) → TakesLook poll here before after added gain → TakesLook poll here before after added (with_taken count gain)
+pub look_with : (poll : Poll) (here : Look) (before after : List Row) (added : List Mark) (gain : Gain) (count : ℕ) → TakesLook poll here (step before after gain added) → TakesLook poll here (step before after (with_taken count gain) added)
 look_with poll here before after added gain count taken = record {
   end_within = taken.end_within;
   reads_on = taken.reads_on;
@@ -99,7 +99,7 @@ pub record EndsAt (here : Look) (ending : Ending) : Type 0 where
 module _ (poll : Poll) (here : Look) (before : List Row) where
   -- an outcome that leaves the rows
   leaves : (found : Outcome) (gain : Gain) → outcome poll.rules before here ≡ found → here.end ≤ size here → ReadsOn poll here found
-      → progress_after poll here (progress_of before []) found ≡ progress_of before [] → IsGainOf poll here found [] gain → TakesLook poll here before before [] gain
+      → progress_after poll here (progress_of before []) found ≡ progress_of before [] → IsGainOf poll here found [] gain → TakesLook poll here (step before before gain [])
   leaves found gain is within reads same sums = record {
     end_within = within;
     reads_on = subst (λ (o : Outcome). ReadsOn poll here o) (sym is) reads;
@@ -107,7 +107,7 @@ module _ (poll : Poll) (here : Look) (before : List Row) where
     sums = subst (λ (o : Outcome). IsGainOf poll here o [] gain) (sym is) sums;
   }
 
-  pub takes_nothing : here.skipped ≡ false → size here ≡ 0 → here.end ≡ 0 → TakesLook poll here before before [] no_gain
+  pub takes_nothing : here.skipped ≡ false → size here ≡ 0 → here.end ≡ 0 → TakesLook poll here (step before before no_gain [])
   takes_nothing read none end =
       leaves finds_nothing no_gain (is_nothing poll.rules before here read none) (omega (arith, end)) tt refl
       (record {
@@ -121,7 +121,7 @@ module _ (poll : Poll) (here : Look) (before : List Row) where
         full = refl;
       })
 
-  pub takes_unread : here.skipped ≡ true → 0 < size here → here.end ≤ size here → TakesLook poll here before before [] (record one_file { failed = 1 })
+  pub takes_unread : here.skipped ≡ true → 0 < size here → here.end ≤ size here → TakesLook poll here (step before before (record one_file { failed = 1 }) [])
   takes_unread unread some within =
       leaves skips (record one_file { failed = 1 }) (is_skipped poll.rules before here unread) within tt refl
       (record {
@@ -136,7 +136,7 @@ module _ (poll : Poll) (here : Look) (before : List Row) where
       })
 
   module _ (read : here.skipped ≡ false) (some : 0 < size here) where
-    pub takes_compressed : is_compressed (front poll.rules here) ≡ true → here.end ≡ size here → TakesLook poll here before before [] (record one_file { compressed = 1 })
+    pub takes_compressed : is_compressed (front poll.rules here) ≡ true → here.end ≡ size here → TakesLook poll here (step before before (record one_file { compressed = 1 }) [])
     takes_compressed is end =
         leaves finds_compressed (record one_file { compressed = 1 }) (is_compressed_file poll.rules before here read some is) (omega (arith, end)) tt refl
         (record {
@@ -151,7 +151,7 @@ module _ (poll : Poll) (here : Look) (before : List Row) where
         })
 
     module _ (plain : is_compressed (front poll.rules here) ≡ false) where
-      pub takes_full : place_of (front poll.rules here) before ≡ None → row_limit ≤ length before → here.end ≡ size here → TakesLook poll here before before [] (record one_file { full = 1 })
+      pub takes_full : place_of (front poll.rules here) before ≡ None → row_limit ≤ length before → here.end ≡ size here → TakesLook poll here (step before before (record one_file { full = 1 }) [])
       takes_full none all end =
           leaves finds_no_room (record one_file { full = 1 })
           (is_no_room poll.rules before here read some plain none all) (omega (arith, end)) tt refl
@@ -177,7 +177,7 @@ module _ (poll : Poll) (here : Look) (before : List Row) where
             ∙ lines_taken poll here row Whole from (λ _. end) (λ not. absurd (not refl))
 
         pub takes_short : size here < row.offset → here.end ≡ size here
-            → TakesLook poll here before (slice_set before place (with_front (front poll.rules here) row)) [] (record one_file { shrunk = 1 })
+            → TakesLook poll here (step before (slice_set before place (with_front (front poll.rules here) row)) (record one_file { shrunk = 1 }) [])
         takes_short short end = record {
           end_within = omega (arith, end);
           reads_on = subst (λ (o : Outcome). ReadsOn poll here o) (sym is_known) (λ le. absurd (omega (arith, le, short)));
@@ -202,7 +202,7 @@ module _ (poll : Poll) (here : Look) (before : List Row) where
 
         pub takes_on : (ending : Ending) (given : List ℕ) (after : List Row) (added : List Mark) (gain : Gain) → row.offset ≤ size here → EndsAt here ending → row.offset ≤ here.end → given ≡ piece here row.offset
             → after ≡ slice_set (slice_set before place (with_front (front poll.rules here) row)) place (row_read poll.rules (size here) ending given (with_front (front poll.rules here) row))
-            → added ≡ lines_read poll (size here) ending given row → IsGainOf poll here (finds_row place row) added gain → TakesLook poll here before after added gain
+            → added ≡ lines_read poll (size here) ending given row → IsGainOf poll here (finds_row place row) added gain → TakesLook poll here (step before after gain added)
         takes_on ending given after added gain from ends reaches are rows lines sums = record {
           end_within = ends.within;
           reads_on = subst (λ (o : Outcome). ReadsOn poll here o) (sym is_known) (λ _. reaches);
@@ -237,7 +237,7 @@ module _ (poll : Poll) (here : Look) (before : List Row) where
       pub takes_new : (row : Row) (ending : Ending) (given : List ℕ) (after : List Row) (added : List Mark) (gain : Gain) → row ≡ new_row poll here (length before + 1)
           → place_of (front poll.rules here) before ≡ None → length before < row_limit → row.offset ≤ size here → EndsAt here ending → row.offset ≤ here.end → given ≡ piece here row.offset
           → after ≡ slice_set (before ++ row ∷ []) (length before) (row_read poll.rules (size here) ending given row)
-          → added ≡ lines_read poll (size here) ending given row → IsGainOf poll here finds_new added gain → TakesLook poll here before after added gain
+          → added ≡ lines_read poll (size here) ending given row → IsGainOf poll here finds_new added gain → TakesLook poll here (step before after gain added)
       takes_new row ending given after added gain is none room from ends reaches are rows lines sums =
           let fresh : Row = new_row poll here (length before + 1) in
           let at : row.offset ≡ fresh.offset = ap (λ (r : Row). r.offset) is in

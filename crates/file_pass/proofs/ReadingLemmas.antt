@@ -9,7 +9,7 @@ use Rattle.outside.specs.World.{World, History, bytes}
 use Rattle.outside.proofs.Moving.{moves_none, moves_then, moves_by_moment, grows_by}
 use Rattle.standing.specs.Moments.{IsLater}
 use Rattle.slot_store.proofs.Filling.{take_in_two}
-use Rattle.file_pass.specs.Reads.{HasBytes, Reads}
+use Rattle.file_pass.specs.Reads.{HasBytes, Reads, piece_at}
 use Rattle.file_pass.specs.declared.ending.Ending.{Ending}
 use Rattle.file_pass.specs.declared.ending.Ending.TheVariants.{Whole, Shrunk}
 
@@ -38,7 +38,7 @@ still_has handle last old new file handles moves has =
 pub has_fewer : (handle last size : ℕ) (world : World) (file : ℕ) → last ≤ size → HasBytes handle size world file → HasBytes handle last world file
 has_fewer handle last size world file le has = record { is = has.is; long = omega (arith, le, has.long) }
 
-pub reads_within : (handle from last size : ℕ) (given : List ℕ) (ending : Ending) (old new : World) → last ≤ size → Reads handle from last given ending old new → Reads handle from size given ending old new
+pub reads_within : (handle from last size : ℕ) (given : List ℕ) (ending : Ending) (old new : World) → last ≤ size → Reads (piece_at handle from last given ending) old new → Reads (piece_at handle from size given ending) old new
 reads_within handle from last size given ending old new le reads = record {
   handles = reads.handles;
   moves = reads.moves;
@@ -46,7 +46,7 @@ reads_within handle from last size given ending old new le reads = record {
   grows = λ file has. reads.grows file (has_fewer handle last size old file le has);
 }
 
-pub reads_nothing : (handle from last : ℕ) (ending : Ending) (old new : World) → new.handles ≡ old.handles → Moves old.history new.history → (ending ≡ Shrunk → ⊥) → Reads handle from last [] ending old new
+pub reads_nothing : (handle from last : ℕ) (ending : Ending) (old new : World) → new.handles ≡ old.handles → Moves old.history new.history → (ending ≡ Shrunk → ⊥) → Reads (piece_at handle from last [] ending) old new
 reads_nothing handle from last ending old new handles moves not_short = record {
   handles = handles;
   moves = moves;
@@ -54,7 +54,7 @@ reads_nothing handle from last ending old new handles moves not_short = record {
   grows = λ file has is. not_short is;
 }
 
-pub reads_idle : (handle from last : ℕ) (world : World) → Reads handle from last [] Whole world world
+pub reads_idle : (handle from last : ℕ) (world : World) → Reads (piece_at handle from last [] Whole) world world
 reads_idle handle from last world = reads_nothing handle from last Whole world world refl (moves_none world.history) (λ is. let never : Whole ≡ Shrunk = is in cc)
 
 gives_piece : (content more : List ℕ) (from count : ℕ) (buffer : List ℕ) → from + count ≤ length content → Gives (content ++ more) from buffer count → take count buffer ≡ take (length (take count buffer)) (drop from content)
@@ -63,7 +63,7 @@ gives_piece content more from count buffer within gives =
 
 -- one read that gave something, or nothing at all
 pub reads_one : (handle from last : ℕ) (buffer : List ℕ) (count : ℕ) (ending : Ending) (old new : World) → from < last → 0 < length buffer → from + count ≤ last → (ending ≡ Shrunk → count ≡ 0)
-    → ReadsOnce handle from buffer (Ok count) old new → Reads handle from last (take count buffer) ending old new
+    → ReadsOnce handle from buffer (Ok count) old new → Reads (piece_at handle from last (take count buffer) ending) old new
 reads_one handle from last buffer count ending old new some room within none once = record {
   handles = once.handles;
   moves = moves_by_moment once.history;
@@ -81,7 +81,7 @@ reads_one handle from last buffer count ending old new some room within none onc
 
 -- one after another
 pub reads_then : (handle from last : ℕ) (given more : List ℕ) (ending : Ending) (old mid new : World) → from + length given + length more ≤ last
-    → Reads handle from last given Whole old mid → Reads handle (from + length given) last more ending mid new → Reads handle from last (given ++ more) ending old new
+    → Reads (piece_at handle from last given Whole) old mid → Reads (piece_at handle (from + length given) last more ending) mid new → Reads (piece_at handle from last (given ++ more) ending) old new
 reads_then handle from last given more ending old mid new within first second = record {
   handles = second.handles ∙ first.handles;
   moves = moves_then first.moves second.moves;

@@ -1,5 +1,5 @@
 -- A row that is read on.
-use Rattle.std.proofs.Common.{◌≡◌, ℕ, ◌+◌, ◌-◌, ◌<◌, ◌≤◌, ◌^◌, ◌⊎◌, List, [], ◌∷◌, length, min, Bool, false, true, nat_lt, refl, sym, ap, subst, ◌∙◌, inl, inr, arith}
+use Rattle.std.proofs.Common.{◌≡◌, ℕ, ◌+◌, ◌-◌, ◌<◌, ◌≤◌, ◌^◌, List, [], length, min, Bool, false, true, nat_lt, refl, sym, ap, subst, ◌∙◌, inl, inr, arith}
 use Rattle.std.proofs.lemmas.Option.{same_Some}
 use Rattle.std.proofs.lemmas.List.{length-set}
 use Rattle.std.proofs.lemmas.Bool.Decides.{nat_tests}
@@ -8,21 +8,22 @@ use Rattle.file_tracker.specs.Places.{with_look, with_progress, HasGone}
 use Rattle.op_kinds.specs.StateTexts.{state_text}
 use Rattle.outside.proofs.Telling.{told_same, told_weaker}
 use Rattle.outside.specs.Count.{raised}
-use Rattle.outside.specs.DiskMeaning.{DiskMeaning}
-use Rattle.outside.specs.TreeMeaning.{TreeMeaning}
-use Rattle.outside.specs.World.{Told}
+use Rattle.outside.specs.World.{World, Told}
 use Rattle.standing.specs.AreRules.{AreRules}
 use Rattle.standing.specs.Limits.{most_taken}
 use Rattle.standing.specs.Look.{fed, lines_of}
 use Rattle.standing.specs.Marks.{Mark}
 use Rattle.standing.specs.Rows.{Row}
-use Rattle.file_pass.specs.Fed.{poll_of, IsSane, ReadsOn, CrossesAll, FillsUp, feeding_row, last_of, rules_in}
+use Rattle.file_pass.specs.DiskTerms.{Appends}
+use Rattle.file_pass.specs.Fed.{poll_of, CrossesRead, GoesTo, IsSane, ReadsOn, FillsUp, feeding_row, last_in, last_of, piece_in, rules_in}
 use Rattle.file_pass.specs.Flushed.{row_read, lines_read, is_flushed}
-use Rattle.file_pass.specs.Full.{Crosses, lines_text}
+use Rattle.file_pass.specs.Full.{Crosses, lines_text, overflow}
 use Rattle.file_pass.specs.Gain.{failures}
 use Rattle.file_pass.specs.Grown.{LosesNothing, HasGrown}
+use Rattle.file_pass.specs.Moment.{Meanings, Moment, FeedingAt, RowsAt, feeding_at}
+use Rattle.file_pass.specs.Noted.{MayBeNoted, noted_row}
 use Rattle.file_pass.specs.Overflow.{RowFills}
-use Rattle.file_pass.specs.Reads.{Reads}
+use Rattle.file_pass.specs.Reads.{Reads, piece_of}
 use Rattle.file_pass.specs.RowTaken.{RowTaken}
 use Rattle.file_pass.specs.Sane.{IsSaneTaking}
 use Rattle.file_pass.specs.Taken.{Finds}
@@ -32,6 +33,7 @@ use Rattle.file_pass.specs.declared.taking.Taking.{Taking}
 use Rattle.file_pass.specs.declared.ending.Ending.{Ending}
 use Rattle.file_pass.specs.declared.ending.Ending.TheVariants.{Whole, Failed, Shrunk}
 use Rattle.file_pass.specs.declared.ending.OpenFile.{OpenFile}
+use Rattle.file_pass.specs.declared.ending.RowFile.{RowFile}
 use Rattle.file_pass.specs.declared.feeding.Feeding.{Feeding}
 use Rattle.file_pass.specs.declared.found.Found.TheVariants.{Shorter, Read}
 use Rattle.file_pass.specs.declared.setup.Setup.{Setup}
@@ -52,10 +54,6 @@ raised_by Shrunk before after same = omega (arith, same)
 pub restored_row : (row : Row) (feeding : Feeding) → feeding.id ≡ row.id → feeding.path ≡ row.path → feeding.offset ≡ row.offset → feeding.state.records ≡ row.records → feeding.state.lines ≡ row.lines
     → row.state ≡ state_text feeding.state.states.items → feeding.idle.seen ≡ row.seen → feeding.idle.quiet ≡ row.quiet → feeding_row feeding ≡ begins_of row
 restored_row row feeding id path offset records lines state seen quiet = cc
-
--- the row that is noted of a file that was read on
-abbrev pub noted_row : Feeding → Row → Row
-noted_row after row = with_progress after.offset after.state.records after.state.lines (state_text after.state.states.items) row
 
 module _ (setup : Setup) (laws : AreRules (rules_in setup)) (size : ℕ) (row : Row) (before after : Feeding) (ending : Ending) (given : List ℕ)
     (good : IsTrue ((rules_in setup).is_state row.state)) (inside : row.offset + length given ≤ size) (begins : feeding_row before ≡ begins_of row)
@@ -144,85 +142,96 @@ module _ (setup : Setup) (laws : AreRules (rules_in setup)) (size : ℕ) (row : 
   pub far_within : size ≤ 2 ^ 62 → after.offset ≤ 2 ^ 62
   far_within small = omega (arith, offset_then, facts.within, small)
 
-module _ {T D : Type 0} (trees : TreeMeaning T) (disks : DiskMeaning D) (setup : Setup) (file : OpenFile) (place : ℕ) (row : Row) (rows : List Row) (at : slice_get rows place ≡ Some row) where
+module _ {T D : Type 0} (means : Meanings T D) (setup : Setup) (at : RowFile) (row : Row) (start : RowsAt T D) (there : slice_get start.rows at.place ≡ Some row) where
   -- the file is shorter than the row's offset
-  pub takes_shorter : (end : ℕ) (tree : T) (disk : D) → file.size < row.offset → Finds trees disks (RowTaken (poll_of setup) file place rows rows Shorter) Shorter end end tree tree disk disk
-  takes_shorter end tree disk short = record {
+  pub takes_shorter : at.file.size < row.offset → Finds means (RowTaken (poll_of setup) at Shorter) Shorter start start
+  takes_shorter short = record {
     bytes = 0;
     takes = record {
       added = [];
       lines = refl;
-      appends = appends_none disks end disk;
+      appends = appends_none means.disks start.end start.outside.disk;
       rose = omega arith;
       read = omega arith;
-      world = told_same _ (trees.world tree) (λ world. record { row = row; at = at; cost = omega arith; how = inl (record { short = short; same = refl; none = refl; is = refl; still = refl }) });
+      world = told_same _ (means.trees.world start.outside.tree) (λ world. record { row = row; there = there; cost = omega arith; how = inl (record { short = short; same = refl; none = refl; still = refl }, refl) });
     };
   }
 
-  module _ (laws : AreRules (rules_in setup)) (good : IsTrue ((rules_in setup).is_state row.state)) (before : Feeding) (begins : feeding_row before ≡ begins_of row) (inside : row.offset ≤ file.size) (end : ℕ) (tree tree_after : T) where
-    same_begin : before.offset ≡ row.offset
+  -- from where this file, which is the one that is open, is read on
+  module _ (laws : AreRules (rules_in setup)) (good : IsTrue ((rules_in setup).is_state row.state)) (feeding : Feeding) (is_open : feeding.file ≡ at.file) (begins : feeding_row feeding ≡ begins_of row) (inside : row.offset ≤ at.file.size) where
+    abbrev before : FeedingAt T D
+    before = feeding_at feeding start.end start.outside
+
+    same_begin : feeding.offset ≡ row.offset
     same_begin = ap (λ (r : Row). r.offset) begins
 
-    fills_row : (given : List ℕ) (full : ℕ)
-        → Crosses setup.limit end (lines_of (poll_of setup) given (feeding_row before)) full ⊎ CrossesAll (poll_of setup) setup.limit end file given (feeding_row before) full
-        → Crosses setup.limit end (lines_of (poll_of setup) given row) full ⊎ CrossesAll (poll_of setup) setup.limit end file given row full
-    fills_row given full (inl part) = inl (subst (λ (r : Row). Crosses setup.limit end (lines_of (poll_of setup) given r) full) begins part)
-    fills_row given full (inr all) =
-        inr (record {
-          whole = omega (arith, all.whole, same_begin);
-          crosses = subst (λ (l : List Mark). Crosses setup.limit end l full) (ap (lines_read (poll_of setup) file.size Whole given) begins ∙ lines_others (poll_of setup) file.size Whole given [] 0 0 [] row) all.crosses;
-        })
+    same_size : feeding.file.size ≡ at.file.size
+    same_size = ap (λ (f : OpenFile). f.size) is_open
+
+    same_reads : (given : List ℕ) (ending : Ending) (old new : World) → Reads (piece_in feeding given ending) old new → Reads (piece_of at.file row.offset given ending) old new
+    same_reads given ending old new reads = subst (λ (f : OpenFile). Reads (piece_of f row.offset given ending) old new) is_open (subst (λ from. Reads (piece_of feeding.file from given ending) old new) same_begin reads)
 
     -- with a line of it the output would be too long
-    pub row_full : (full : ℕ) → FillsUp trees setup file before end full tree tree_after → Told (RowFills (poll_of setup) setup.limit file place rows end full) (trees.world tree) (trees.world tree_after)
-    row_full full fills =
-        told_weaker _ _ (trees.world tree) (trees.world tree_after) (λ x y reads. record {
+    pub row_full : (full : ℕ) (tree_after : T) → FillsUp means.trees setup full before tree_after → Told (RowFills (poll_of setup) (overflow setup.limit start.end full) at start.rows) (means.trees.world start.outside.tree) (means.trees.world tree_after)
+    row_full full tree_after fills =
+        told_weaker _ _ (means.trees.world start.outside.tree) (means.trees.world tree_after) (λ x y reads. record {
           row = row;
-          at = at;
+          there = there;
           begins = inside;
           given = fills.given;
-          within = omega (arith, fills.within, same_begin);
-          crosses = fills_row fills.given full fills.crosses;
-          reads = subst (λ from. Reads file.handle.0 from file.size fills.given Whole x y) same_begin reads;
+          within = omega (arith, fills.within, same_begin, same_size);
+          crosses = subst (λ (f : OpenFile). CrossesRead (poll_of setup) (overflow setup.limit start.end full) f fills.given row) is_open (fills_row fills.crosses);
+          reads = same_reads fills.given Whole x y reads;
         }) fills.world
+      where
+        fills_row : CrossesRead (poll_of setup) (overflow setup.limit start.end full) feeding.file fills.given (feeding_row feeding) → CrossesRead (poll_of setup) (overflow setup.limit start.end full) feeding.file fills.given row
+        fills_row (inl part) = inl (subst (λ (r : Row). Crosses setup.limit start.end (lines_of (poll_of setup) fills.given r) full) begins part)
+        fills_row (inr all) =
+            inr (record {
+              whole = omega (arith, all.whole, same_begin);
+              crosses = subst (λ (l : List Mark). Crosses setup.limit start.end l full) (ap (lines_read (poll_of setup) feeding.file.size Whole fills.given) begins ∙ lines_others (poll_of setup) feeding.file.size Whole fills.given [] 0 0 [] row) all.crosses;
+            })
 
     -- it was read on
-    pub takes_on_row : (after : Feeding) (end_after : ℕ) (ending : Ending) (more : Bool) (lines : ℕ) (rows_after : List Row) (disk disk_after : D) (on : ReadsOn trees disks setup file before after end end_after ending tree tree_after disk disk_after)
-        → (ending ≡ Whole → more ≡ nat_lt most_taken (file.size - row.offset)) → ((ending ≡ Whole → ⊥) → more ≡ false) → row.lines + lines ≡ after.state.lines
-        → rows_after ≡ slice_set rows place (with_look after.idle.seen after.idle.quiet (noted_row after row))
-        → trees.taken tree_after ≤ trees.taken tree + (last_of file.size before.offset - before.offset)
-        → Finds trees disks (RowTaken (poll_of setup) file place rows rows_after (Read ending more lines)) (Read ending more lines) end end_after tree tree_after disk disk_after
-    takes_on_row after end_after ending more lines rows_after disk disk_after on left not_left many noted read =
-        let added : List Mark = lines_read (poll_of setup) file.size ending on.given row in
-        let far : row.offset + length on.given ≤ file.size = omega (arith, on.within, same_begin) in
-        let count : lines ≡ length added = omega (arith, many, lines_more setup laws file.size row before after ending on.given good far begins on.row) in
+    pub takes_on_row : (ending : Ending) (after : FeedingAt T D) (more : Bool) (lines : ℕ) (rows_after : List Row) (end_after : ℕ) (on : ReadsOn means setup ending before after) → end_after ≡ after.end
+        → (ending ≡ Whole → more ≡ nat_lt most_taken (at.file.size - row.offset)) → ((ending ≡ Whole → ⊥) → more ≡ false) → row.lines + lines ≡ after.feeding.state.lines
+        → rows_after ≡ slice_set start.rows at.place (with_look after.feeding.idle.seen after.feeding.idle.quiet (noted_row after.feeding row))
+        → means.trees.taken after.outside.tree ≤ means.trees.taken start.outside.tree + (last_in feeding - feeding.offset)
+        → Finds means (RowTaken (poll_of setup) at (Read ending more lines)) (Read ending more lines) start (record { rows = rows_after; end = end_after; outside = after.outside })
+    takes_on_row ending after more lines rows_after end_after on ends left not_left many noted read =
+        let added : List Mark = lines_read (poll_of setup) feeding.file.size ending on.given row in
+        let far : row.offset + length on.given ≤ feeding.file.size = omega (arith, on.goes.within, same_begin) in
+        let count : lines ≡ length added = omega (arith, many, lines_more setup laws feeding.file.size row feeding after.feeding ending on.given good far begins on.row) in
         record {
-          bytes = min most_taken (file.size - row.offset);
+          bytes = min most_taken (at.file.size - row.offset);
           takes = record {
             added = added;
             lines = count;
-            appends = appends_same disks (lines_text (lines_read (poll_of setup) file.size ending on.given (feeding_row before))) (lines_text added) end end_after disk disk_after (ap lines_text (lines_are setup laws file.size row before after ending on.given good far begins on.row)) on.appends;
-            rose = raised_by ending (trees.faults tree) (trees.faults tree_after) on.cause;
-            read = omega (arith, read, same_begin, inside);
-            world = told_weaker _ _ (trees.world tree) (trees.world tree_after) (λ x y reads. record {
+            appends = subst (λ (n : ℕ). Appends means.disks (lines_text added) start.end n start.outside.disk after.outside.disk) (sym ends)
+                (appends_same means.disks (lines_text (lines_read (poll_of setup) feeding.file.size ending on.given (feeding_row feeding))) (lines_text added) start.end after.end start.outside.disk after.outside.disk
+                (ap lines_text (lines_are setup laws feeding.file.size row feeding after.feeding ending on.given good far begins on.row)) on.appends);
+            rose = raised_by ending (means.trees.faults start.outside.tree) (means.trees.faults after.outside.tree) on.cause;
+            read = omega (arith, read, same_begin, same_size, inside);
+            world = told_weaker _ _ (means.trees.world start.outside.tree) (means.trees.world after.outside.tree) (λ x y reads. record {
               row = row;
-              at = at;
+              there = there;
               cost = omega arith;
-              how = inr (record {
-                begins = inside;
-                given = on.given;
-                ending = ending;
-                more = more;
-                within = omega (arith, on.within, same_begin);
-                whole = λ is. omega (arith, on.whole is, same_begin);
-                partly = λ not. omega (arith, on.partly not, same_begin);
-                read_row = noted ∙ ap (slice_set rows place) (noted_is setup laws file.size row before after ending on.given good far begins on.row);
-                lines = refl;
-                is = ap (Read ending more) count;
-                left = λ is. left is ∙ past row.offset file.size inside;
-                not_left = not_left;
-                reads = subst (λ from. Reads file.handle.0 from file.size on.given ending x y) same_begin reads;
-              });
+              how = inr (
+                record {
+                  begins = inside;
+                  given = on.given;
+                  ending = ending;
+                  more = more;
+                  goes = subst (λ n. GoesTo (last_of at.file.size n) n on.given ending) same_begin (subst (λ n. GoesTo (last_of n feeding.offset) feeding.offset on.given ending) same_size on.goes);
+                  read_row = noted
+                      ∙ ap (slice_set start.rows at.place) (noted_is setup laws feeding.file.size row feeding after.feeding ending on.given good far begins on.row ∙ ap (λ n. row_read (rules_in setup) n ending on.given row) same_size);
+                  lines = ap (λ n. lines_read (poll_of setup) n ending on.given row) same_size;
+                  left = λ is. left is ∙ past row.offset at.file.size inside;
+                  not_left = not_left;
+                  reads = same_reads on.given ending x y reads;
+                },
+                ap (Read ending more) count,
+              );
             }) on.world;
           };
         }
@@ -231,51 +240,48 @@ module _ {T D : Type 0} (trees : TreeMeaning T) (disks : DiskMeaning D) (setup :
         past offset all le = grind (arith, nat_tests)
 
 -- the numbers after a file was read on
-module _ {T D : Type 0} (trees : TreeMeaning T) (disks : DiskMeaning D) (setup : Setup) (laws : AreRules (rules_in setup)) (file : OpenFile) (small : file.size ≤ 2 ^ 62) (place : ℕ) (row : Row) (taking next : Taking)
-    (sane : IsSaneTaking setup taking) (at : slice_get taking.tracker place ≡ Some row) (before after : Feeding) (begins : feeding_row before ≡ begins_of row) (end_now : ℕ) (ending : Ending) (tree tree_after : T) (disk disk_after : D)
-    (on : ReadsOn trees disks setup file before after taking.end end_now ending tree tree_after disk disk_after) where
+module _ {T D : Type 0} (means : Meanings T D) (setup : Setup) (laws : AreRules (rules_in setup)) (place : ℕ) (row : Row) (taking next : Taking) (sane : IsSaneTaking setup taking) (at : slice_get taking.tracker place ≡ Some row)
+    (feeding : Feeding) (small : feeding.file.size ≤ 2 ^ 62) (begins : feeding_row feeding ≡ begins_of row) (outside : Moment T D) (ending : Ending) (then : FeedingAt T D) (on : ReadsOn means setup ending (feeding_at feeding taking.end outside) then) where
+  abbrev after : Feeding
+  after = then.feeding
+
   good : IsTrue ((rules_in setup).is_state row.state)
   good = (sane.rows place row at).state
 
-  started : before.offset ≡ row.offset
+  started : feeding.offset ≡ row.offset
   started = ap (λ (r : Row). r.offset) begins
 
-  inside : row.offset + length on.given ≤ file.size
-  inside = omega (arith, on.within, started)
+  inside : row.offset + length on.given ≤ feeding.file.size
+  inside = omega (arith, on.goes.within, started)
 
-  -- what is so of the row is so of whatever stands at its place
-  at_place : (P : Row → Type 0) → P row → (other : Row) → slice_get taking.tracker place ≡ Some other → P other
-  at_place P fact other there = subst P (same_Some row other (sym at ∙ there)) fact
-
-  pub note_same : (other : Row) → slice_get taking.tracker place ≡ Some other → after.flushed ≡ false → after.offset ≤ other.offset → noted_row after other ≡ other
-  note_same = at_place (λ r. after.flushed ≡ false → after.offset ≤ r.offset → noted_row after r ≡ r) (stays setup laws file.size row before after ending on.given good inside begins on.row on.flushed)
-
-  pub note_grown : (other : Row) → slice_get taking.tracker place ≡ Some other → after.flushed ≡ true → HasGrown (rules_in setup) other (noted_row after other)
-  note_grown = at_place (λ r. after.flushed ≡ true → HasGrown (rules_in setup) r (noted_row after r)) (grows setup laws file.size row before after ending on.given good inside begins on.row on.flushed)
-
-  pub note_rises : (other : Row) → slice_get taking.tracker place ≡ Some other → HasGone other after.offset after.state.records after.state.lines
-  note_rises = at_place (λ r. HasGone r after.offset after.state.records after.state.lines) (rises setup laws file.size row before after ending on.given good inside begins on.row)
-
-  pub note_held : (other : Row) → slice_get taking.tracker place ≡ Some other → LosesNothing (rules_in setup) other (noted_row after other)
-  note_held = at_place (λ r. LosesNothing (rules_in setup) r (noted_row after r)) (holds setup laws file.size row before after ending on.given good inside begins on.row)
+  pub may_note : (other : Row) → slice_get taking.tracker place ≡ Some other → MayBeNoted (rules_in setup) after other
+  may_note other there = subst (MayBeNoted (rules_in setup) after) (same_Some row other (sym at ∙ there)) (record {
+    rises = rises setup laws feeding.file.size row feeding after ending on.given good inside begins on.row;
+    held = holds setup laws feeding.file.size row feeding after ending on.given good inside begins on.row;
+    grown = grows setup laws feeding.file.size row feeding after ending on.given good inside begins on.row on.flushed;
+    same = stays setup laws feeding.file.size row feeding after ending on.given good inside begins on.row on.flushed;
+  })
 
   pub note_look : (rules_in setup).flush_after ≡ 0 → with_look after.idle.seen after.idle.quiet (noted_row after row) ≡ noted_row after row
-  note_look = look_stays setup laws file.size row before after ending on.given good inside begins on.row
+  note_look = look_stays setup laws feeding.file.size row feeding after ending on.given good inside begins on.row
 
-  pub sane_on_row : IsSane setup after end_now → (length row.state < 2 ^ 32 → length (state_text after.state.states.items) < 2 ^ 32) → next.tracker ≡ slice_set taking.tracker place (with_look after.idle.seen after.idle.quiet (noted_row after row))
-      → length next.changed.items ≡ length taking.changed.items → next.end ≡ end_now → next.counts ≡ taking.counts → IsSaneTaking setup next
+  pub note_lines : row.lines + (after.state.lines - row.lines) ≡ after.state.lines
+  note_lines = lines_later setup laws feeding.file.size row feeding after ending on.given good inside begins on.row
+
+  pub sane_on_row : IsSane setup after then.end → (length row.state < 2 ^ 32 → length (state_text after.state.states.items) < 2 ^ 32) → next.tracker ≡ slice_set taking.tracker place (with_look after.idle.seen after.idle.quiet (noted_row after row))
+      → length next.changed.items ≡ length taking.changed.items → next.end ≡ then.end → next.counts ≡ taking.counts → IsSaneTaking setup next
   sane_on_row fed_sane short noted flags end counts =
       let was = sane.rows place row at in
       let later : taking.end ≤ next.end = omega (arith, end, on.appends.end_is) in
-      let gone = rises setup laws file.size row before after ending on.given good inside begins on.row in
-      let read_then : before.state.records ≡ row.records = ap (λ (r : Row). r.records) begins in
+      let gone = rises setup laws feeding.file.size row feeding after ending on.given good inside begins on.row in
+      let read_then : feeding.state.records ≡ row.records = ap (λ (r : Row). r.records) begins in
       record {
         rows = sane_progress (poll_of setup) taking.end next.end taking.tracker next.tracker place row after.offset after.state.records after.state.lines (state_text after.state.states.items) after.idle.seen after.idle.quiet sane.rows later at noted
             fed_sane.seen fed_sane.quiet gone.offset_rises
-            (far_within setup laws file.size row before after ending on.given good inside begins on.row small)
+            (far_within setup laws feeding.file.size row feeding after ending on.given good inside begins on.row small)
             (omega (arith, on.few, started, read_then, was.records, gone.offset_rises))
             gone.records_rise gone.lines_rise
-            (omega (arith, fed_sane.lines, end)) (good_then setup laws file.size row before after ending on.given good inside begins on.row) (short was.short);
+            (omega (arith, fed_sane.lines, end)) (good_then setup laws feeding.file.size row feeding after ending on.given good inside begins on.row) (short was.short);
         few = omega (arith, sane.few, ap (λ (rows : List Row). length rows) noted, length-set taking.tracker place (with_look after.idle.seen after.idle.quiet (noted_row after row)));
         era = sane.era;
         flags = flags ∙ sane.flags ∙ sym (ap (λ (rows : List Row). length rows) noted ∙ length-set taking.tracker place (with_look after.idle.seen after.idle.quiet (noted_row after row)));

@@ -1,5 +1,5 @@
 -- The numbers of a pass, whatever is read.
-use Rattle.std.proofs.Common.{◌≡◌, ℕ, ◌+◌, ◌<◌, ◌≤◌, ◌^◌, suc, List, [], ◌∷◌, length, refl, sym, ap, subst, ◌∙◌, inl, inr, arith, length-append}
+use Rattle.std.proofs.Common.{◌≡◌, ℕ, ◌+◌, ◌<◌, ◌≤◌, ◌^◌, List, [], ◌∷◌, length, refl, sym, ap, subst, ◌∙◌, inl, inr, arith, length-append}
 use Rattle.std.proofs.lemmas.List.{length-set, length_push}
 use Rattle.checkpoint_store.specs.Rules.{NoneFalls, Rise, first_point, last_point}
 use Rattle.file_tracker.specs.Limits.{row_limit}
@@ -10,14 +10,13 @@ use Rattle.std.specs.Prelude.{Option, None, Some, IfSome, IsTrue, slice_get, sli
 use Rattle.file_tracker.specs.Places.{with_front, with_look, with_progress}
 use Rattle.file_tracker.specs.declared.row.Row.{Row}
 use Rattle.standing.specs.Poll.{Poll}
-use Rattle.standing.specs.AreRules.{AreRules}
 use Rattle.standing.specs.Marks.{Mark}
-use Rattle.standing.specs.Rules.{Rules}
 use Rattle.state_codec.specs.Rules.{IsShortText}
 use Rattle.file_pass.specs.Fed.{poll_of, rules_in}
 use Rattle.file_pass.specs.Full.{line_of, lines_text}
 use Rattle.file_pass.specs.Sane.{HasParts, IsSaneRow, FreshFits, AreSaneRows, IsSaneTaking}
 use Rattle.file_pass.specs.Settled.{IsKnown, IsAdmitted, Settles, admitted}
+use Rattle.file_pass.specs.declared.ending.SeenFile.{SeenFile}
 use Rattle.file_pass.specs.declared.setup.Setup.{Setup}
 use Rattle.file_pass.proofs.Bridging.{start_within}
 use Rattle.file_pass.proofs.Listing.{set_cases, push_cases}
@@ -45,14 +44,14 @@ parts_stay era row other born ends first last seen quiet has = record {
 }
 
 -- rows that are found or made
-module _ (setup : Setup) (end size : ℕ) (path front : List ℕ) (before after : List Row) (place : ℕ) (sane : AreSaneRows (poll_of setup) end before)
-    (size_within : size ≤ 2 ^ 62) (short : IsShortText path) (some : (1 ≤ length front) × (length front ≤ 4096)) where
-  pub sane_known : IsKnown front before place after → AreSaneRows (poll_of setup) end after
+module _ (setup : Setup) (end : ℕ) (seen : SeenFile) (before after : List Row) (place : ℕ) (sane : AreSaneRows (poll_of setup) end before)
+    (size_within : seen.file.size ≤ 2 ^ 62) (short : IsShortText seen.path.now) (some : (1 ≤ length seen.front.now) × (length seen.front.now ≤ 4096)) where
+  pub sane_known : IsKnown seen.front.now before place after → AreSaneRows (poll_of setup) end after
   sane_known known k row at =
-      elim (set_cases before place k (with_front front known.row) row (sym (ap (λ (l : List Row). slice_get l k) known.grown) ∙ at)) [
+      elim (set_cases before place k (with_front seen.front.now known.row) row (sym (ap (λ (l : List Row). slice_get l k) known.grown) ∙ at)) [
         | inl here ↦ (
             let was = sane place known.row known.at in
-            let grown : IsSaneRow (poll_of setup) end place (with_front front known.row) = record {
+            let grown : IsSaneRow (poll_of setup) end place (with_front seen.front.now known.row) = record {
               id = was.id;
               path = was.path;
               front = some;
@@ -62,18 +61,18 @@ module _ (setup : Setup) (end size : ℕ) (path front : List ℕ) (before after 
               lines = was.lines;
               state = was.state;
               short = was.short;
-              parts = parts_stay setup.era known.row (with_front front known.row) refl refl refl refl refl refl was.parts;
+              parts = parts_stay setup.era known.row (with_front seen.front.now known.row) refl refl refl refl refl refl was.parts;
             } in
             rw (here.0, here.1) grown)
         | inr other ↦ sane k row other.1
       ]
 
-  pub sane_admitted : 1 ≤ setup.era → FreshFits setup → IsAdmitted setup size path front before place after → AreSaneRows (poll_of setup) end after
+  pub sane_admitted : 1 ≤ setup.era → FreshFits setup → IsAdmitted setup seen before place after → AreSaneRows (poll_of setup) end after
   sane_admitted era fits fresh k row at =
-      let new : Row = admitted setup size path front (length before + 1) in
+      let new : Row = admitted setup seen.file.size seen.path.now seen.front.now (length before + 1) in
       elim (push_cases before k new row (sym (ap (λ (l : List Row). slice_get l k) fresh.added) ∙ at)) [
         | inl here ↦ (
-            let le : new.start ≤ size = start_within (setup.first && (rules_in setup).from_end) size in
+            let le : new.start ≤ seen.file.size = start_within (setup.first && (rules_in setup).from_end) seen.file.size in
             let made : IsSaneRow (poll_of setup) end (length before) new = record {
               id = refl;
               path = short;
@@ -90,8 +89,8 @@ module _ (setup : Setup) (end size : ℕ) (path front : List ℕ) (before after 
         | inr other ↦ sane k row other
       ]
 
-module _ (setup : Setup) (size : ℕ) (path front : List ℕ) (before after : Taking) (sane : IsSaneTaking setup before) (size_within : size ≤ 2 ^ 62) (short : IsShortText path)
-    (some : (1 ≤ length front) × (length front ≤ 4096)) (flags : length after.changed.items ≡ length after.tracker) (end : after.end ≡ before.end) (counts : after.counts ≡ before.counts) where
+module _ (setup : Setup) (seen : SeenFile) (before after : Taking) (sane : IsSaneTaking setup before) (size_within : seen.file.size ≤ 2 ^ 62) (short : IsShortText seen.path.now)
+    (some : (1 ≤ length seen.front.now) × (length seen.front.now ≤ 4096)) (flags : length after.changed.items ≡ length after.tracker) (end : after.end ≡ before.end) (counts : after.counts ≡ before.counts) where
   settled_by : AreSaneRows (poll_of setup) before.end after.tracker → length after.tracker ≤ row_limit → IsSaneTaking setup after
   settled_by rows few = record {
     rows = subst (λ e. AreSaneRows (poll_of setup) e after.tracker) (sym end) rows;
@@ -102,17 +101,17 @@ module _ (setup : Setup) (size : ℕ) (path front : List ℕ) (before after : Ta
     lines = omega (arith, end, sane.lines, ap (λ (c : Counts). c.lines) counts);
   }
 
-  pub sane_found : (place : ℕ) → IsKnown front before.tracker place after.tracker → IsSaneTaking setup after
+  pub sane_found : (place : ℕ) → IsKnown seen.front.now before.tracker place after.tracker → IsSaneTaking setup after
   sane_found place known =
-      settled_by (sane_known setup before.end size path front before.tracker after.tracker place sane.rows size_within short some known)
-      (omega (arith, ap (λ (rows : List Row). length rows) known.grown, length-set before.tracker place (with_front front known.row), sane.few))
+      settled_by (sane_known setup before.end seen before.tracker after.tracker place sane.rows size_within short some known)
+      (omega (arith, ap (λ (rows : List Row). length rows) known.grown, length-set before.tracker place (with_front seen.front.now known.row), sane.few))
 
-  pub sane_settled : (place : Option ℕ) → IfSome place (λ _. FreshFits setup) → Settles setup size path front before.tracker place after.tracker → IsSaneTaking setup after
+  pub sane_settled : (place : Option ℕ) → IfSome place (λ _. FreshFits setup) → Settles setup seen before.tracker place after.tracker → IsSaneTaking setup after
   sane_settled None fits left_out = settled_by (subst (λ (rows : List Row). AreSaneRows (poll_of setup) before.end rows) (sym left_out.same) sane.rows) (omega (arith, ap (λ (rows : List Row). length rows) left_out.same, sane.few))
   sane_settled (Some place) fits (inl known) = sane_found place known
   sane_settled (Some place) fits (inr fresh) =
-      settled_by (sane_admitted setup before.end size path front before.tracker after.tracker place sane.rows size_within short some sane.era fits fresh)
-      (omega (arith, ap (λ (rows : List Row). length rows) fresh.added, length_push before.tracker (admitted setup size path front (length before.tracker + 1)), fresh.room))
+      settled_by (sane_admitted setup before.end seen before.tracker after.tracker place sane.rows size_within short some sane.era fits fresh)
+      (omega (arith, ap (λ (rows : List Row). length rows) fresh.added, length_push before.tracker (admitted setup seen.file.size seen.path.now seen.front.now (length before.tracker + 1)), fresh.room))
 
 -- a row that was read on
 pub sane_progress : (poll : Poll) (end end_after : ℕ) (rows after : List Row) (place : ℕ) (row : Row) (far cut made : ℕ) (state : List ℕ) (seen quiet : ℕ) → AreSaneRows poll end rows → end ≤ end_after → slice_get rows place ≡ Some row

@@ -101,3 +101,7 @@ module _ {T : Type 0} (meaning : TreeMeaning T) (most : ℕ) where
     taken_then = keeps.taken_then;
     widest = no_wider_within part most (meaning.widest old) (meaning.widest new) le keeps.widest;
   }
+
+  -- a read more, into a shorter buffer, and so many bytes are all that reads gave
+  pub keeps_tree_on : (part taken more all : ℕ) (old mid new : T) → KeepsTree meaning most taken old mid → KeepsTree meaning part more mid new → taken + more ≤ all → part ≤ most → KeepsTree meaning most all old new
+  keeps_tree_on part taken more all old mid new first second le few = keeps_tree_within (taken + more) all old new le (keeps_tree_then taken more old mid new first (keeps_tree_wider part more mid new few second))

@@ -13,15 +13,15 @@ use Rattle.standing.specs.Looks.{Come, outcome_after, count_of}
 use Rattle.standing.specs.Marks.{Mark}
 use Rattle.standing.specs.Moments.{IsLater}
 use Rattle.standing.specs.Pass.{is_short}
-use Rattle.standing.specs.Rules.{Rules}
 use Rattle.standing.specs.Sums.{is_filled, is_passed_as_compressed, is_left_out, has_more, is_shrunk}
 use Rattle.file_pass.specs.AllTaken.{AllTaken}
 use Rattle.file_pass.specs.Cost.{cost_of, look_cost}
-use Rattle.file_pass.specs.Full.{Crosses, lines_text}
+use Rattle.file_pass.specs.Full.{Crosses, lines_text, overflow}
 use Rattle.file_pass.specs.Gain.{Gain, no_gain, both, one_if}
 use Rattle.file_pass.specs.Overflow.{PathFills, AllFill}
 use Rattle.file_pass.specs.PathTaken.{Comes, LooksAtPath, MissesPath, FindsNoFile, PathTaken}
 use Rattle.file_pass.specs.Seen.{progress_of}
+use Rattle.file_pass.specs.Step.{step}
 use Rattle.file_pass.specs.Turns.{Turn, looks_at, misses_path, finds_none, path_of, looks_of, gone_of, HadNone}
 use Rattle.file_pass.proofs.Filling.{crosses_before}
 use Rattle.file_pass.proofs.Listing.{contains_none, contains_cons}
@@ -66,7 +66,7 @@ reads_whole poll here whole found = by (offset_found poll here found)
     by (Some o) = λ le. omega (arith, le, whole)
 
 module _ (poll : Poll) where
-  pub all_none : (rows : List Row) (world : World) → AllTaken poll [] rows rows no_gain [] world world
+  pub all_none : (rows : List Row) (world : World) → AllTaken poll [] (step rows rows no_gain []) world world
   all_none rows world = record {
     turns = [];
     each = refl;
@@ -84,7 +84,7 @@ module _ (poll : Poll) where
     gains = record { files = refl; lines = refl; left = refl; gone = refl; failed = refl; compressed = refl; shrunk = refl; full = refl; taken = omega arith };
   }
 
-  module _ (paths : List (List ℕ)) (path : List ℕ) (before mid after : List Row) (gain more : Gain) (added next : List Mark) (old between new : World) (a : AllTaken poll paths before mid gain added old between) where
+  module _ (paths : List (List ℕ)) (path : List ℕ) (before mid after : List Row) (gain more : Gain) (added next : List Mark) (old between new : World) (a : AllTaken poll paths (step before mid gain added) old between) where
     abbrev start : Progress
     start = progress_of before []
 
@@ -100,8 +100,8 @@ module _ (poll : Poll) where
     each_more : (turn : Turn) → path_of turn ≡ path → map path_of (turn ∷ a.turns) ≡ reverse (paths ++ path ∷ [])
     each_more turn is = ap (λ (p : List ℕ). p ∷ map path_of a.turns) is ∙ ap (λ (l : List (List ℕ)). path ∷ l) a.each ∙ sym (reverse-append paths (path ∷ []))
 
-    looked_more : (here : Look) → here.path ≡ path → LooksAtPath poll here mid after more next between.history new.history → new.handles ≡ between.handles → left_unlisted new.history ≡ left_unlisted between.history
-        → AllTaken poll (paths ++ path ∷ []) before after (both gain more) (added ++ next) old new
+    looked_more : (here : Look) → here.path ≡ path → LooksAtPath poll here (step mid after more next) between.history new.history → new.handles ≡ between.handles → left_unlisted new.history ≡ left_unlisted between.history
+        → AllTaken poll (paths ++ path ∷ []) (step before after (both gain more) (added ++ next)) old new
     looked_more here is b handles unlisted =
         let sums = b.takes.sums in
         let later = later_of poll here between.history new.history b.later b.comes in
@@ -138,8 +138,8 @@ module _ (poll : Poll) where
     same_lines : after ≡ mid → next ≡ [] → progress_of mid added ≡ progress_of after (added ++ next)
     same_lines same none = rw (same, none, append-nil added) refl
 
-    missed_more : MissesPath path mid after more next between.history new.history → new.handles ≡ between.handles → left_unlisted new.history ≡ left_unlisted between.history
-        → AllTaken poll (paths ++ path ∷ []) before after (both gain more) (added ++ next) old new
+    missed_more : MissesPath path (step mid after more next) between.history new.history → new.handles ≡ between.handles → left_unlisted new.history ≡ left_unlisted between.history
+        → AllTaken poll (paths ++ path ∷ []) (step before after (both gain more) (added ++ next)) old new
     missed_more b handles unlisted = record {
       turns = misses_path path ∷ a.turns;
       each = each_more (misses_path path) refl;
@@ -167,8 +167,8 @@ module _ (poll : Poll) where
       };
     }
 
-    lost_more : FindsNoFile path mid after more next between.history new.history → new.handles ≡ between.handles → left_unlisted new.history ≡ left_unlisted between.history
-        → AllTaken poll (paths ++ path ∷ []) before after (both gain more) (added ++ next) old new
+    lost_more : FindsNoFile path (step mid after more next) between.history new.history → new.handles ≡ between.handles → left_unlisted new.history ≡ left_unlisted between.history
+        → AllTaken poll (paths ++ path ∷ []) (step before after (both gain more) (added ++ next)) old new
     lost_more b handles unlisted =
         let later = later_then between.history b.had_none.moment new.history b.had_none.after b.had_none.before in
         record {
@@ -201,16 +201,16 @@ module _ (poll : Poll) where
           };
         }
 
-    pub all_more : PathTaken poll path mid after more next between new → AllTaken poll (paths ++ path ∷ []) before after (both gain more) (added ++ next) old new
+    pub all_more : PathTaken poll path (step mid after more next) between new → AllTaken poll (paths ++ path ∷ []) (step before after (both gain more) (added ++ next)) old new
     all_more b = by b.turn b.path_is b.comes
       where
-        by : (turn : Turn) → path_of turn ≡ path → Comes poll mid after more next turn between.history new.history → AllTaken poll (paths ++ path ∷ []) before after (both gain more) (added ++ next) old new
+        by : (turn : Turn) → path_of turn ≡ path → Comes poll (step mid after more next) turn between.history new.history → AllTaken poll (paths ++ path ∷ []) (step before after (both gain more) (added ++ next)) old new
         by (looks_at here) is comes = looked_more here is comes b.handles b.no_unlisted
-        by (misses_path other) is comes = missed_more (subst (λ (p : List ℕ). MissesPath p mid after more next between.history new.history) is comes) b.handles b.no_unlisted
-        by (finds_none other) is comes = lost_more (subst (λ (p : List ℕ). FindsNoFile p mid after more next between.history new.history) is comes) b.handles b.no_unlisted
+        by (misses_path other) is comes = missed_more (subst (λ (p : List ℕ). MissesPath p (step mid after more next) between.history new.history) is comes) b.handles b.no_unlisted
+        by (finds_none other) is comes = lost_more (subst (λ (p : List ℕ). FindsNoFile p (step mid after more next) between.history new.history) is comes) b.handles b.no_unlisted
 
     pub all_fill : (limit end mid_end full : ℕ) (all : List (List ℕ)) → mid_end ≡ end + length (lines_text added) → take (length paths + 1) all ≡ paths ++ path ∷ []
-        → PathFills poll limit path mid mid_end full between new → AllFill poll limit all before end full old new
+        → PathFills poll (overflow limit mid_end full) path mid between new → AllFill poll (overflow limit end full) all before old new
     all_fill limit end mid_end full all at firsts b =
         let many : length a.turns ≡ length paths = sym (length-map a.turns path_of) ∙ ap length a.each ∙ length-reverse paths in
         record {

@@ -1,9 +1,6 @@
 -- What a pass makes of its paths.
-use Rattle.std.specs.Prelude.{◌≡◌, ℕ, ◌+◌, ◌≤◌, List, [], ◌++◌, length, map, reverse, Bool, Contains, count_by}
-use Rattle.file_tracker.specs.declared.row.Row.{Row}
-use Rattle.outside.specs.DiskMeaning.{DiskMeaning}
+use Rattle.std.specs.Prelude.{◌≡◌, ℕ, ◌+◌, ◌≤◌, List, [], ◌++◌, length, map, reverse, Contains, count_by}
 use Rattle.outside.specs.Seen.{looked, missed, left_unlisted}
-use Rattle.outside.specs.TreeMeaning.{TreeMeaning}
 use Rattle.outside.specs.World.{World, History}
 use Rattle.standing.specs.Poll.{Poll}
 use Rattle.standing.specs.Look.{Look, Progress}
@@ -11,17 +8,17 @@ use Rattle.standing.specs.Looks.{Come, ReadOn, progress_by, count_of}
 use Rattle.standing.specs.Marks.{Mark}
 use Rattle.standing.specs.Moments.{IsLater}
 use Rattle.standing.specs.Pass.{is_short}
-use Rattle.standing.specs.Rules.{Rules}
 use Rattle.standing.specs.Sums.{is_filled, is_passed_as_compressed, is_left_out, has_more, is_shrunk}
 use Rattle.file_pass.specs.Cost.{cost_of}
-use Rattle.file_pass.specs.Fed.{poll_of, rules_in}
+use Rattle.file_pass.specs.Fed.{poll_of}
 use Rattle.file_pass.specs.Gain.{Gain, Counted}
+use Rattle.file_pass.specs.Moment.{Meanings, TakingAt, rows_at}
 use Rattle.file_pass.specs.PathTaken.{PathTaken}
 use Rattle.file_pass.specs.Seen.{progress_of}
+use Rattle.file_pass.specs.Step.{Step}
 use Rattle.file_pass.specs.Taken.{Takes}
 use Rattle.file_pass.specs.Turns.{Turn, path_of, looks_of, misses_of, gone_of, HadNone}
 use Rattle.file_pass.specs.declared.setup.Setup.{Setup}
-use Rattle.file_pass.specs.declared.taking.Taking.{Taking}
 
 -- the agent's own events are those of these turns
 pub record OwnTurns (poll : Poll) (turns : List Turn) (old new : History) : Type 0 where
@@ -45,23 +42,23 @@ pub record AreGains (poll : Poll) (turns : List Turn) (start : Progress) (added 
   pub taken : gain.taken ≤ cost_of poll (looks_of turns) start
 
 -- Each path has its turn, and the looks lead from the rows before to those after, with these lines.
-pub record AllTaken (poll : Poll) (paths : List (List ℕ)) (before after : List Row) (gain : Gain) (added : List Mark) (old new : World) : Type 0 where
+pub record AllTaken (poll : Poll) (paths : List (List ℕ)) (step : Step) (old new : World) : Type 0 where
   pub turns : List Turn
   pub each : map path_of turns ≡ reverse paths
   pub handles : new.handles ≡ old.handles
   pub own : OwnTurns poll turns old.history new.history
-  pub read_on : ReadOn poll (looks_of turns) (progress_of before [])
-  pub leads_to : progress_by poll (looks_of turns) (progress_of before []) ≡ progress_of after added
-  pub gains : AreGains poll turns (progress_of before []) added gain
+  pub read_on : ReadOn poll (looks_of turns) (progress_of step.before [])
+  pub leads_to : progress_by poll (looks_of turns) (progress_of step.before []) ≡ progress_of step.after step.added
+  pub gains : AreGains poll turns (progress_of step.before []) step.added step.gain
 
 -- One path was taken, and counted.
-pub record TakesOne {T D : Type 0} (trees : TreeMeaning T) (disks : DiskMeaning D) (setup : Setup) (path : List ℕ) (before after : Taking) (tree tree_after : T) (disk disk_after : D) : Type 0 where
+pub record TakesOne {T D : Type 0} (means : Meanings T D) (setup : Setup) (path : List ℕ) (before after : TakingAt T D) : Type 0 where
   pub gain : Gain
-  pub counted : Counted before.counts gain after.counts
-  pub takes : Takes trees disks (PathTaken (poll_of setup) path before.tracker after.tracker gain) gain before.end after.end tree tree_after disk disk_after
+  pub counted : Counted before.taking.counts gain after.taking.counts
+  pub takes : Takes means (PathTaken (poll_of setup) path) gain (rows_at before.taking before.outside) (rows_at after.taking after.outside)
 
 -- A pass came to its end.
-pub record TakesAll {T D : Type 0} (trees : TreeMeaning T) (disks : DiskMeaning D) (setup : Setup) (paths : List (List ℕ)) (before after : Taking) (tree tree_after : T) (disk disk_after : D) : Type 0 where
+pub record TakesAll {T D : Type 0} (means : Meanings T D) (setup : Setup) (paths : List (List ℕ)) (before after : TakingAt T D) : Type 0 where
   pub gain : Gain
-  pub counted : Counted before.counts gain after.counts
-  pub takes : Takes trees disks (AllTaken (poll_of setup) paths before.tracker after.tracker gain) gain before.end after.end tree tree_after disk disk_after
+  pub counted : Counted before.taking.counts gain after.taking.counts
+  pub takes : Takes means (AllTaken (poll_of setup) paths) gain (rows_at before.taking before.outside) (rows_at after.taking after.outside)

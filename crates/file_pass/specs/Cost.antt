@@ -1,10 +1,9 @@
 -- How many bytes the reads of a pass give at most, told by its looks.
-use Rattle.std.specs.Prelude.{ℕ, ◌+◌, ◌-◌, min, List, [], ◌∷◌, Bool}
+use Rattle.std.specs.Prelude.{ℕ, ◌+◌, ◌-◌, min, List, [], ◌∷◌}
 use Rattle.standing.specs.Poll.{Poll}
 use Rattle.standing.specs.Limits.{most_taken}
 use Rattle.standing.specs.Look.{Look, Outcome, Progress, skips, finds_nothing, finds_compressed, finds_no_room, finds_new, finds_row, size}
 use Rattle.standing.specs.Looks.{outcome_after}
-use Rattle.standing.specs.Rules.{Rules}
 
 -- the file's bytes past its row's offset, none where it is shorter, and all bytes where it found no row
 abbrev pub bytes_past : Look → Outcome → ℕ

@@ -9,6 +9,15 @@ line_of mark = output_line mark.id mark.number mark.observed mark.entry
 abbrev pub lines_text : List Mark → List ℕ
 lines_text marks = flat_map line_of marks
 
+-- An output that ends at this place and may have so many bytes would have that size.
+pub record Overflow : Type 0 where
+  pub limit : ℕ
+  pub end : ℕ
+  pub size : ℕ
+
+abbrev pub overflow : ℕ → ℕ → ℕ → Overflow
+overflow limit end size = record { limit = limit; end = end; size = size }
+
 -- With all lines up to one of these the output, which ends at this place, has this length, which is more than the limit;
 -- without that one it isn't.
 pub record Crosses (limit end : ℕ) (marks : List Mark) (size : ℕ) : Type 0 where

@@ -1,3 +1,4 @@
+pub mod Moment
 pub mod Reads
 pub mod TreeTerms
 pub mod PassCause
@@ -7,10 +8,12 @@ pub mod Flushed
 pub mod Fed
 pub mod Seen
 pub mod Gain
+pub mod Step
 pub mod Cost
 pub mod Sane
 pub mod Grown
 pub mod Unchanged
+pub mod Noted
 pub mod Looks
 pub mod Settled
 pub mod Taken

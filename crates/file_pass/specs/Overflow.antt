@@ -1,50 +1,51 @@
 -- The output would be too long: with which looks it would.
-use Rattle.std.specs.Prelude.{◌≡◌, ◌⊎◌, ℕ, ◌+◌, ◌≤◌, List, [], ◌∷◌, ◌++◌, length, map, reverse, take, Bool, false, Some, slice_get}
+use Rattle.std.specs.Prelude.{◌≡◌, ℕ, ◌+◌, ◌≤◌, List, [], ◌∷◌, ◌++◌, length, map, reverse, take, false, Some, slice_get}
 use Rattle.file_tracker.specs.declared.row.Row.{Row}
 use Rattle.outside.specs.Moment.{Moves}
 use Rattle.outside.specs.Seen.{looked, missed, left_unlisted}
 use Rattle.outside.specs.World.{World, History}
 use Rattle.standing.specs.Poll.{Poll}
-use Rattle.standing.specs.Look.{Look, ComesAt, after_look, lines_of, size}
+use Rattle.standing.specs.Look.{Look, ComesAt, after_look, size}
 use Rattle.standing.specs.Looks.{Come, ReadOn, progress_by}
 use Rattle.standing.specs.Moments.{IsLater}
-use Rattle.standing.specs.Rules.{Rules}
-use Rattle.file_pass.specs.Fed.{last_of, CrossesAll}
-use Rattle.file_pass.specs.Full.{Crosses}
+use Rattle.file_pass.specs.Fed.{last_of, CrossesRead}
+use Rattle.file_pass.specs.Full.{Crosses, Overflow}
 use Rattle.file_pass.specs.LookTaken.{look_at, IsOpenAt, IsSeenAt}
-use Rattle.file_pass.specs.Reads.{Reads}
+use Rattle.file_pass.specs.Reads.{Reads, piece_of}
 use Rattle.file_pass.specs.Seen.{progress_of}
 use Rattle.file_pass.specs.Turns.{Turn, looks_at, path_of, looks_of, misses_of}
 use Rattle.file_pass.specs.declared.ending.Ending.TheVariants.{Whole}
-use Rattle.file_pass.specs.declared.ending.OpenFile.{OpenFile}
+use Rattle.file_pass.specs.declared.ending.PathFile.{PathFile}
+use Rattle.file_pass.specs.declared.ending.RowFile.{RowFile}
+use Rattle.file_pass.specs.declared.ending.SeenFile.{SeenFile}
 
 -- with a line of the bytes that were read for the row at this place, or of what waited and was flushed
-pub record RowFills (poll : Poll) (limit : ℕ) (file : OpenFile) (place : ℕ) (rows : List Row) (end full : ℕ) (old new : World) : Type 0 where
+pub record RowFills (poll : Poll) (over : Overflow) (at : RowFile) (rows : List Row) (old new : World) : Type 0 where
   pub row : Row
-  pub at : slice_get rows place ≡ Some row
-  pub begins : row.offset ≤ file.size
+  pub there : slice_get rows at.place ≡ Some row
+  pub begins : row.offset ≤ at.file.size
   pub given : List ℕ
-  pub within : row.offset + length given ≤ last_of file.size row.offset
-  pub crosses : Crosses limit end (lines_of poll given row) full ⊎ CrossesAll poll limit end file given row full
-  pub reads : Reads file.handle.0 row.offset file.size given Whole old new
+  pub within : row.offset + length given ≤ last_of at.file.size row.offset
+  pub crosses : CrossesRead poll over at.file given row
+  pub reads : Reads (piece_of at.file row.offset given Whole) old new
 
 -- with a line of those that the look adds
-abbrev pub LookFills : Poll → ℕ → Look → List Row → ℕ → ℕ → Type 0
-LookFills poll limit here rows end full = Crosses limit end (after_look poll here (progress_of rows [])).added full
+abbrev pub LookFills : Poll → Overflow → Look → List Row → Type 0
+LookFills poll over here rows = Crosses over.limit over.end (after_look poll here (progress_of rows [])).added over.size
 
 -- with a line of those that a look adds which sees this front, and could read the file to its end
-pub record SeenFills (poll : Poll) (limit : ℕ) (path : List ℕ) (file : OpenFile) (front : List ℕ) (rows : List Row) (end full : ℕ) (old new : World) : Type 0 where
+pub record SeenFills (poll : Poll) (over : Overflow) (at : SeenFile) (rows : List Row) (old new : World) : Type 0 where
   pub handles : new.handles ≡ old.handles
   pub moves : Moves old.history new.history
-  pub looks : (seen : ℕ) (moment : History) → IsSeenAt poll file front seen moment old → LookFills poll limit (look_at path seen moment file.size false) rows end full
+  pub looks : (seen : ℕ) (moment : History) → IsSeenAt poll at.file at.front.now seen moment old → LookFills poll over (look_at at.path.now seen moment at.file.size false) rows
 
 -- with a line of those that a look adds which could read the file to its end
-pub record OpenFills (poll : Poll) (limit : ℕ) (path : List ℕ) (file : OpenFile) (rows : List Row) (end full : ℕ) (old new : World) : Type 0 where
+pub record OpenFills (poll : Poll) (over : Overflow) (at : PathFile) (rows : List Row) (old new : World) : Type 0 where
   pub handles : new.handles ≡ old.handles
   pub moves : Moves old.history new.history
-  pub looks : (seen : ℕ) (moment : History) → IsOpenAt file seen moment old → LookFills poll limit (look_at path seen moment file.size false) rows end full
+  pub looks : (seen : ℕ) (moment : History) → IsOpenAt at.file seen moment old → LookFills poll over (look_at at.path.now seen moment at.file.size false) rows
 
-pub record PathFills (poll : Poll) (limit : ℕ) (path : List ℕ) (rows : List Row) (end full : ℕ) (old new : World) : Type 0 where
+pub record PathFills (poll : Poll) (over : Overflow) (path : List ℕ) (rows : List Row) (old new : World) : Type 0 where
   pub here : Look
   pub path_is : here.path ≡ path
   pub whole : here.end ≡ size here
@@ -53,12 +54,12 @@ pub record PathFills (poll : Poll) (limit : ℕ) (path : List ℕ) (rows : List 
   pub all_looks : looked new.history ≡ here.file ∷ looked old.history
   pub all_misses : missed new.history ≡ missed old.history
   pub no_unlisted : left_unlisted new.history ≡ left_unlisted old.history
-  pub fills : LookFills poll limit here rows end full
+  pub fills : LookFills poll over here rows
   pub handles : new.handles ≡ old.handles
 
 -- The first of the paths had their turns, and the newest of the looks, which could read its file to the end, leads to lines
 -- with which the output is too long.
-pub record AllFill (poll : Poll) (limit : ℕ) (paths : List (List ℕ)) (rows : List Row) (end full : ℕ) (old new : World) : Type 0 where
+pub record AllFill (poll : Poll) (over : Overflow) (paths : List (List ℕ)) (rows : List Row) (old new : World) : Type 0 where
   pub here : Look
   pub earlier : List Turn
   pub each : map path_of (looks_at here ∷ earlier) ≡ reverse (take (length earlier + 1) paths)
@@ -68,5 +69,5 @@ pub record AllFill (poll : Poll) (limit : ℕ) (paths : List (List ℕ)) (rows :
   pub all_misses : missed new.history ≡ misses_of earlier ++ missed old.history
   pub no_unlisted : left_unlisted new.history ≡ left_unlisted old.history
   pub read_on : ReadOn poll (here ∷ looks_of earlier) (progress_of rows [])
-  pub crosses : Crosses limit end (progress_by poll (here ∷ looks_of earlier) (progress_of rows [])).added full
+  pub crosses : Crosses over.limit over.end (progress_by poll (here ∷ looks_of earlier) (progress_of rows [])).added over.size
   pub handles : new.handles ≡ old.handles

@@ -5,7 +5,6 @@ use Rattle.file_tracker.specs.declared.row.Row.{Row}
 use Rattle.file_tracker.specs.Limits.{row_limit}
 use Rattle.state_codec.specs.Rules.{IsShortText}
 use Rattle.standing.specs.Poll.{Poll}
-use Rattle.standing.specs.Rules.{Rules}
 use Rattle.file_pass.specs.Fed.{poll_of, rules_in}
 use Rattle.file_pass.specs.declared.setup.Setup.{Setup}
 use Rattle.file_pass.specs.declared.taking.Taking.{Taking}

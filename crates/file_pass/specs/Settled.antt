@@ -4,6 +4,7 @@ use Rattle.file_tracker.specs.Places.{place_of, with_front}
 use Rattle.file_tracker.specs.declared.row.Row.{Row}
 use Rattle.file_tracker.specs.Limits.{row_limit}
 use Rattle.file_pass.specs.Fed.{rules_in}
+use Rattle.file_pass.specs.declared.ending.SeenFile.{SeenFile}
 use Rattle.file_pass.specs.declared.setup.Setup.{Setup}
 
 -- a file's first row: it begins where it is, or, in a first pass that asks for it, at the file's end
@@ -20,11 +21,11 @@ pub record IsKnown (front : List ℕ) (before : List Row) (place : ℕ) (after :
   pub grown : after ≡ slice_set before place (with_front front row)
 
 -- no row's front begins this one, and a row was added
-pub record IsAdmitted (setup : Setup) (size : ℕ) (path front : List ℕ) (before : List Row) (place : ℕ) (after : List Row) : Type 0 where
-  pub none : place_of front before ≡ None
+pub record IsAdmitted (setup : Setup) (at : SeenFile) (before : List Row) (place : ℕ) (after : List Row) : Type 0 where
+  pub none : place_of at.front.now before ≡ None
   pub room : length before < row_limit
   pub last : place ≡ length before
-  pub added : after ≡ before ++ admitted setup size path front (length before + 1) ∷ []
+  pub added : after ≡ before ++ admitted setup at.file.size at.path.now at.front.now (length before + 1) ∷ []
 
 -- there was no room for a row
 pub record IsLeftOut (front : List ℕ) (before after : List Row) : Type 0 where
@@ -32,6 +33,6 @@ pub record IsLeftOut (front : List ℕ) (before after : List Row) : Type 0 where
   pub all : length before ≡ row_limit
   pub same : after ≡ before
 
-abbrev pub Settles : Setup → ℕ → List ℕ → List ℕ → List Row → Option ℕ → List Row → Type 0
-Settles setup size path front before None after = IsLeftOut front before after
-Settles setup size path front before (Some place) after = IsKnown front before place after ⊎ IsAdmitted setup size path front before place after
+abbrev pub Settles : Setup → SeenFile → List Row → Option ℕ → List Row → Type 0
+Settles setup at before None after = IsLeftOut at.front.now before after
+Settles setup at before (Some place) after = IsKnown at.front.now before place after ⊎ IsAdmitted setup at before place after

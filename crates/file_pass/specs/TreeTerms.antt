@@ -4,6 +4,7 @@ use Rattle.outside.specs.Count.{NeverFalls, Rose}
 use Rattle.outside.specs.TreeMeaning.{TreeMeaning}
 use Rattle.outside.specs.World.{World, Told}
 use Rattle.standing.specs.Moments.{IsLater}
+use Rattle.file_pass.specs.Reads.{Piece, Reads}
 use Rattle.file_pass.specs.declared.ending.Ending.{Ending}
 use Rattle.file_pass.specs.declared.ending.Ending.TheVariants.{Whole, Failed, Shrunk}
 
@@ -39,7 +40,7 @@ HasEnding Shrunk before after = after ≡ before
 HasEnding Failed before after = Rose before after
 
 -- Bytes of an open file were read, into a buffer of at most this length.
-pub record ReadsOnly {T : Type 0} (meaning : TreeMeaning T) (change : World → World → Type 0) (ending : Ending) (taken most : ℕ) (old new : T) : Type 0 where
-  pub world : Told change (meaning.world old) (meaning.world new)
-  pub cause : HasEnding ending (meaning.faults old) (meaning.faults new)
+pub record ReadsOnly {T : Type 0} (meaning : TreeMeaning T) (piece : Piece) (taken most : ℕ) (old new : T) : Type 0 where
+  pub world : Told (Reads piece) (meaning.world old) (meaning.world new)
+  pub cause : HasEnding piece.ending (meaning.faults old) (meaning.faults new)
   pub keeps : KeepsTree meaning most taken old new

@@ -2,6 +2,7 @@
 ghost use Rattle.std.specs.Prelude.{◌≡◌, false, true};
 ghost use Rattle.file_pass.specs.declared.ending.Ending.TheVariants.{Whole};
 
+use entry_model::Text;
 use outside::Handle;
 
 /// An open file, and its length in bytes when it was opened.
@@ -9,6 +10,28 @@ use outside::Handle;
 pub struct OpenFile {
     pub handle: Handle,
     pub size: u64,
+}
+
+/// An open file, and the path under which it was found.
+#[derive(Clone, Copy)]
+pub struct PathFile<'f> {
+    pub path: &'f Text,
+    pub file: OpenFile,
+}
+
+/// An open file of which the first bytes were seen, and its path.
+#[derive(Clone, Copy)]
+pub struct SeenFile<'f> {
+    pub path: &'f Text,
+    pub file: OpenFile,
+    pub front: &'f [u8],
+}
+
+/// An open file, and the place of its row.
+#[derive(Clone, Copy)]
+pub struct RowFile {
+    pub file: OpenFile,
+    pub place: usize,
 }
 
 /// How the reading of a file ended.

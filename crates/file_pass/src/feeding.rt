@@ -2,9 +2,10 @@
 ghost use Rattle.std.specs.Prelude.{◌≡◌, ◌+◌, ◌-◌, ◌<◌, ◌≤◌, ◌^◌, ℕ, List, [], ◌++◌, false, length, Err, IsTrue, IfOk, OnOk};
 ghost use Rattle.outside.specs.declared.disk.DiskFile.{DiskFile};
 ghost use Rattle.file_pass.specs.DiskTerms.{Appends, KeepsDisk};
-ghost use Rattle.file_pass.specs.Fed.{poll_of, FillsPart, FillsUp, HasRead, IsSane, ReadsOn, feeding_row, last_of, rules_in};
+ghost use Rattle.file_pass.specs.Fed.{poll_of, FillsPart, FillsUp, HasRead, IsSane, ReadsOn, feeding_row, last_in, last_of, rules_in};
 ghost use Rattle.file_pass.specs.Flushed.{waiting};
 ghost use Rattle.file_pass.specs.Full.{Crosses, lines_text};
+ghost use Rattle.file_pass.specs.Moment.{feeding_at, meanings, moment};
 ghost use Rattle.file_pass.specs.PassCause.{HasPassCause};
 ghost use Rattle.file_pass.specs.TreeTerms.{KeepsTree};
 ghost use Rattle.pipeline.specs.Parts.{HaveKinds, settings_of};
@@ -23,7 +24,7 @@ use idle_flush::Idle;
 use outside::{Disk, Tree};
 use pipeline::FileState;
 use pipeline::laws::{a_pipeline_is_rules, a_row_is_fed_by_the_rules, a_row_tells_its_state};
-use std::alloc::{AllocError, Global};
+use std::alloc::AllocError;
 
 /// The most bytes past its offset that are taken of a file in one pass: 16 MiB.
 pub const MOST_TAKEN: u64 = 16_777_216;
@@ -31,6 +32,7 @@ pub const MOST_TAKEN: u64 = 16_777_216;
 /// How far a file was read, and what its tokens left.
 #[derive(Drop)]
 pub(crate) struct Feeding {
+    pub file: OpenFile,
     pub id: u32,
     pub path: Text,
     pub offset: u64,
@@ -46,11 +48,9 @@ pub(crate) struct Feeding {
 /// Reads the file on from its offset, and puts the lines of what it has behind the output, which ends at `end`. Where it was
 /// read to its end, what waits behind them is flushed at the look with which it has stood still for as many as the settings ask.
 pub(crate) fn feed_file<T: Tree, D: Disk>(
-    alloc: Global,
     tree: &mut T,
     disk: &mut D,
     setup: &Setup<'_>,
-    file: OpenFile,
     feeding: &mut Feeding,
     end: &mut u64,
     buffer: &mut [u8],
@@ -59,34 +59,34 @@ pub(crate) fn feed_file<T: Tree, D: Disk>(
     requires sane { IsSane setup.now feeding.old end.old }
     requires none { feeding.old.carried.items ≡ [] }
     requires stood { feeding.old.flushed ≡ false }
-    requires begins { feeding.old.offset ≤ file.size }
-    requires size { file.size ≤ 2 ^ 62 }
+    requires begins { feeding.old.offset ≤ feeding.old.file.size }
+    requires size { feeding.old.file.size ≤ 2 ^ 62 }
     requires room { (0 < length buffer.old) × (length buffer.old ≤ 65536) }
     requires ends { IsTrue (D.meaning.images.tells disk.old) → length (D.meaning.images.seen disk.old DiskFile.Output) ≡ end.old }
-    ensures ok { IfOk result (λ ending. ReadsOn T.meaning D.meaning setup.now file feeding.old feeding.new end.old end.new ending tree.old tree.new disk.old disk.new) }
+    ensures ok { IfOk result (λ ending. ReadsOn (meanings T.meaning D.meaning) setup.now ending
+        (feeding_at feeding.old end.old (moment tree.old disk.old)) (feeding_at feeding.new end.new (moment tree.new disk.new))) }
     ensures sane { OnOk result (IsSane setup.now feeding.new end.new) }
-    ensures full { (size : ℕ) → result ≡ Err (PassFault.OutputFull size) → FillsUp T.meaning setup.now file feeding.old end.old size tree.old tree.new }
-    ensures tree { KeepsTree T.meaning (length buffer.old) (last_of file.size feeding.old.offset - feeding.old.offset) tree.old tree.new }
+    ensures full { (size : ℕ) → result ≡ Err (PassFault.OutputFull size)
+        → FillsUp T.meaning setup.now size (feeding_at feeding.old end.old (moment tree.old disk.old)) tree.new }
+    ensures tree { KeepsTree T.meaning (length buffer.old) (last_in feeding.old - feeding.old.offset) tree.old tree.new }
     ensures disk { KeepsDisk D.meaning end.old disk.old disk.new }
     ensures cause { HasPassCause result (D.meaning.faults disk.old) (D.meaning.faults disk.new) }
     ensures long { length buffer.new ≡ length buffer.old }
 {
     a_pipeline_is_rules(setup.pipeline);
-    let offset = feeding.offset;
-    let ending = read_on(alloc, tree, disk, setup, file, feeding, end, buffer)?;
-    if may_flush(setup, file.size, offset, ending) {
-        look_on(alloc, disk, setup, feeding, end)?;
+    let (size, offset) = (feeding.file.size, feeding.offset);
+    let ending = read_on(tree, disk, setup, feeding, end, buffer)?;
+    if may_flush(setup, size, offset, ending) {
+        look_on(disk, setup, feeding, end)?;
     }
     Ok(ending)
 }
 
 // Reads the file on from its offset, and puts the lines of what it has behind the output, which ends at `end`.
 fn read_on<T: Tree, D: Disk>(
-    alloc: Global,
     tree: &mut T,
     disk: &mut D,
     setup: &Setup<'_>,
-    file: OpenFile,
     feeding: &mut Feeding,
     end: &mut u64,
     buffer: &mut [u8],
@@ -94,20 +94,23 @@ fn read_on<T: Tree, D: Disk>(
     requires setup { KeepsLimits (settings_of setup.now.pipeline.now) × (setup.now.limit ≤ 2 ^ 40) }
     requires sane { IsSane setup.now feeding.old end.old }
     requires none { feeding.old.carried.items ≡ [] }
-    requires begins { feeding.old.offset ≤ file.size }
-    requires size { file.size ≤ 2 ^ 62 }
+    requires begins { feeding.old.offset ≤ feeding.old.file.size }
+    requires size { feeding.old.file.size ≤ 2 ^ 62 }
     requires room { (0 < length buffer.old) × (length buffer.old ≤ 65536) }
     requires ends { IsTrue (D.meaning.images.tells disk.old) → length (D.meaning.images.seen disk.old DiskFile.Output) ≡ end.old }
-    ensures ok { IfOk result (λ ending. HasRead T.meaning D.meaning setup.now file feeding.old feeding.new end.old end.new ending tree.old tree.new disk.old disk.new) }
+    ensures ok { IfOk result (λ ending. HasRead (meanings T.meaning D.meaning) setup.now ending
+        (feeding_at feeding.old end.old (moment tree.old disk.old)) (feeding_at feeding.new end.new (moment tree.new disk.new))) }
     ensures sane { OnOk result (IsSane setup.now feeding.new end.new) }
-    ensures full { (size : ℕ) → result ≡ Err (PassFault.OutputFull size) → FillsPart T.meaning setup.now file feeding.old end.old size tree.old tree.new }
-    ensures tree { KeepsTree T.meaning (length buffer.old) (last_of file.size feeding.old.offset - feeding.old.offset) tree.old tree.new }
+    ensures full { (size : ℕ) → result ≡ Err (PassFault.OutputFull size)
+        → FillsPart T.meaning setup.now size (feeding_at feeding.old end.old (moment tree.old disk.old)) tree.new }
+    ensures tree { KeepsTree T.meaning (length buffer.old) (last_in feeding.old - feeding.old.offset) tree.old tree.new }
     ensures disk { KeepsDisk D.meaning end.old disk.old disk.new }
     ensures cause { HasPassCause result (D.meaning.faults disk.old) (D.meaning.faults disk.new) }
     ensures long { length buffer.new ≡ length buffer.old }
 {
     a_pipeline_is_rules(setup.pipeline);
     a_row_tells_its_state(setup.pipeline);
+    let file = feeding.file;
     let last = last_of(file.size, feeding.offset);
     let mut from = feeding.offset;
     while from < last {
@@ -117,7 +120,7 @@ fn read_on<T: Tree, D: Disk>(
         }
         from += count as u64;
         feeding.carried.extend_from_slice(&buffer[..count])?;
-        feed_carried(alloc, disk, setup, feeding, end)?;
+        feed_carried(disk, setup, feeding, end)?;
     }
     Ok(Ending::Whole)
 }
@@ -133,7 +136,6 @@ fn last_of(size: u64, offset: u64) -> u64
 
 // Takes the tokens of the bytes that are carried, which stand from the offset on, and leaves those bytes that no token used.
 fn feed_carried<D: Disk>(
-    alloc: Global,
     disk: &mut D,
     setup: &Setup<'_>,
     feeding: &mut Feeding,
@@ -154,9 +156,9 @@ fn feed_carried<D: Disk>(
     ensures cause { HasPassCause result (D.meaning.faults disk.old) (D.meaning.faults disk.new) }
 {
     a_pipeline_is_rules(setup.pipeline);
-    let mut lines = Vec::new(alloc);
-    let count = feed_bytes(alloc, setup, feeding, &mut lines)?;
-    append(alloc, disk, setup.limit, &lines, end)?;
+    let mut lines = Vec::new(setup.alloc);
+    let count = feed_bytes(setup, feeding, &mut lines)?;
+    append(setup.alloc, disk, setup.limit, &lines, end)?;
     feeding.carried.rotate_left(count);
     feeding.carried.truncate(feeding.carried.len() - count);
     Ok(())
@@ -164,7 +166,6 @@ fn feed_carried<D: Disk>(
 
 // Takes the tokens of the bytes that are carried, which stand from the offset on, and answers how many bytes they used.
 fn feed_bytes(
-    alloc: Global,
     setup: &Setup<'_>,
     feeding: &mut Feeding,
     lines: &mut Vec<u8>,
@@ -187,7 +188,7 @@ fn feed_bytes(
     a_row_is_fed_by_the_rules(setup.pipeline);
     let path = feeding.path.as_str();
     let count = setup.pipeline.feed(
-        alloc,
+        setup.alloc,
         &mut feeding.state,
         feeding.id,
         path,

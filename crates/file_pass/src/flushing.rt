@@ -17,7 +17,7 @@ use crate::setup::Setup;
 use idle_flush::look;
 use outside::Disk;
 use pipeline::laws::a_row_is_flushed_by_the_rules;
-use std::alloc::{AllocError, Global};
+use std::alloc::AllocError;
 
 /// Whether what waits of a file may be flushed that has this size and was read from the offset on: it was read to its end, and
 /// the settings ask for it.
@@ -37,7 +37,6 @@ pub(crate) fn may_flush(setup: &Setup<'_>, size: u64, offset: u64, ending: Endin
 
 /// Remembers a look at a file that was read to its end, and flushes what waits of it where the look says so.
 pub(crate) fn look_on<D: Disk>(
-    alloc: Global,
     disk: &mut D,
     setup: &Setup<'_>,
     feeding: &mut Feeding,
@@ -65,7 +64,7 @@ pub(crate) fn look_on<D: Disk>(
     feeding.idle = idle;
     feeding.flushed = flushes;
     if flushes {
-        flush(alloc, disk, setup, feeding, end)?;
+        flush(disk, setup, feeding, end)?;
     }
     Ok(())
 }
@@ -84,7 +83,6 @@ fn waits(setup: &Setup<'_>, feeding: &Feeding) -> bool
 
 // Takes what waits as the last bytes of its file, closes the operators, and puts the lines of both behind the output.
 fn flush<D: Disk>(
-    alloc: Global,
     disk: &mut D,
     setup: &Setup<'_>,
     feeding: &mut Feeding,
@@ -105,19 +103,14 @@ fn flush<D: Disk>(
     ensures disk { KeepsDisk D.meaning end.old disk.old disk.new }
     ensures cause { HasPassCause result (D.meaning.faults disk.old) (D.meaning.faults disk.new) }
 {
-    let mut lines = Vec::new(alloc);
-    finish(alloc, setup, feeding, &mut lines)?;
-    append(alloc, disk, setup.limit, &lines, end)?;
+    let mut lines = Vec::new(setup.alloc);
+    finish(setup, feeding, &mut lines)?;
+    append(setup.alloc, disk, setup.limit, &lines, end)?;
     Ok(())
 }
 
 // Takes what waits as the last bytes of its file, and closes the operators.
-fn finish(
-    alloc: Global,
-    setup: &Setup<'_>,
-    feeding: &mut Feeding,
-    lines: &mut Vec<u8>,
-) -> Result<(), AllocError>
+fn finish(setup: &Setup<'_>, feeding: &mut Feeding, lines: &mut Vec<u8>) -> Result<(), AllocError>
     requires states { HaveKinds setup.now.pipeline.now feeding.old.state.states.items }
     requires few { (feeding.old.state.records ≤ feeding.old.offset) × (feeding.old.state.lines ≤ 2 ^ 40) }
     requires size { feeding.old.offset + length feeding.old.carried.items ≤ 2 ^ 62 }
@@ -134,7 +127,7 @@ fn finish(
     a_row_is_flushed_by_the_rules(setup.pipeline);
     let path = feeding.path.as_str();
     setup.pipeline.finish(
-        alloc,
+        setup.alloc,
         &mut feeding.state,
         feeding.id,
         path,

@@ -1,6 +1,6 @@
 // The first bytes of an open file.
 ghost use Rattle.std.specs.Prelude.{◌≡◌, ◌≤◌, length, take};
-ghost use Rattle.file_pass.specs.Reads.{Reads};
+ghost use Rattle.file_pass.specs.Reads.{piece_at};
 ghost use Rattle.file_pass.specs.TreeTerms.{ReadsOnly};
 ghost use Rattle.file_pass.specs.declared.ending.Ending.TheVariants.{Whole};
 
@@ -14,7 +14,7 @@ pub(crate) fn read_front<T: Tree>(tree: &mut T, file: OpenFile, front: &mut [u8]
     ensures long { length front.new ≡ length front.old }
     ensures within { result.0 ≤ length front.new }
     ensures whole { result.1 ≡ Whole → result.0 ≡ length front.new }
-    ensures tree { ReadsOnly T.meaning (Reads file.handle.0 0 (length front.old) (take result.0 front.new) result.1) result.1 result.0 (length front.old) tree.old tree.new }
+    ensures tree { ReadsOnly T.meaning (piece_at file.handle.0 0 (length front.old) (take result.0 front.new) result.1) result.0 (length front.old) tree.old tree.new }
 {
     let size = front.len();
     let mut filled = 0;

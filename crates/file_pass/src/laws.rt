@@ -4,16 +4,14 @@ ghost use Rattle.std.specs.Cmp.Lexicographic.{slice_cmp};
 ghost use Rattle.std.specs.List.Sorted.{IsStrictlySortedBy};
 ghost use Rattle.std.specs.Ordering.{nat_cmp};
 ghost use Rattle.file_pass.specs.AllTaken.{AllTaken};
-ghost use Rattle.file_pass.specs.Gain.{Gain};
+ghost use Rattle.file_pass.specs.Step.{Step};
 ghost use Rattle.file_pass.specs.Turns.{looks_of, misses_of};
 ghost use Rattle.file_pass.specs.Unchanged.{FlagsChanges, HasFlagForEach, HasNoFlag, IsNewOrChanged};
 ghost use Rattle.file_pass.specs.declared.taking.Taking.{Taking};
-ghost use Rattle.file_tracker.specs.declared.row.Row.{Row};
 ghost use Rattle.outside.specs.World.{World};
 ghost use Rattle.standing.specs.Poll.{Poll};
 ghost use Rattle.standing.specs.Look.{Look};
 ghost use Rattle.standing.specs.Looks.{Ascend};
-ghost use Rattle.standing.specs.Marks.{Mark};
 ghost use Rattle.standing.specs.Moments.{NamesThroughout};
 ghost use Rattle.standing.specs.Pass.{WasLookedAt};
 ghost use Rattle.standing.specs.Rules.{Rules};
@@ -21,14 +19,14 @@ ghost use Rattle.standing.specs.Rules.{Rules};
 /// Each path of a pass has its turn, in their order: the paths of the looks are among them, and ascend where they do. A path
 /// that named one file all the time was looked at, unless it couldn't be opened.
 pub fn each_path_has_its_turn()
-    ensures ascend { (poll : Poll) (paths : List (List ℕ)) (before after : List Row) (gain : Gain)
-        (added : List Mark) (old new : World) (taken : AllTaken poll paths before after gain added old new)
+    ensures ascend { (poll : Poll) (paths : List (List ℕ)) (step : Step) (old new : World)
+        (taken : AllTaken poll paths step old new)
         → IsStrictlySortedBy (slice_cmp nat_cmp) paths → Ascend (looks_of taken.turns) }
-    ensures among { (poll : Poll) (paths : List (List ℕ)) (before after : List Row) (gain : Gain)
-        (added : List Mark) (old new : World) (taken : AllTaken poll paths before after gain added old new)
+    ensures among { (poll : Poll) (paths : List (List ℕ)) (step : Step) (old new : World)
+        (taken : AllTaken poll paths step old new)
         → (here : Look) → Contains (looks_of taken.turns) here → Contains paths here.path }
-    ensures none_left_out { (poll : Poll) (paths : List (List ℕ)) (before after : List Row) (gain : Gain)
-        (added : List Mark) (old new : World) (taken : AllTaken poll paths before after gain added old new)
+    ensures none_left_out { (poll : Poll) (paths : List (List ℕ)) (step : Step) (old new : World)
+        (taken : AllTaken poll paths step old new)
         (path : List ℕ) (file : ℕ) → Contains paths path → NamesThroughout old.history new.history path file
         → WasLookedAt (looks_of taken.turns) path ⊎ Contains (misses_of taken.turns) path }
 {}

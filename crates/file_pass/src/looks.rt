@@ -9,17 +9,13 @@ use idle_flush::Idle;
 use std::alloc::{AllocError, Global};
 
 /// What is remembered of each file, where the settings ever flush anything.
-pub(crate) fn looks_at(
-    alloc: Global,
-    setup: &Setup<'_>,
-    tracker: &Tracker,
-) -> Result<Vec<Idle>, AllocError>
+pub(crate) fn looks_at(setup: &Setup<'_>, tracker: &Tracker) -> Result<Vec<Idle>, AllocError>
     ensures { IfOk result (λ looks. looks.items ≡ looks_in (rules_in setup.now) tracker.now) }
 {
     if setup.pipeline.flush_after() == 0 {
-        return Ok(Vec::new(alloc));
+        return Ok(Vec::new(setup.alloc));
     }
-    each_look(alloc, tracker)
+    each_look(setup.alloc, tracker)
 }
 
 fn each_look(alloc: Global, tracker: &Tracker) -> Result<Vec<Idle>, AllocError>

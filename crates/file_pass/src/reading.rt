@@ -1,6 +1,6 @@
 // Reading an open file.
 ghost use Rattle.std.specs.Prelude.{◌≡◌, ◌+◌, ◌<◌, ◌≤◌, length, take};
-ghost use Rattle.file_pass.specs.Reads.{Reads};
+ghost use Rattle.file_pass.specs.Reads.{piece_at};
 ghost use Rattle.file_pass.specs.TreeTerms.{ReadsOnly};
 ghost use Rattle.file_pass.specs.declared.ending.Ending.TheVariants.{Whole};
 
@@ -21,7 +21,7 @@ pub(crate) fn read_piece<T: Tree>(
     ensures within { (result.0 ≤ length buffer.new) × (from + result.0 ≤ last) }
     ensures whole { result.1 ≡ Whole → 0 < result.0 }
     ensures none { (result.1 ≡ Whole → ⊥) → result.0 ≡ 0 }
-    ensures tree { ReadsOnly T.meaning (Reads handle.0 from last (take result.0 buffer.new) result.1) result.1 result.0 (length buffer.old) tree.old tree.new }
+    ensures tree { ReadsOnly T.meaning (piece_at handle.0 from last (take result.0 buffer.new) result.1) result.0 (length buffer.old) tree.old tree.new }
 {
     let room = room(last - from, buffer.len());
     match tree.read_at(handle, from, &mut buffer[..room]) {

@@ -12,41 +12,38 @@ ghost use Rattle.settings_text.specs.Limits.{KeepsLimits};
 ghost use Rattle.standing.specs.Rules.{Rules};
 ghost use Rattle.state_codec.specs.Rules.{IsShortText};
 
+use crate::ending::SeenFile;
 use crate::setup::Setup;
 use crate::spelled::first_spelled;
 use crate::taking::Taking;
-use entry_model::Text;
 use file_tracker::{AdmitFault, Bytes, Ends, ROW_LIMIT, Row};
 use settings_text::StartAt;
 use std::alloc::{AllocError, Global};
 
-/// Finds the row of a file of which these first bytes were seen, and makes one where none is known and there is room. It
-/// has this front then. `size` is the file's length.
+/// Finds the row of a file of which the first bytes were seen, and makes one where none is known and there is room. It has
+/// these bytes as its front then.
 pub(crate) fn settle(
-    alloc: Global,
     setup: &Setup<'_>,
-    size: u64,
-    path: &Text,
-    front: &[u8],
+    seen: &SeenFile<'_>,
     taking: &mut Taking,
 ) -> Result<Option<usize>, AllocError>
     requires sane { IsSaneTaking setup.now taking.old }
-    requires size { size ≤ 2 ^ 62 }
-    requires path { IsShortText path.now }
-    requires front { (1 ≤ length front.now) × (length front.now ≤ 4096) }
-    ensures settles { IfOk result (λ place. Settles setup.now size path.now front.now taking.old.tracker place taking.new.tracker) }
+    requires size { seen.now.file.size ≤ 2 ^ 62 }
+    requires path { IsShortText seen.now.path.now }
+    requires front { (1 ≤ length seen.now.front.now) × (length seen.now.front.now ≤ 4096) }
+    ensures settles { IfOk result (λ place. Settles setup.now seen.now taking.old.tracker place taking.new.tracker) }
     ensures sane { OnOk result (IsSaneTaking setup.now taking.new) }
     ensures flags { OnOk result (FlagsGrown setup.now taking.old taking.new) }
     ensures end { taking.new.end ≡ taking.old.end }
     ensures counts { taking.new.counts ≡ taking.old.counts }
 {
-    match taking.tracker.find(front) {
+    match taking.tracker.find(seen.front) {
         Some(place) => {
-            grow(alloc, place, front, taking)?;
+            grow(setup.alloc, place, seen.front, taking)?;
             Ok(Some(place))
         }
         None => {
-            let place = admit(alloc, setup, size, path, front, taking)?;
+            let place = admit(setup, seen, taking)?;
             Ok(place)
         }
     }
@@ -71,16 +68,13 @@ fn grow(alloc: Global, place: usize, front: &[u8], taking: &mut Taking) -> Resul
 
 // Makes a row, where there is room for one.
 fn admit(
-    alloc: Global,
     setup: &Setup<'_>,
-    size: u64,
-    path: &Text,
-    front: &[u8],
+    seen: &SeenFile<'_>,
     taking: &mut Taking,
 ) -> Result<Option<usize>, AllocError>
-    requires unknown { place_of front.now taking.old.tracker ≡ None }
+    requires unknown { place_of seen.now.front.now taking.old.tracker ≡ None }
     requires flags { length taking.old.changed.items ≡ length taking.old.tracker }
-    ensures settles { IfOk result (λ place. Settles setup.now size path.now front.now taking.old.tracker place taking.new.tracker) }
+    ensures settles { IfOk result (λ place. Settles setup.now seen.now taking.old.tracker place taking.new.tracker) }
     ensures fits { IfOk result (λ place. IfSome place (λ _. FreshFits setup.now)) }
     ensures flags { OnOk result (FlagsGrown setup.now taking.old taking.new) }
     ensures long { OnOk result (length taking.new.changed.items ≡ length taking.new.tracker) }
@@ -91,8 +85,8 @@ fn admit(
     if rows >= ROW_LIMIT {
         return Ok(None);
     }
-    let row = new_row(alloc, setup, size, path, front, rows)?;
-    match taking.tracker.admit(alloc, row) {
+    let row = new_row(setup, seen, rows)?;
+    match taking.tracker.admit(setup.alloc, row) {
         Ok(place) => {
             if taking.changed.push(true).is_err() {
                 return Err(AllocError);
@@ -105,30 +99,23 @@ fn admit(
 }
 
 // The row behind so many rows.
-fn new_row(
-    alloc: Global,
-    setup: &Setup<'_>,
-    size: u64,
-    path: &Text,
-    front: &[u8],
-    rows: usize,
-) -> Result<Row, AllocError>
+fn new_row(setup: &Setup<'_>, seen: &SeenFile<'_>, rows: usize) -> Result<Row, AllocError>
     requires { rows < row_limit }
-    ensures row { IfOk result (λ row. row ≡ admitted setup.now size path.now front.now (rows + 1)) }
+    ensures row { IfOk result (λ row. row ≡ admitted setup.now seen.now.file.size seen.now.path.now seen.now.front.now (rows + 1)) }
     ensures fits { OnOk result (FreshFits setup.now) }
 {
-    let start = first_offset(setup, size);
+    let start = first_offset(setup, seen.file.size);
     Ok(Row {
         id: rows as u32 + 1,
-        path: path.share()?,
-        front: Bytes::from_slice(alloc, front)?,
+        path: seen.path.share()?,
+        front: Bytes::from_slice(setup.alloc, seen.front)?,
         start,
         offset: start,
         records: 0,
         lines: 0,
-        state: first_spelled(alloc, setup)?,
+        state: first_spelled(setup)?,
         born: setup.era,
-        ends: Ends::none(alloc),
+        ends: Ends::none(setup.alloc),
         seen: 0,
         quiet: 0,
     })

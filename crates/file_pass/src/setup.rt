@@ -1,8 +1,11 @@
 // What a pass goes by.
 use pipeline::Pipeline;
+use std::alloc::Global;
 
 #[derive(Clone, Copy)]
 pub struct Setup<'s> {
+    /// Where memory is had from.
+    pub alloc: Global,
     /// What the lines are made by.
     pub pipeline: &'s Pipeline,
     /// The settings of which it was built, byte for byte.

@@ -3,8 +3,10 @@ ghost use Rattle.std.specs.Prelude.{◌≡◌, ◌⊎◌, ℕ, ◌<◌, ◌≤�
 ghost use Rattle.file_pass.specs.AllTaken.{TakesAll, TakesOne};
 ghost use Rattle.file_pass.specs.DiskTerms.{KeepsDisk};
 ghost use Rattle.file_pass.specs.Fed.{poll_of, feeding_row, rules_in};
-ghost use Rattle.file_pass.specs.Grown.{HasGrown, LosesNothing};
+ghost use Rattle.file_pass.specs.Full.{overflow};
 ghost use Rattle.file_pass.specs.LookTaken.{OpenTaken, SeenTaken};
+ghost use Rattle.file_pass.specs.Moment.{meanings, moment, rows_at, taking_at};
+ghost use Rattle.file_pass.specs.Noted.{MayBeNoted, noted_row};
 ghost use Rattle.file_pass.specs.Overflow.{AllFill, OpenFills, PathFills, RowFills, SeenFills};
 ghost use Rattle.file_pass.specs.PassCause.{HasPassCause};
 ghost use Rattle.file_pass.specs.PathTaken.{PathTaken};
@@ -12,7 +14,6 @@ ghost use Rattle.file_pass.specs.RowTaken.{RowTaken};
 ghost use Rattle.file_pass.specs.Sane.{IsSaneTaking};
 ghost use Rattle.file_pass.specs.Taken.{Finds, KeepsTreeAt};
 ghost use Rattle.file_pass.specs.Unchanged.{FlagsChanges, FlagsGrown};
-ghost use Rattle.file_tracker.specs.Places.{HasGone, with_progress};
 ghost use Rattle.file_tracker.specs.declared.row.Row.{Row};
 ghost use Rattle.op_kinds.specs.StateTexts.{state_text};
 ghost use Rattle.outside.specs.World.{Told};
@@ -24,7 +25,7 @@ ghost use Rattle.standing.specs.Rules.{Includes};
 ghost use Rattle.state_codec.specs.Rules.{IsShortText};
 
 use crate::counts::Counts;
-use crate::ending::{Ending, OpenFile};
+use crate::ending::{Ending, OpenFile, PathFile, RowFile, SeenFile};
 use crate::fault::PassFault;
 use crate::feeding::{Feeding, MOST_TAKEN, feed_file};
 use crate::found::Found;
@@ -39,7 +40,7 @@ use outside::{CallFault, Disk, Opened, Tree};
 use pipeline::FileState;
 use pipeline::laws::{a_pipeline_is_rules, a_row_tells_its_state};
 use state_codec::CodecFault;
-use std::alloc::{AllocError, Global};
+use std::alloc::AllocError;
 
 // How many bytes are read at once.
 const BUFFER_SIZE: usize = 65_536;
@@ -61,7 +62,6 @@ pub struct Taking {
 /// Of a file at most 16 MiB are taken. `Disk` comes only where a call on the disk failed; `OutputFull` where the output with
 /// the next line would be longer than the limit. After a fault the rows are of no use.
 pub fn take_all<T: Tree, D: Disk>(
-    alloc: Global,
     tree: &mut T,
     disk: &mut D,
     setup: &Setup<'_>,
@@ -73,24 +73,23 @@ pub fn take_all<T: Tree, D: Disk>(
     requires included { (path : List ℕ) → Contains paths.now path → Includes (rules_in setup.now) path }
     requires short { (path : List ℕ) → Contains paths.now path → IsShortText path }
     requires ends { IsTrue (D.meaning.images.tells disk.old) → length (D.meaning.images.seen disk.old DiskFile.Output) ≡ taking.old.end }
-    ensures ok { OnOk result (TakesAll T.meaning D.meaning setup.now paths.now taking.old taking.new tree.old tree.new disk.old disk.new) }
+    ensures ok { OnOk result (TakesAll (meanings T.meaning D.meaning) setup.now paths.now (taking_at taking.old (moment tree.old disk.old)) (taking_at taking.new (moment tree.new disk.new))) }
     ensures sane { OnOk result (IsSaneTaking setup.now taking.new) }
     ensures flags { OnOk result (FlagsChanges taking.old taking.new) }
     ensures full { (size : ℕ) → result ≡ Err (PassFault.OutputFull size)
-        → Told (AllFill (poll_of setup.now) setup.now.limit paths.now taking.old.tracker taking.old.end size) (T.meaning.world tree.old) (T.meaning.world tree.new) }
+        → Told (AllFill (poll_of setup.now) (overflow setup.now.limit taking.old.end size) paths.now taking.old.tracker) (T.meaning.world tree.old) (T.meaning.world tree.new) }
     ensures tree { KeepsTreeAt T.meaning BUFFER_SIZE tree.old tree.new }
     ensures disk { KeepsDisk D.meaning taking.old.end disk.old disk.new }
     ensures cause { HasPassCause result (D.meaning.faults disk.old) (D.meaning.faults disk.new) }
 {
-    let looks = looks_at(alloc, setup, &taking.tracker)?;
-    take_each(alloc, tree, disk, setup, paths, taking)?;
+    let looks = looks_at(setup, &taking.tracker)?;
+    take_each(tree, disk, setup, paths, taking)?;
     flag_looks(&looks, &taking.tracker, &mut taking.changed);
     Ok(())
 }
 
 // Takes the paths in turn, and flags the rows that are new or have grown.
 fn take_each<T: Tree, D: Disk>(
-    alloc: Global,
     tree: &mut T,
     disk: &mut D,
     setup: &Setup<'_>,
@@ -102,26 +101,25 @@ fn take_each<T: Tree, D: Disk>(
     requires included { (path : List ℕ) → Contains paths.now path → Includes (rules_in setup.now) path }
     requires short { (path : List ℕ) → Contains paths.now path → IsShortText path }
     requires ends { IsTrue (D.meaning.images.tells disk.old) → length (D.meaning.images.seen disk.old DiskFile.Output) ≡ taking.old.end }
-    ensures ok { OnOk result (TakesAll T.meaning D.meaning setup.now paths.now taking.old taking.new tree.old tree.new disk.old disk.new) }
+    ensures ok { OnOk result (TakesAll (meanings T.meaning D.meaning) setup.now paths.now (taking_at taking.old (moment tree.old disk.old)) (taking_at taking.new (moment tree.new disk.new))) }
     ensures sane { OnOk result (IsSaneTaking setup.now taking.new) }
     ensures flags { OnOk result (FlagsGrown setup.now taking.old taking.new) }
     ensures full { (size : ℕ) → result ≡ Err (PassFault.OutputFull size)
-        → Told (AllFill (poll_of setup.now) setup.now.limit paths.now taking.old.tracker taking.old.end size) (T.meaning.world tree.old) (T.meaning.world tree.new) }
+        → Told (AllFill (poll_of setup.now) (overflow setup.now.limit taking.old.end size) paths.now taking.old.tracker) (T.meaning.world tree.old) (T.meaning.world tree.new) }
     ensures tree { KeepsTreeAt T.meaning BUFFER_SIZE tree.old tree.new }
     ensures disk { KeepsDisk D.meaning taking.old.end disk.old disk.new }
     ensures cause { HasPassCause result (D.meaning.faults disk.old) (D.meaning.faults disk.new) }
 {
     taking.counts.stand();
-    let mut buffer = vec![in alloc; 0; BUFFER_SIZE]?;
+    let mut buffer = vec![in setup.alloc; 0; BUFFER_SIZE]?;
     for path in paths {
-        take_path(alloc, tree, disk, setup, path, taking, &mut buffer)?;
+        take_path(tree, disk, setup, path, taking, &mut buffer)?;
     }
     Ok(())
 }
 
 // Takes one path, and counts what was found there.
 fn take_path<T: Tree, D: Disk>(
-    alloc: Global,
     tree: &mut T,
     disk: &mut D,
     setup: &Setup<'_>,
@@ -135,25 +133,24 @@ fn take_path<T: Tree, D: Disk>(
     requires short { IsShortText path.now }
     requires room { (0 < length buffer.old) × (length buffer.old ≤ BUFFER_SIZE) }
     requires ends { IsTrue (D.meaning.images.tells disk.old) → length (D.meaning.images.seen disk.old DiskFile.Output) ≡ taking.old.end }
-    ensures ok { OnOk result (TakesOne T.meaning D.meaning setup.now path.now taking.old taking.new tree.old tree.new disk.old disk.new) }
+    ensures ok { OnOk result (TakesOne (meanings T.meaning D.meaning) setup.now path.now (taking_at taking.old (moment tree.old disk.old)) (taking_at taking.new (moment tree.new disk.new))) }
     ensures sane { OnOk result (IsSaneTaking setup.now taking.new) }
     ensures flags { OnOk result (FlagsGrown setup.now taking.old taking.new) }
     ensures full { (size : ℕ) → result ≡ Err (PassFault.OutputFull size)
-        → Told (PathFills (poll_of setup.now) setup.now.limit path.now taking.old.tracker taking.old.end size) (T.meaning.world tree.old) (T.meaning.world tree.new) }
+        → Told (PathFills (poll_of setup.now) (overflow setup.now.limit taking.old.end size) path.now taking.old.tracker) (T.meaning.world tree.old) (T.meaning.world tree.new) }
     ensures tree { KeepsTreeAt T.meaning BUFFER_SIZE tree.old tree.new }
     ensures disk { KeepsDisk D.meaning taking.old.end disk.old disk.new }
     ensures cause { HasPassCause result (D.meaning.faults disk.old) (D.meaning.faults disk.new) }
     ensures long { length buffer.new ≡ length buffer.old }
 {
     a_pipeline_is_rules(setup.pipeline);
-    let found = open_path(alloc, tree, disk, setup, path, taking, buffer)?;
+    let found = open_path(tree, disk, setup, path, taking, buffer)?;
     taking.counts = taking.counts.with(found);
     Ok(())
 }
 
 // Opens one path, takes the file that has it, and closes it.
 fn open_path<T: Tree, D: Disk>(
-    alloc: Global,
     tree: &mut T,
     disk: &mut D,
     setup: &Setup<'_>,
@@ -167,22 +164,23 @@ fn open_path<T: Tree, D: Disk>(
     requires short { IsShortText path.now }
     requires room { (0 < length buffer.old) × (length buffer.old ≤ BUFFER_SIZE) }
     requires ends { IsTrue (D.meaning.images.tells disk.old) → length (D.meaning.images.seen disk.old DiskFile.Output) ≡ taking.old.end }
-    ensures ok { IfOk result (λ found. Finds T.meaning D.meaning (PathTaken (poll_of setup.now) path.now taking.old.tracker taking.new.tracker)
-        found taking.old.end taking.new.end tree.old tree.new disk.old disk.new) }
+    ensures ok { IfOk result (λ found. Finds (meanings T.meaning D.meaning) (PathTaken (poll_of setup.now) path.now) found
+        (rows_at taking.old (moment tree.old disk.old)) (rows_at taking.new (moment tree.new disk.new))) }
     ensures counts { taking.new.counts ≡ taking.old.counts }
     ensures sane { OnOk result (IsSaneTaking setup.now taking.new) }
     ensures flags { OnOk result (FlagsGrown setup.now taking.old taking.new) }
     ensures full { (size : ℕ) → result ≡ Err (PassFault.OutputFull size)
-        → Told (PathFills (poll_of setup.now) setup.now.limit path.now taking.old.tracker taking.old.end size) (T.meaning.world tree.old) (T.meaning.world tree.new) }
+        → Told (PathFills (poll_of setup.now) (overflow setup.now.limit taking.old.end size) path.now taking.old.tracker) (T.meaning.world tree.old) (T.meaning.world tree.new) }
     ensures tree { KeepsTreeAt T.meaning BUFFER_SIZE tree.old tree.new }
     ensures disk { KeepsDisk D.meaning taking.old.end disk.old disk.new }
     ensures cause { HasPassCause result (D.meaning.faults disk.old) (D.meaning.faults disk.new) }
     ensures long { length buffer.new ≡ length buffer.old }
 {
-    match tree.open_file(alloc, path.as_str()) {
+    match tree.open_file(setup.alloc, path.as_str()) {
         Ok(Opened::File { handle, size }) => {
             let file = OpenFile { handle, size };
-            let found = take_opened(alloc, tree, disk, setup, path, file, taking, buffer);
+            let opened = PathFile { path, file };
+            let found = take_opened(tree, disk, setup, &opened, taking, buffer);
             tree.close(handle);
             found
         }
@@ -195,33 +193,32 @@ fn open_path<T: Tree, D: Disk>(
 
 // Takes an open file that was found under this path.
 fn take_opened<T: Tree, D: Disk>(
-    alloc: Global,
     tree: &mut T,
     disk: &mut D,
     setup: &Setup<'_>,
-    path: &Text,
-    file: OpenFile,
+    opened: &PathFile<'_>,
     taking: &mut Taking,
     buffer: &mut [u8],
 ) -> Result<Found, PassFault>
     requires setup { KeepsLimits (settings_of setup.now.pipeline.now) × (setup.now.limit ≤ 2 ^ 40) }
     requires sane { IsSaneTaking setup.now taking.old }
-    requires size { file.size ≤ 2 ^ 62 }
-    requires short { IsShortText path.now }
+    requires size { opened.now.file.size ≤ 2 ^ 62 }
+    requires short { IsShortText opened.now.path.now }
     requires room { (0 < length buffer.old) × (length buffer.old ≤ BUFFER_SIZE) }
     requires ends { IsTrue (D.meaning.images.tells disk.old) → length (D.meaning.images.seen disk.old DiskFile.Output) ≡ taking.old.end }
-    ensures ok { IfOk result (λ found. Finds T.meaning D.meaning (OpenTaken (poll_of setup.now) path.now file taking.old.tracker taking.new.tracker)
-        found taking.old.end taking.new.end tree.old tree.new disk.old disk.new) }
+    ensures ok { IfOk result (λ found. Finds (meanings T.meaning D.meaning) (OpenTaken (poll_of setup.now) opened.now) found
+        (rows_at taking.old (moment tree.old disk.old)) (rows_at taking.new (moment tree.new disk.new))) }
     ensures counts { taking.new.counts ≡ taking.old.counts }
     ensures sane { OnOk result (IsSaneTaking setup.now taking.new) }
     ensures flags { OnOk result (FlagsGrown setup.now taking.old taking.new) }
     ensures full { (size : ℕ) → result ≡ Err (PassFault.OutputFull size)
-        → Told (OpenFills (poll_of setup.now) setup.now.limit path.now file taking.old.tracker taking.old.end size) (T.meaning.world tree.old) (T.meaning.world tree.new) }
+        → Told (OpenFills (poll_of setup.now) (overflow setup.now.limit taking.old.end size) opened.now taking.old.tracker) (T.meaning.world tree.old) (T.meaning.world tree.new) }
     ensures tree { KeepsTreeAt T.meaning BUFFER_SIZE tree.old tree.new }
     ensures disk { KeepsDisk D.meaning taking.old.end disk.old disk.new }
     ensures cause { HasPassCause result (D.meaning.faults disk.old) (D.meaning.faults disk.new) }
     ensures long { length buffer.new ≡ length buffer.old }
 {
+    let PathFile { path, file } = *opened;
     if file.size == 0 {
         return Ok(Found::Nothing);
     }
@@ -232,37 +229,35 @@ fn take_opened<T: Tree, D: Disk>(
     if !ending.is_whole() {
         return Ok(Found::Unread(ending));
     }
-    let found = take_seen(alloc, tree, disk, setup, path, file, front, taking, buffer)?;
+    let seen = SeenFile { path, file, front };
+    let found = take_seen(tree, disk, setup, &seen, taking, buffer)?;
     Ok(found)
 }
 
 // Takes an open file of which the front was read.
 fn take_seen<T: Tree, D: Disk>(
-    alloc: Global,
     tree: &mut T,
     disk: &mut D,
     setup: &Setup<'_>,
-    path: &Text,
-    file: OpenFile,
-    front: &[u8],
+    seen: &SeenFile<'_>,
     taking: &mut Taking,
     buffer: &mut [u8],
 ) -> Result<Found, PassFault>
     requires setup { KeepsLimits (settings_of setup.now.pipeline.now) × (setup.now.limit ≤ 2 ^ 40) }
     requires sane { IsSaneTaking setup.now taking.old }
-    requires size { file.size ≤ 2 ^ 62 }
-    requires short { IsShortText path.now }
-    requires begins { length front.now ≤ file.size }
-    requires front { (1 ≤ length front.now) × (length front.now ≤ 4096) }
+    requires size { seen.now.file.size ≤ 2 ^ 62 }
+    requires short { IsShortText seen.now.path.now }
+    requires begins { length seen.now.front.now ≤ seen.now.file.size }
+    requires front { (1 ≤ length seen.now.front.now) × (length seen.now.front.now ≤ 4096) }
     requires room { (0 < length buffer.old) × (length buffer.old ≤ BUFFER_SIZE) }
     requires ends { IsTrue (D.meaning.images.tells disk.old) → length (D.meaning.images.seen disk.old DiskFile.Output) ≡ taking.old.end }
-    ensures ok { IfOk result (λ found. Finds T.meaning D.meaning (SeenTaken (poll_of setup.now) path.now file front.now taking.old.tracker taking.new.tracker)
-        found taking.old.end taking.new.end tree.old tree.new disk.old disk.new) }
+    ensures ok { IfOk result (λ found. Finds (meanings T.meaning D.meaning) (SeenTaken (poll_of setup.now) seen.now) found
+        (rows_at taking.old (moment tree.old disk.old)) (rows_at taking.new (moment tree.new disk.new))) }
     ensures counts { taking.new.counts ≡ taking.old.counts }
     ensures sane { OnOk result (IsSaneTaking setup.now taking.new) }
     ensures flags { OnOk result (FlagsGrown setup.now taking.old taking.new) }
     ensures full { (size : ℕ) → result ≡ Err (PassFault.OutputFull size)
-        → Told (SeenFills (poll_of setup.now) setup.now.limit path.now file front.now taking.old.tracker taking.old.end size) (T.meaning.world tree.old) (T.meaning.world tree.new) }
+        → Told (SeenFills (poll_of setup.now) (overflow setup.now.limit taking.old.end size) seen.now taking.old.tracker) (T.meaning.world tree.old) (T.meaning.world tree.new) }
     ensures tree { KeepsTreeAt T.meaning BUFFER_SIZE tree.old tree.new }
     ensures disk { KeepsDisk D.meaning taking.old.end disk.old disk.new }
     ensures cause { HasPassCause result (D.meaning.faults disk.old) (D.meaning.faults disk.new) }
@@ -270,12 +265,14 @@ fn take_seen<T: Tree, D: Disk>(
 {
     a_pipeline_is_rules(setup.pipeline);
     // A gzip file begins so (RFC 1952, section 2.3.1).
-    if front.starts_with(&[0x1f, 0x8b]) {
+    if seen.front.starts_with(&[0x1f, 0x8b]) {
         return Ok(Found::Compressed);
     }
-    match settle(alloc, setup, file.size, path, front, taking)? {
+    match settle(setup, seen, taking)? {
         Some(place) => {
-            let found = take_row(alloc, tree, disk, setup, file, place, taking, buffer)?;
+            let file = seen.file;
+            let at = RowFile { file, place };
+            let found = take_row(tree, disk, setup, at, taking, buffer)?;
             Ok(found)
         }
         None => Ok(Found::NoRoom),
@@ -284,51 +281,41 @@ fn take_seen<T: Tree, D: Disk>(
 
 // Reads on the open file whose row is at this place.
 fn take_row<T: Tree, D: Disk>(
-    alloc: Global,
     tree: &mut T,
     disk: &mut D,
     setup: &Setup<'_>,
-    file: OpenFile,
-    place: usize,
+    at: RowFile,
     taking: &mut Taking,
     buffer: &mut [u8],
 ) -> Result<Found, PassFault>
     requires setup { KeepsLimits (settings_of setup.now.pipeline.now) × (setup.now.limit ≤ 2 ^ 40) }
     requires sane { IsSaneTaking setup.now taking.old }
-    requires size { file.size ≤ 2 ^ 62 }
-    requires in_range { place < length taking.old.tracker }
+    requires size { at.file.size ≤ 2 ^ 62 }
+    requires in_range { at.place < length taking.old.tracker }
     requires room { (0 < length buffer.old) × (length buffer.old ≤ BUFFER_SIZE) }
     requires ends { IsTrue (D.meaning.images.tells disk.old) → length (D.meaning.images.seen disk.old DiskFile.Output) ≡ taking.old.end }
-    ensures ok { IfOk result (λ found. Finds T.meaning D.meaning (RowTaken (poll_of setup.now) file place taking.old.tracker taking.new.tracker found)
-        found taking.old.end taking.new.end tree.old tree.new disk.old disk.new) }
+    ensures ok { IfOk result (λ found. Finds (meanings T.meaning D.meaning) (RowTaken (poll_of setup.now) at found) found
+        (rows_at taking.old (moment tree.old disk.old)) (rows_at taking.new (moment tree.new disk.new))) }
     ensures counts { taking.new.counts ≡ taking.old.counts }
     ensures sane { OnOk result (IsSaneTaking setup.now taking.new) }
     ensures flags { OnOk result (FlagsGrown setup.now taking.old taking.new) }
     ensures full { (size : ℕ) → result ≡ Err (PassFault.OutputFull size)
-        → Told (RowFills (poll_of setup.now) setup.now.limit file place taking.old.tracker taking.old.end size) (T.meaning.world tree.old) (T.meaning.world tree.new) }
+        → Told (RowFills (poll_of setup.now) (overflow setup.now.limit taking.old.end size) at taking.old.tracker) (T.meaning.world tree.old) (T.meaning.world tree.new) }
     ensures tree { KeepsTreeAt T.meaning BUFFER_SIZE tree.old tree.new }
     ensures disk { KeepsDisk D.meaning taking.old.end disk.old disk.new }
     ensures cause { HasPassCause result (D.meaning.faults disk.old) (D.meaning.faults disk.new) }
     ensures long { length buffer.new ≡ length buffer.old }
 {
     a_pipeline_is_rules(setup.pipeline);
+    let RowFile { file, place } = at;
     let row = taking.tracker.row(place);
     if file.size < row.offset {
         return Ok(Found::Shorter);
     }
     let (offset, lines) = (row.offset, row.lines);
-    let mut feeding = feeding_of(alloc, setup, row)?;
-    let ending = feed_file(
-        alloc,
-        tree,
-        disk,
-        setup,
-        file,
-        &mut feeding,
-        &mut taking.end,
-        buffer,
-    )?;
-    note_progress(alloc, setup, place, &feeding, taking)?;
+    let mut feeding = feeding_of(setup, file, row)?;
+    let ending = feed_file(tree, disk, setup, &mut feeding, &mut taking.end, buffer)?;
+    note_progress(setup, place, &feeding, taking)?;
     let looked = feeding.idle;
     taking.tracker.note(place, looked.seen, looked.quiet);
     Ok(Found::Read {
@@ -347,39 +334,39 @@ fn has_more(ending: Ending, past: u64) -> bool
 }
 
 // Where reading of the row's file goes on.
-fn feeding_of(alloc: Global, setup: &Setup<'_>, row: &Row) -> Result<Feeding, AllocError>
+fn feeding_of(setup: &Setup<'_>, file: OpenFile, row: &Row) -> Result<Feeding, AllocError>
     requires { IsTrue ((rules_in setup.now).is_state row.now.state) }
     ensures row { IfOk result (λ feeding. feeding_row feeding ≡ record row.now { front = []; start = 0; born = 0; ends = [] }) }
     ensures none { IfOk result (λ feeding. (feeding.carried.items ≡ []) × (feeding.flushed ≡ false)) }
+    ensures file { IfOk result (λ feeding. feeding.file ≡ file) }
     ensures idle { IfOk result (λ feeding. (feeding.idle.seen < 2 ^ 64) × (feeding.idle.quiet < 2 ^ 32)) }
     ensures kinds { IfOk result (λ feeding. HaveKinds setup.now.pipeline.now feeding.state.states.items) }
 {
     let path = row.path.share()?;
-    let state = restored(alloc, setup, row, row.state.as_slice())?;
+    let state = restored(setup, row, row.state.as_slice())?;
     Ok(Feeding {
+        file,
         id: row.id,
         path,
         offset: row.offset,
         state,
-        carried: Vec::new(alloc),
+        carried: Vec::new(setup.alloc),
         idle: idle(row),
         flushed: false,
     })
 }
 
 // The state that these bytes spell, with the counts of a row.
-fn restored(
-    alloc: Global,
-    setup: &Setup<'_>,
-    row: &Row,
-    bytes: &[u8],
-) -> Result<FileState, AllocError>
+fn restored(setup: &Setup<'_>, row: &Row, bytes: &[u8]) -> Result<FileState, AllocError>
     requires { IsTrue ((rules_in setup.now).is_state bytes.now) }
     ensures state { IfOk result (IsStateOf setup.now.pipeline.now row.now.records row.now.lines bytes.now) }
     ensures kinds { IfOk result (λ state. HaveKinds setup.now.pipeline.now state.states.items) }
 {
     a_row_tells_its_state(setup.pipeline);
-    match setup.pipeline.restore(alloc, row.records, row.lines, bytes) {
+    match setup
+        .pipeline
+        .restore(setup.alloc, row.records, row.lines, bytes)
+    {
         Ok(state) => Ok(state),
         Err(CodecFault::Malformed { .. }) => unreachable!(),
         Err(CodecFault::Memory) => Err(AllocError),
@@ -388,7 +375,6 @@ fn restored(
 
 // Notes in the row how far it was read, where that is further than before or its groups were closed.
 fn note_progress(
-    alloc: Global,
     setup: &Setup<'_>,
     place: usize,
     feeding: &Feeding,
@@ -397,16 +383,8 @@ fn note_progress(
     requires kinds { HaveKinds setup.now.pipeline.now feeding.now.state.states.items }
     requires in_range { place < length taking.old.tracker }
     requires flags { length taking.old.changed.items ≡ length taking.old.tracker }
-    requires same { (row : Row) → slice_get taking.old.tracker place ≡ Some row → feeding.now.flushed ≡ false → feeding.now.offset ≤ row.offset
-        → with_progress feeding.now.offset feeding.now.state.records feeding.now.state.lines (state_text feeding.now.state.states.items) row ≡ row }
-    requires grown { (row : Row) → slice_get taking.old.tracker place ≡ Some row → feeding.now.flushed ≡ true
-        → HasGrown (rules_in setup.now) row (with_progress feeding.now.offset feeding.now.state.records feeding.now.state.lines (state_text feeding.now.state.states.items) row) }
-    requires rises { (row : Row) → slice_get taking.old.tracker place ≡ Some row
-        → HasGone row feeding.now.offset feeding.now.state.records feeding.now.state.lines }
-    requires held { (row : Row) → slice_get taking.old.tracker place ≡ Some row
-        → LosesNothing (rules_in setup.now) row (with_progress feeding.now.offset feeding.now.state.records feeding.now.state.lines (state_text feeding.now.state.states.items) row) }
-    ensures row { OnOk result ((row : Row) → slice_get taking.old.tracker place ≡ Some row → taking.new.tracker
-        ≡ slice_set taking.old.tracker place (with_progress feeding.now.offset feeding.now.state.records feeding.now.state.lines (state_text feeding.now.state.states.items) row)) }
+    requires noted { (row : Row) → slice_get taking.old.tracker place ≡ Some row → MayBeNoted (rules_in setup.now) feeding.now row }
+    ensures row { OnOk result ((row : Row) → slice_get taking.old.tracker place ≡ Some row → taking.new.tracker ≡ slice_set taking.old.tracker place (noted_row feeding.now row)) }
     ensures short { OnOk result ((row : Row) → slice_get taking.old.tracker place ≡ Some row → length row.state < 2 ^ 32
         → length (state_text feeding.now.state.states.items) < 2 ^ 32) }
     ensures flags { OnOk result (FlagsGrown setup.now taking.old taking.new) }
@@ -416,7 +394,7 @@ fn note_progress(
 {
     if has_grown(feeding, taking.tracker.row(place).offset) {
         let state = &feeding.state;
-        let bytes = spelled(alloc, setup, state)?;
+        let bytes = spelled(setup, state)?;
         taking.tracker.advance(
             place,
             feeding.offset,

@@ -12,6 +12,7 @@ use Rattle.lifetimes.proofs.LargeLemmas.{fills_large}
 use Rattle.lifetimes.proofs.OwnLemmas.{undisturbed_by}
 use Rattle.lifetimes.proofs.SmallLemmas.{small_whole}
 use Rattle.lifetimes.proofs.TreeLemmas.{history_cleared}
+use Rattle.file_pass.specs.Moment.{Meanings, meanings, moment}
 use Rattle.file_pass.specs.TreeTerms.{GoesLater}
 use Rattle.mem_world.proofs.TreeTelling.{change_told, lawful_told, told_stays}
 use Rattle.mem_world.specs.TreeTold.{TreeState, told_world, unplanned}
@@ -51,7 +52,7 @@ use Rattle.poll_core.proofs.StoodLemmas.{stands_before}
 use Rattle.poll_core.specs.IsSession.{IsSession}
 use Rattle.poll_core.specs.LeavesTree.{LeavesTree}
 use Rattle.poll_core.specs.Overflows.{Overflows}
-use Rattle.poll_core.specs.Polled.{MayGain, IsStanding, IsSummed, Stays, Polled, counts_of, stretch_of}
+use Rattle.poll_core.specs.Polled.{MayGain, IsStanding, IsSummed, Stays, Polled, advance, counting, stretch_of}
 use Rattle.poll_core.specs.Remembers.{EndsWithMemory}
 use Rattle.poll_core.specs.Summed.{sums_of}
 use Rattle.poll_core.specs.declared.summary.Summary.{Summary}
@@ -77,6 +78,10 @@ use Rattle.standing.specs.Rows.{Checkpoint}
 use Rattle.standing.specs.Stands.{Stands}
 use Rattle.standing.specs.Times.{NoneLater}
 use Rattle.standing.specs.Sums.{AreSums, Sums}
+
+-- what the outside of a script means
+abbrev means : Meanings MemTree MemDisk
+means = meanings tree_meaning disk_meaning
 
 -- ---- counts
 
@@ -146,7 +151,7 @@ is_stopped halt disk fused stopped left same later limit still within image =
 
 -- ---- polls
 
-steps_by : (session : Session) (tree tree_after : MemTree) (disk disk_after : MemDisk) → Passes disk_images (Stays session) disk disk_after ⊎ MayGain tree_meaning disk_meaning session tree tree_after disk disk_after → StepsBy session disk disk_after
+steps_by : (session : Session) (tree tree_after : MemTree) (disk disk_after : MemDisk) → Passes disk_images (Stays session) disk disk_after ⊎ MayGain means session (moment tree disk) (moment tree_after disk_after) → StepsBy session disk disk_after
 steps_by session tree tree_after disk disk_after (inl stays) = inl stays
 steps_by session tree tree_after disk disk_after (inr gain) = inr (gain.after, gain.added, gain.comes, gain.crash)
 
@@ -154,13 +159,13 @@ later_by : (session : Session) (disk disk_after : MemDisk) → StepsBy session d
 later_by session disk disk_after (inl stays) = stays.later
 later_by session disk disk_after (inr gain) = gain.3.later
 
-pub polled_later : (session : Session) (tree tree_after : MemTree) (disk disk_after : MemDisk) → Passes disk_images (Stays session) disk disk_after ⊎ MayGain tree_meaning disk_meaning session tree tree_after disk disk_after → moment_of disk ≤ moment_of disk_after
+pub polled_later : (session : Session) (tree tree_after : MemTree) (disk disk_after : MemDisk) → Passes disk_images (Stays session) disk disk_after ⊎ MayGain means session (moment tree disk) (moment tree_after disk_after) → moment_of disk ≤ moment_of disk_after
 polled_later session tree tree_after disk disk_after crash = later_by session disk disk_after (steps_by session tree tree_after disk disk_after crash)
 
 -- `disk` may be one on which a stop is set
 disk_polled : (rules : Rules) (past : Past) (session : Session) (tree tree_after : MemTree) (disk disk_after : MemDisk) (early : Bool)
     → IsReady session disk → IsOpened rules session → past.history ≡ history_of tree → LeavesAt rules past disk
-    → Passes disk_images (Stays session) disk disk_after ⊎ MayGain tree_meaning disk_meaning session tree tree_after disk disk_after
+    → Passes disk_images (Stays session) disk disk_after ⊎ MayGain means session (moment tree disk) (moment tree_after disk_after)
     → (IsTrue early → Passes disk_images (Stays session) disk disk_after)
     → KeepsStandingSince disk_images (rules_of_session session) disk disk_after (state_of tree).world (state_of tree_after).world → IsLater (history_of tree) (history_of tree_after)
     → LeavesAt rules (polled past (history_of tree_after) early) disk_after
@@ -181,7 +186,7 @@ not_false is = let never : false ≡ true = is in cc
 -- a poll that no stop ends, and then what it didn't reach is dropped
 pub disk_through : (rules : Rules) (waits : Waits) (past : Past) (session : Session) (tree tree_after cleared : MemTree) (disk disk_after disk_cleared : MemDisk)
     → IsReady session disk → MayPoll rules waits past session tree disk
-    → Passes disk_images (Stays session) disk disk_after ⊎ MayGain tree_meaning disk_meaning session tree tree_after disk disk_after
+    → Passes disk_images (Stays session) disk disk_after ⊎ MayGain means session (moment tree disk) (moment tree_after disk_after)
     → KeepsStandingSince disk_images (rules_of_session session) disk disk_after (state_of tree).world (state_of tree_after).world → IsLater (history_of tree) (history_of tree_after)
     → IsWell (dropped waits.disk) disk_cleared → log_of disk_cleared ≡ log_of disk_after → state_of cleared ≡ unplanned (state_of tree_after)
     → IsDiskAt rules (polled past (history_of cleared) false) (dropped waits.disk) disk_cleared
@@ -196,7 +201,7 @@ disk_through rules waits past session tree tree_after cleared disk disk_after di
 -- a poll on a disk on which a stop is set, before the crash
 pub disk_stopped : (rules : Rules) (waits : Waits) (past : Past) (session : Session) (tree tree_after cleared : MemTree) (disk fused disk_after : MemDisk) (halt : Halt)
     → IsReady session disk → MayPoll rules waits past session tree disk → log_of fused ≡ log_of disk → most_done fused ≡ Some (done_count (log_of disk) + halt.calls)
-    → Passes disk_images (Stays session) fused disk_after ⊎ MayGain tree_meaning disk_meaning session tree tree_after fused disk_after
+    → Passes disk_images (Stays session) fused disk_after ⊎ MayGain means session (moment tree fused) (moment tree_after disk_after)
     → (DoneFewer 4 (done_of fused) (done_of disk_after) → Passes disk_images (Stays session) fused disk_after)
     → KeepsStandingSince disk_images (rules_of_session session) fused disk_after (state_of tree).world (state_of tree_after).world → IsLater (history_of tree) (history_of tree_after)
     → most_done disk_after ≡ most_done fused → IfSome (most_done disk_after) (λ (most : ℕ). done_count (log_of disk_after) ≤ most)
@@ -270,15 +275,15 @@ abbrev Summed : Stretch → List Look → Checkpoint → Checkpoint → List Mar
 Summed stretch looks before after added sums asked = (pass : Pass asked stretch looks before after added) × AreSums asked stretch looks before after added pass sums
 
 pub goes_on : OneSet → (rules : Rules) (waits : Waits) (past : Past) (session next : Session) (summary : Summary) (tree tree_after : MemTree) (disk disk_after : MemDisk)
-    → IsReady session disk → MayPoll rules waits past session tree disk → Polled tree_meaning disk_meaning session next summary tree tree_after disk disk_after
+    → IsReady session disk → MayPoll rules waits past session tree disk → Polled means session next summary (moment tree disk) (moment tree_after disk_after)
     → IsTelling tree tree_after → IsLawful (history_of tree_after) → GoesBy waits.plan (history_of tree) (history_of tree_after) → (state_of tree).faults ≤ (state_of tree_after).faults → (state_of tree_after).faults ≤ (state_of tree).faults + waits.tree.waiting
     → GoesOn rules waits (history_of tree_after) disk_after (Some next)
 goes_on one_set rules waits past session next summary tree tree_after disk disk_after ready may done telling lawful goes later few =
     let own = may.opened.rules_are in
     let first : Bool = is_first session in
     let stretch : Stretch = stretch_of (history_of tree) (history_of tree_after) (state_of tree).faults (state_of tree_after).faults in
-    let pass : IsSummed session (checkpoint_of_session next) done.added summary (counts_of tree_meaning tree) (counts_of tree_meaning tree_after) (state_of tree).world (state_of tree_after).world =
-    change_told (IsSummed session (checkpoint_of_session next) done.added summary (counts_of tree_meaning tree) (counts_of tree_meaning tree_after)) (state_of tree) (state_of tree_after) telling.0 telling.1 done.pass in (
+    let pass : IsSummed session (advance (checkpoint_of_session next) done.added) summary (counting tree_meaning tree tree_after) (state_of tree).world (state_of tree_after).world =
+    change_told (IsSummed session (advance (checkpoint_of_session next) done.added) summary (counting tree_meaning tree tree_after)) (state_of tree) (state_of tree_after) telling.0 telling.1 done.pass in (
       record { eras = done.comes.eras ∙ may.opened.eras; rules_are = done.rules ∙ own; limit = done.limit ∙ may.opened.limit },
       λ none_planned none_fails takes small.
           let still : GoesBy [] (history_of tree) (history_of tree_after) = subst (λ (p : List (ℕ × Event)). GoesBy p (history_of tree) (history_of tree_after)) none_planned goes in
@@ -332,7 +337,7 @@ refused_fills one_set rules waits past session poll.Memory tree tree_after disk 
 
 -- the poll came to its end
 pub ended_goes_on : OneSet → (rules : Rules) (waits : Waits) (past : Past) (session next : Session) (summary : Summary) (tree tree_after cleared : MemTree) (disk disk_after : MemDisk)
-    → IsReady session disk → MayPoll rules waits past session tree disk → Polled tree_meaning disk_meaning session next summary tree tree_after disk disk_after
+    → IsReady session disk → MayPoll rules waits past session tree disk → Polled means session next summary (moment tree disk) (moment tree_after disk_after)
     → IsTelling tree tree_after → IsLawful (history_of tree_after) → IsTreePolled waits tree cleared → state_of cleared ≡ unplanned (state_of tree_after) → GoesOn rules waits (history_of cleared) disk_after (Some next)
 ended_goes_on one_set rules waits past session next summary tree tree_after cleared disk disk_after ready may done telling lawful went is =
     let same : history_of cleared ≡ history_of tree_after = history_cleared tree_after cleared is in
@@ -358,7 +363,7 @@ on_ok P (Ok value) holds = holds
 on_ok P (Err fault) holds = tt
 
 pub ready_next : (session : Session) (tree tree_after : MemTree) (disk disk_after disk_cleared : MemDisk) (polled : Result (Session × Summary) PollFault) → log_of disk_cleared ≡ log_of disk_after
-    → IfOk polled (λ done. IsSession done.0) → IfOk polled (λ done. Polled tree_meaning disk_meaning session done.0 done.1 tree tree_after disk disk_after)
+    → IfOk polled (λ done. IsSession done.0) → IfOk polled (λ done. Polled means session done.0 done.1 (moment tree disk) (moment tree_after disk_after))
     → IfOk (next_of polled) (λ next. IfSome next (λ own. IsReady own disk_cleared))
 ready_next session tree tree_after disk disk_after disk_cleared (Ok done) same is ok = record { session_is = is; stands = ready_same done.0 disk_after disk_cleared same ok.stands }
 ready_next session tree tree_after disk disk_after disk_cleared (Err poll.Disk) same is ok = tt
@@ -368,7 +373,7 @@ ready_next session tree tree_after disk disk_after disk_cleared (Err poll.Memory
 
 -- what a poll's answer says of what it left
 pub record Answers (session : Session) (tree tree_after : MemTree) (disk disk_after : MemDisk) (polled : Result (Session × Summary) PollFault) : Type 0 where
-  pub ok : IfOk polled (λ done. Polled tree_meaning disk_meaning session done.0 done.1 tree tree_after disk disk_after)
+  pub ok : IfOk polled (λ done. Polled means session done.0 done.1 (moment tree disk) (moment tree_after disk_after))
   pub full : (size : ℕ) → polled ≡ Err (OutputFull size) → Told (Overflows session size) (told_world (state_of tree)) (told_world (state_of tree_after))
   pub worn : (sequence : ℕ) → polled ≡ Err (Worn sequence) → IsWorn (journal_of_session session)
   pub cause : HasPollCause polled (faults_of disk) (faults_of disk_after)

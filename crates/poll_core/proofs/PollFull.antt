@@ -7,7 +7,8 @@ use Rattle.std.specs.Ordering.{nat_cmp}
 use Rattle.std.specs.Prelude.{max}
 use Rattle.file_pass.proofs.Turned.{looks_ascend}
 use Rattle.file_pass.specs.Fed.{poll_of}
-use Rattle.file_pass.specs.Full.{line_of}
+use Rattle.file_pass.specs.Full.{line_of, overflow}
+use Rattle.file_pass.specs.Moment.{Moment}
 use Rattle.file_pass.specs.Overflow.{AllFill}
 use Rattle.file_pass.specs.Turns.{looks_at, looks_of, misses_of}
 use Rattle.file_pass.specs.declared.setup.Setup.{Setup}
@@ -15,6 +16,7 @@ use Rattle.outside.specs.TreeMeaning.{TreeMeaning}
 use Rattle.outside.specs.World.{World, Told}
 use Rattle.poll_core.proofs.PollLines.{first_past}
 use Rattle.poll_core.proofs.PollPass.{come_earlier}
+use Rattle.poll_core.proofs.PollRows.{begins}
 use Rattle.poll_core.specs.Overflows.{Overflows}
 use Rattle.poll_core.specs.Passed.{PassFills}
 use Rattle.poll_core.specs.SessionParts.{poll_of_session, rules_of_session, kept_of, limit_of}
@@ -22,6 +24,8 @@ use Rattle.poll_core.specs.declared.session.Session.{Session}
 use Rattle.standing.specs.Look.{Look}
 use Rattle.standing.specs.Marks.{Mark}
 use Rattle.standing.specs.Poll.{Poll}
+use Rattle.tree_walk.specs.Listings.{failures}
+use Rattle.tree_walk.specs.Patterns.{patterns}
 use Rattle.tree_walk.specs.Walked.{Ascends, FindsIn}
 
 abbrev Texts : Type 0
@@ -41,10 +45,10 @@ first_sorted (suc count) (text ∷ texts) sorted = (fewer text count texts sorte
 
 module _ (session : Session) (full limit fails unnamed : ℕ) (paths deep : Texts) (some : (mark : Mark) → 0 < length (line_of mark)) (limit_is : limit ≡ max (limit_of session) (kept_of session)) (sorted : Ascends paths) where
   abbrev Found : World → World → Type 0
-  Found = FindsIn (rules_of_session session).include (rules_of_session session).exclude paths deep fails unnamed
+  Found = FindsIn (patterns (rules_of_session session).include (rules_of_session session).exclude) paths deep (failures fails unnamed)
 
   abbrev Fills : World → World → Type 0
-  Fills = AllFill (poll_of_session session) limit paths session.tracker (kept_of session) full
+  Fills = AllFill (poll_of_session session) (overflow limit (kept_of session) full) paths session.tracker
 
   overflows : (old mid new : World) → Found old mid → Fills mid new → Overflows session full old new
   overflows old mid new found fills = record {
@@ -70,11 +74,11 @@ module _ (session : Session) (full limit fails unnamed : ℕ) (paths deep : Text
   told (Some old) (Some mid) None found fills = absurd fills
   told (Some old) (Some mid) (Some new) found fills = overflows old mid new found fills
 
-pub overflows_by : {T : Type 0} (trees : TreeMeaning T) (session : Session) (setup : Setup) (full : ℕ) (tree tree_after : T) → PassFills trees setup session.tracker session.kept full tree tree_after → poll_of setup ≡ poll_of_session session
-    → setup.limit ≡ max (limit_of session) (kept_of session) → ((mark : Mark) → 0 < length (line_of mark)) → Told (Overflows session full) (trees.world tree) (trees.world tree_after)
-overflows_by trees session setup full tree tree_after fills poll_is limit_is some =
+pub overflows_by : {T D : Type 0} (trees : TreeMeaning T) (session : Session) (setup : Setup) (full : ℕ) (outside : Moment T D) (tree_after : T) → PassFills trees setup full (begins session outside) tree_after → poll_of setup ≡ poll_of_session session
+    → setup.limit ≡ max (limit_of session) (kept_of session) → ((mark : Mark) → 0 < length (line_of mark)) → Told (Overflows session full) (trees.world outside.tree) (trees.world tree_after)
+overflows_by trees session setup full outside tree_after fills poll_is limit_is some =
     let walk = fills.walk in
     let finds = fills.finds in
-    let found = subst (λ (poll : Poll). Told (FindsIn poll.rules.include poll.rules.exclude walk.paths.items finds.deep_folders finds.fails finds.unnamed) (trees.world tree) (trees.world fills.between)) poll_is finds.world in
-    let fill = subst (λ (poll : Poll). Told (AllFill poll setup.limit walk.paths.items session.tracker session.kept full) (trees.world fills.between) (trees.world tree_after)) poll_is fills.fills in
-    told session full setup.limit finds.fails finds.unnamed walk.paths.items finds.deep_folders some limit_is finds.ascends (trees.world tree) (trees.world fills.between) (trees.world tree_after) found fill
+    let found = subst (λ (poll : Poll). Told (FindsIn (patterns poll.rules.include poll.rules.exclude) walk.paths.items finds.deep_folders (failures finds.fails finds.unnamed)) (trees.world outside.tree) (trees.world fills.between)) poll_is finds.world in
+    let fill = subst (λ (poll : Poll). Told (AllFill poll (overflow setup.limit session.kept full) walk.paths.items session.tracker) (trees.world fills.between) (trees.world tree_after)) poll_is fills.fills in
+    told session full setup.limit finds.fails finds.unnamed walk.paths.items finds.deep_folders some limit_is finds.ascends (trees.world outside.tree) (trees.world fills.between) (trees.world tree_after) found fill

@@ -4,6 +4,7 @@ use Rattle.std.specs.Prelude.{Contains, min}
 use Rattle.file_pass.proofs.Turned.{looks_ascend, none_left_out}
 use Rattle.file_pass.specs.AllTaken.{AllTaken}
 use Rattle.file_pass.specs.Gain.{Counted, Gain}
+use Rattle.file_pass.specs.Step.{step}
 use Rattle.file_pass.specs.Turns.{looks_of, misses_of, gone_of}
 use Rattle.file_pass.specs.declared.taking.Taking.{Taking}
 use Rattle.file_tracker.specs.declared.row.Row.{Row}
@@ -28,6 +29,8 @@ use Rattle.standing.specs.Poll.{Poll}
 use Rattle.standing.specs.Rules.{Includes, Rules, output_text}
 use Rattle.standing.specs.Sums.{AreSums, partings}
 use Rattle.tree_walk.proofs.Worlds.{file_named, named_kind, once_longer}
+use Rattle.tree_walk.specs.Listings.{failures}
+use Rattle.tree_walk.specs.Patterns.{patterns}
 use Rattle.tree_walk.specs.Times.{WasAlways, WasOnce}
 use Rattle.tree_walk.specs.Walked.{Ascends, FindsIn, IsHidden, IsMet}
 use Rattle.tree_walk.specs.declared.walk.Walk.{Walk}
@@ -48,7 +51,7 @@ later_named old mid new path file later throughout = λ moment after before. thr
 hidden : (misses unlisteds : Texts) (path : List ℕ) → IsHidden unlisteds path → WasHidden misses unlisteds path
 hidden misses unlisteds path is = inr is
 
-module _ (poll : Poll) (paths deep : Texts) (fails unnamed : ℕ) (before after : List Row) (gain : Gain) (added : List Mark) (old mid new : World) (found : FindsIn poll.rules.include poll.rules.exclude paths deep fails unnamed old mid) (taken : AllTaken poll paths before after gain added mid new) (sorted : Ascends paths) where
+module _ (poll : Poll) (paths deep : Texts) (fails unnamed : ℕ) (before after : List Row) (gain : Gain) (added : List Mark) (old mid new : World) (found : FindsIn (patterns poll.rules.include poll.rules.exclude) paths deep (failures fails unnamed) old mid) (taken : AllTaken poll paths (step before after gain added) mid new) (sorted : Ascends paths) where
   walked : IsLater old.history mid.history
   walked = found.calls.later
 

@@ -17,6 +17,7 @@ use Rattle.checkpoint_store.specs.declared.Change.{Change}
 use Rattle.checkpoint_store.specs.declared.Checkpoint.{Checkpoint}
 use Rattle.checkpoint_store.specs.declared.beside.Beside.{Beside}
 use Rattle.file_pass.specs.Fed.{poll_of}
+use Rattle.file_pass.specs.Moment.{Moment, RowsAt}
 use Rattle.file_pass.specs.Sane.{AreSaneRows, IsSaneRow, IsSaneTaking}
 use Rattle.file_pass.proofs.Flagging.{flag_tells_difference}
 use Rattle.file_pass.specs.Unchanged.{FlagsChanges, HasNoFlag}
@@ -131,6 +132,10 @@ row_at : (rows : List Row) (place : ℕ) → place < length rows → (row : Row)
 row_at [] place within = absurd (omega (arith, within))
 row_at (row ∷ rows) zero within = (row, refl)
 row_at (row ∷ rows) (suc place) within = row_at rows place (omega (arith, within))
+
+-- what a poll begins with
+abbrev pub begins : {T D : Type 0} → Session → Moment T D → RowsAt T D
+begins session outside = record { rows = session.tracker; end = session.kept; outside = outside }
 
 -- The setup is what the session goes by, with a limit that isn't below what it keeps, and this time may be kept.
 pub record IsSetUp (session : Session) (setup : Setup) (observed : ℕ) : Type 0 where

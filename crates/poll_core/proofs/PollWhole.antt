@@ -8,22 +8,21 @@ use Rattle.checkpoint_store.specs.Rules.{IsCheckpoint}
 use Rattle.checkpoint_store.specs.declared.Checkpoint.{Checkpoint}
 use Rattle.file_pass.specs.DiskTerms.{Appends, KeepsDisk}
 use Rattle.file_pass.specs.Full.{lines_text}
+use Rattle.file_pass.specs.Moment.{Meanings, Moment, moment, taking_at}
 use Rattle.file_pass.specs.declared.setup.Setup.{Setup}
 use Rattle.file_pass.specs.declared.taking.Taking.{Taking}
 use Rattle.outside.specs.Crash.{Passes}
-use Rattle.outside.specs.DiskMeaning.{DiskMeaning}
 use Rattle.outside.specs.Image.{Image}
 use Rattle.outside.specs.Lawful.{TellsLawful}
-use Rattle.outside.specs.TreeMeaning.{TreeMeaning}
 use Rattle.outside.specs.declared.disk.DiskFile.{DiskFile}
 use Rattle.outside.specs.declared.disk.DiskFile.TheVariants.{Output}
 use Rattle.poll_core.proofs.PollDisk.{early_pass, fewer_then, left_stands, mid_differs, mid_ends, none_added, saved_stands, steps_pass}
 use Rattle.poll_core.proofs.PollLines.{no_lines, within_own}
-use Rattle.poll_core.proofs.PollRows.{IsSetUp, change_of_session, keeping_in, next_of_session, next_differ, next_fits, next_lawful, next_named, next_savable, next_stand, next_states, none_flagged, same_rows}
+use Rattle.poll_core.proofs.PollRows.{IsSetUp, begins, change_of_session, keeping_in, next_of_session, next_differ, next_fits, next_lawful, next_named, next_savable, next_stand, next_states, none_flagged, same_rows}
 use Rattle.poll_core.proofs.PollTold.{IsTimed, is_pass, is_summed, lines_by, rose_by}
 use Rattle.poll_core.specs.Begun.{IsQuiet}
 use Rattle.poll_core.specs.IsSession.{IsSession, IsShort}
-use Rattle.poll_core.specs.Kept.{Keeps, KeepsTime}
+use Rattle.poll_core.specs.Kept.{Keeps, KeepsTime, to_keep}
 use Rattle.poll_core.specs.Next.{Costs, DifferInOutput, IsSavable, KeepsMemory, Saves}
 use Rattle.poll_core.specs.Passed.{Passed}
 use Rattle.poll_core.specs.Polled.{ChangesNothing, ComesAfter, HasCost, HasNextJournal, HasToKeep, LeavesAll, MayGain, Polled, Stays}
@@ -63,7 +62,11 @@ first_of None false is = absurd (cc)
 first_of (Some journal) true is = absurd (cc)
 first_of (Some journal) false is = refl
 
-module _ {T D : Type 0} (trees : TreeMeaning T) (disks : DiskMeaning D) (session : Session) (is : IsSession session) (laws : AreRules (rules_of_session session)) (setup : Setup) (walk : Walk) (taking : Taking) (tree tree_after : T) (disk mid : D) (passed : Passed trees disks setup session.tracker session.kept walk taking tree tree_after disk mid) (observed : ℕ) (by : IsSetUp session setup observed) (keeps_time : KeepsTime (journal_of_session session) session.kept taking (stamp_of_session session) session.observed observed) (limit_is : setup.limit ≡ max (limit_of session) (kept_of session)) (stands : StandsOn disks.images session disk) (keeps : KeepsDisk disks session.kept disk mid) where
+module _ {T D : Type 0} (means : Meanings T D) (session : Session) (is : IsSession session) (laws : AreRules (rules_of_session session)) (setup : Setup) (walk : Walk) (taking : Taking) (old new : Moment T D) (passed : Passed means setup walk (begins session old) (taking_at taking new)) (observed : ℕ) (by : IsSetUp session setup observed) (keeps_time : KeepsTime (journal_of_session session) session.kept taking (stamp_of_session session) session.observed observed) (limit_is : setup.limit ≡ max (limit_of session) (kept_of session)) (stands : StandsOn means.disks.images session old.disk) (keeps : KeepsDisk means.disks session.kept old.disk new.disk) where
+  -- what of it is kept
+  abbrev IsKept : Option Journal → D → Type 0
+  IsKept journal disk_after = Keeps means.disks.images (to_keep (journal_of_session session) session.kept taking (keeping_in session observed taking)) journal new.disk disk_after
+
   end_is : taking.end ≡ kept_of session + length (lines_text passed.takes.takes.added)
   end_is = passed.takes.takes.appends.end_is ∙ ap (λ (n : ℕ). n + length (lines_text passed.takes.takes.added)) passed.is_begun.end_is
 
@@ -110,15 +113,15 @@ module _ {T D : Type 0} (trees : TreeMeaning T) (disks : DiskMeaning D) (session
     states = next_states session is setup observed by passed.begun taking passed.is_begun passed.sane passed.flags grown;
   }
 
-  pub savable_own : EachLeft disks.images mid (IsSavable (journal_of_session session) (keeping_in session observed taking))
+  pub savable_own : EachLeft means.disks.images new.disk (IsSavable (journal_of_session session) (keeping_in session observed taking))
   savable_own = record {
-    each = λ image left. next_savable session is setup observed by passed.begun taking passed.is_begun passed.sane passed.flags grown image (mid_ends disks session disk mid stands keeps image left);
+    each = λ image left. next_savable session is setup observed by passed.begun taking passed.is_begun passed.sane passed.flags grown image (mid_ends means.disks session old.disk new.disk stands keeps image left);
   }
 
-  pub slots_after : (one other : Image DiskFile) → disks.images.may_leave mid one → disks.images.may_leave mid other → DifferInOutput one other
-  slots_after = mid_differs disks session disk mid stands keeps
+  pub slots_after : (one other : Image DiskFile) → means.disks.images.may_leave new.disk one → means.disks.images.may_leave new.disk other → DifferInOutput one other
+  slots_after = mid_differs means.disks session old.disk new.disk stands keeps
 
-  cost : (disk_after : D) → Costs (journal_of_session session) (next_of_session session observed taking) (change_of_session observed taking).rows (disks.written mid) (disks.written disk_after) → HasCost disks session (next_of_session session observed taking) disk disk_after
+  cost : (disk_after : D) → Costs (journal_of_session session) (next_of_session session observed taking) (change_of_session observed taking).rows (means.disks.written new.disk) (means.disks.written disk_after) → HasCost means.disks session (next_of_session session observed taking) old.disk disk_after
   cost disk_after costs = record {
     rows = (change_of_session observed taking).rows;
     changed = record {
@@ -127,30 +130,30 @@ module _ {T D : Type 0} (trees : TreeMeaning T) (disks : DiskMeaning D) (session
       differ = next_differ session is setup observed by passed.begun taking passed.is_begun passed.sane passed.flags grown;
       no_other = next_named session is setup observed by passed.begun taking passed.is_begun passed.sane passed.flags grown;
     };
-    costs = subst (λ (before : Option ℕ). Costs (journal_of_session session) (next_of_session session observed taking) (change_of_session observed taking).rows before (disks.written disk_after)) keeps.written costs;
+    costs = subst (λ (before : Option ℕ). Costs (journal_of_session session) (next_of_session session observed taking) (change_of_session observed taking).rows before (means.disks.written disk_after)) keeps.written costs;
   }
 
-  appends : Appends disks (lines_text passed.takes.takes.added) (kept_of session) taking.end disk mid
-  appends = subst (λ (end : ℕ). Appends disks (lines_text passed.takes.takes.added) end taking.end disk mid) passed.is_begun.end_is passed.takes.takes.appends
+  appends : Appends means.disks (lines_text passed.takes.takes.added) (kept_of session) taking.end old.disk new.disk
+  appends = subst (λ (end : ℕ). Appends means.disks (lines_text passed.takes.takes.added) end taking.end old.disk new.disk) passed.is_begun.end_is passed.takes.takes.appends
 
-  module _ (told : (image : Image DiskFile) → disks.images.may_leave disk image → IsTrue (disks.images.tells disk)) (shown : IsTrue (disks.images.tells disk) → disks.images.may_leave disk (disks.images.seen disk)) where
-    pub may_gain : (disk_after : D) → Passes disks.images (Saves (journal_of_session session) (next_of_session session observed taking) (disks.images.seen mid Output)) mid disk_after
-        → Costs (journal_of_session session) (next_of_session session observed taking) (change_of_session observed taking).rows (disks.written mid) (disks.written disk_after) → MayGain trees disks session tree tree_after disk disk_after
+  module _ (told : (image : Image DiskFile) → means.disks.images.may_leave old.disk image → IsTrue (means.disks.images.tells old.disk)) (shown : IsTrue (means.disks.images.tells old.disk) → means.disks.images.may_leave old.disk (means.disks.images.seen old.disk)) where
+    pub may_gain : (disk_after : D) → Passes means.disks.images (Saves (journal_of_session session) (next_of_session session observed taking) (means.disks.images.seen new.disk Output)) new.disk disk_after
+        → Costs (journal_of_session session) (next_of_session session observed taking) (change_of_session observed taking).rows (means.disks.written new.disk) (means.disks.written disk_after) → MayGain means session old (moment new.tree disk_after)
     may_gain disk_after saves costs = record {
       after = next_of_session session observed taking;
       added = passed.takes.takes.added;
       comes = comes;
-      pass = is_pass trees disks session setup walk taking tree tree_after disk mid by.poll passed observed timed;
-      crash = steps_pass disks session disk mid stands keeps told shown passed.takes.takes.added taking.end appends (next_of_session session observed taking) disk_after saves;
+      pass = is_pass means session setup walk taking old new by.poll passed observed timed;
+      crash = steps_pass means.disks session old.disk new.disk stands keeps told shown passed.takes.takes.added taking.end appends (next_of_session session observed taking) disk_after saves;
       cost = cost disk_after costs;
     }
 
     -- few calls leave the checkpoint
-    pub early : (disk_after : D) → Passes disks.images (Saves (journal_of_session session) (next_of_session session observed taking) (disks.images.seen mid Output)) mid disk_after
-        → (DoneFewer 4 (disks.done mid) (disks.done disk_after) → Passes disks.images (KeepsMemory (journal_of_session session)) mid disk_after)
-        → DoneFewer 4 (disks.done disk) (disks.done disk_after) → Passes disks.images (Stays session) disk disk_after
+    pub early : (disk_after : D) → Passes means.disks.images (Saves (journal_of_session session) (next_of_session session observed taking) (means.disks.images.seen new.disk Output)) new.disk disk_after
+        → (DoneFewer 4 (means.disks.done new.disk) (means.disks.done disk_after) → Passes means.disks.images (KeepsMemory (journal_of_session session)) new.disk disk_after)
+        → DoneFewer 4 (means.disks.done old.disk) (means.disks.done disk_after) → Passes means.disks.images (Stays session) old.disk disk_after
     early disk_after saves keeps_memory fewer =
-        early_pass disks session disk mid stands keeps told shown passed.takes.takes.added taking.end appends (next_of_session session observed taking) disk_after saves (keeps_memory (fewer_then disks session disk mid stands keeps (disks.done disk_after) fewer))
+        early_pass means.disks session old.disk new.disk stands keeps told shown passed.takes.takes.added taking.end appends (next_of_session session observed taking) disk_after saves (keeps_memory (fewer_then means.disks session old.disk new.disk stands keeps (means.disks.done disk_after) fewer))
 
     same_time : IsQuiet (journal_of_session session) session.kept taking → observed ≡ session.observed
     same_time quiet = elim keeps_time [ inl left ↦ left.1 | inr loud ↦ absurd (loud.0 quiet) ]
@@ -169,43 +172,43 @@ module _ {T D : Type 0} (trees : TreeMeaning T) (disks : DiskMeaning D) (session
       none_flagged = none_flagged session is setup observed by passed.begun taking passed.is_begun passed.sane passed.flags grown (ap (λ (c : Checkpoint). c.rows) nothing.same);
     }
 
-    pub has_to_keep : (IsQuiet (journal_of_session session) session.kept taking → ⊥) → HasToKeep trees session tree tree_after
+    pub has_to_keep : (IsQuiet (journal_of_session session) session.kept taking → ⊥) → HasToKeep means.trees session old.tree new.tree
     has_to_keep loud = record {
       after = next_of_session session observed taking;
       added = passed.takes.takes.added;
       comes = comes;
-      pass = is_pass trees disks session setup walk taking tree tree_after disk mid by.poll passed observed timed;
+      pass = is_pass means session setup walk taking old new by.poll passed observed timed;
       changes = λ nothing. loud (quiet_then nothing);
     }
 
-    next_journal : (journal : Option Journal) (disk_after : D) → Keeps disks.images (keeping_in session observed taking) taking session.kept (journal_of_session session) journal mid disk_after
+    next_journal : (journal : Option Journal) (disk_after : D) → IsKept journal disk_after
         → (ChangesNothing session (checkpoint_of_session (next_of session observed taking journal)) → ⊥) → HasNextJournal session (next_of session observed taking journal) (change_of_session observed taking).rows
     next_journal journal disk_after kept changes = elim kept [
       | inl left ↦ absurd (changes (record { not_first = stood (journal_of_session session) left.quiet.stood; same = left_same journal left.quiet }))
       | inr put ↦ (put.0, put.1, put.2.next_is)
     ]
 
-    next_quiet : (journal : Option Journal) (disk_after : D) → Keeps disks.images (keeping_in session observed taking) taking session.kept (journal_of_session session) journal mid disk_after
-        → ChangesNothing session (checkpoint_of_session (next_of session observed taking journal)) → LeavesAll session (next_of session observed taking journal) disk disk_after
+    next_quiet : (journal : Option Journal) (disk_after : D) → IsKept journal disk_after
+        → ChangesNothing session (checkpoint_of_session (next_of session observed taking journal)) → LeavesAll session (next_of session observed taking journal) old.disk disk_after
     next_quiet journal disk_after kept nothing = elim kept [
       | inl left ↦ record {
         journal = left.same;
-        still = left.still ∙ appends.idle (none_added disks session disk mid stands keeps told shown passed.takes.takes.added taking.end appends left.quiet.end_is);
+        still = left.still ∙ appends.idle (none_added means.disks session old.disk new.disk stands keeps told shown passed.takes.takes.added taking.end appends left.quiet.end_is);
       }
       | inr put ↦ absurd (put.3 (quiet_then nothing))
     ]
 
-    -- the session that goes on stands on the disk
-    next_stands : (journal : Option Journal) (disk_after : D) → ((image : Image DiskFile) → disks.images.may_leave disk_after image → IsTrue (disks.images.tells disk))
-        → Keeps disks.images (keeping_in session observed taking) taking session.kept (journal_of_session session) journal mid disk_after → StandsOn disks.images (next_of session observed taking journal) disk_after
+    -- the session that goes on stands on the old.disk
+    next_stands : (journal : Option Journal) (disk_after : D) → ((image : Image DiskFile) → means.disks.images.may_leave disk_after image → IsTrue (means.disks.images.tells old.disk))
+        → IsKept journal disk_after → StandsOn means.disks.images (next_of session observed taking journal) disk_after
     next_stands journal disk_after tells kept = elim kept [
       | inl left ↦
-          subst (λ (d : D). StandsOn disks.images (next_of session observed taking journal) d) (sym left.still)
-          (left_stands disks session disk mid stands keeps told shown passed.takes.takes.added taking.end appends (next_of session observed taking journal) left.quiet.end_is left.same (left_same journal left.quiet))
-      | inr put ↦ saved_stands disks session disk mid stands keeps told shown passed.takes.takes.added taking.end appends (next_of session observed taking journal) put.0 disk_after put.1 refl put.2.one tells put.2.each
+          subst (λ (d : D). StandsOn means.disks.images (next_of session observed taking journal) d) (sym left.still)
+          (left_stands means.disks session old.disk new.disk stands keeps told shown passed.takes.takes.added taking.end appends (next_of session observed taking journal) left.quiet.end_is left.same (left_same journal left.quiet))
+      | inr put ↦ saved_stands means.disks session old.disk new.disk stands keeps told shown passed.takes.takes.added taking.end appends (next_of session observed taking journal) put.0 disk_after put.1 refl put.2.one tells put.2.each
     ]
 
-    next_first : (journal : Option Journal) (disk_after : D) → Keeps disks.images (keeping_in session observed taking) taking session.kept (journal_of_session session) journal mid disk_after → is_none journal ≡ false
+    next_first : (journal : Option Journal) (disk_after : D) → IsKept journal disk_after → is_none journal ≡ false
     next_first journal disk_after kept = elim kept [
       | inl left ↦ ap (λ (j : Option Journal). is_none j) left.same ∙ stood (journal_of_session session) left.quiet.stood
       | inr put ↦ ap (λ (j : Option Journal). is_none j) put.1
@@ -221,7 +224,7 @@ module _ {T D : Type 0} (trees : TreeMeaning T) (disks : DiskMeaning D) (session
       | inr loud ↦ still_later (rules_of_session session).stamps loud.1
     ]
 
-    pub next_session : (journal : Option Journal) (disk_after : D) → Keeps disks.images (keeping_in session observed taking) taking session.kept (journal_of_session session) journal mid disk_after → IsSession (next_of session observed taking journal)
+    pub next_session : (journal : Option Journal) (disk_after : D) → IsKept journal disk_after → IsSession (next_of session observed taking journal)
     next_session journal disk_after kept = record {
       made = is.made;
       one_era = λ none. (let never : true ≡ false = sym (ap (λ (j : Option Journal). is_none j) none) ∙ next_first journal disk_after kept in cc);
@@ -235,11 +238,11 @@ module _ {T D : Type 0} (trees : TreeMeaning T) (disks : DiskMeaning D) (session
       time = (kept_by_then, is.time.1);
     }
 
-    pub polled : (journal : Option Journal) (disk_after : D) (summary : Summary) → ((image : Image DiskFile) → disks.images.may_leave disk_after image → IsTrue (disks.images.tells disk)) → TellsLawful (trees.world tree_after)
+    pub polled : (journal : Option Journal) (disk_after : D) (summary : Summary) → ((image : Image DiskFile) → means.disks.images.may_leave disk_after image → IsTrue (means.disks.images.tells old.disk)) → TellsLawful (means.trees.world new.tree)
         → IsSummaryOf walk taking summary
-        → Keeps disks.images (keeping_in session observed taking) taking session.kept (journal_of_session session) journal mid disk_after
-        → Costs (journal_of_session session) (next_of_session session observed taking) (change_of_session observed taking).rows (disks.written mid) (disks.written disk_after)
-        → Polled trees disks session (next_of session observed taking journal) summary tree tree_after disk disk_after
+        → IsKept journal disk_after
+        → Costs (journal_of_session session) (next_of_session session observed taking) (change_of_session observed taking).rows (means.disks.written new.disk) (means.disks.written disk_after)
+        → Polled means session (next_of session observed taking journal) summary old (moment new.tree disk_after)
     unfolding cost
     polled journal disk_after summary tells lawful sums kept costs = record {
       rules = refl;
@@ -248,10 +251,10 @@ module _ {T D : Type 0} (trees : TreeMeaning T) (disks : DiskMeaning D) (session
       not_first = next_first journal disk_after kept;
       added = passed.takes.takes.added;
       comes = comes;
-      lines = lines_by trees disks session setup walk taking tree tree_after disk mid by.poll passed observed timed summary sums;
+      lines = lines_by means session setup walk taking old new by.poll passed observed timed summary sums;
       output = sums.output;
-      failed = rose_by trees disks session setup walk taking tree tree_after disk mid by.poll passed observed timed summary sums;
-      pass = is_summed trees disks session setup walk taking tree tree_after disk mid by.poll passed observed timed summary sums lawful;
+      failed = rose_by means session setup walk taking old new by.poll passed observed timed summary sums;
+      pass = is_summed means session setup walk taking old new by.poll passed observed timed summary sums lawful;
       stands = next_stands journal disk_after tells kept;
       cost = cost disk_after costs;
       kept = next_journal journal disk_after kept;

@@ -14,7 +14,7 @@ use Rattle.outside.specs.declared.disk.DiskFile.TheVariants.{Output}
 use Rattle.poll_core.proofs.ImageLemmas.{one_found}
 use Rattle.poll_core.proofs.SessionLemmas.{left_goes_on, begins_with, found_first, found_saved}
 use Rattle.poll_core.specs.Found.{IsFound}
-use Rattle.poll_core.specs.Polled.{AreErasIn, ComesAfter, Gains, IsPass, IsStanding, Stays, Steps, TreeCounts, stretch_of}
+use Rattle.poll_core.specs.Polled.{AreErasIn, ComesAfter, Gains, IsPass, IsStanding, Stays, Steps, Counting, advance, stretch_of}
 use Rattle.poll_core.specs.MadeOf.{AreErasOf}
 use Rattle.poll_core.specs.Remembers.{HasMemory, EndsWithMemory, IsLeftBy}
 use Rattle.poll_core.specs.SessionParts.{checkpoint_of_session, is_first, poll_of_session, rules_of_session, journal_of_session, kept_of, stamp_of_session}
@@ -171,13 +171,13 @@ module _ {D : Type 0} (images : Images DiskFile D) (disk disk_after : D) (counts
   stands_still (Some old) (Some new) later passes = λ never apart from early stood.
       all_stand (Stays session) old.history new.history later passes (λ x y left stays. stays_stands session own never old.history new.history x y later left stays) from early stood
 
-  pub stands_on : (next : Checkpoint) (added : List Mark) (count count_after : TreeCounts) (old new : Option World) → Told GoesLater old new → ComesAfter session next added → Told (IsPass session next added count count_after) old new
+  pub stands_on : (next : Checkpoint) (added : List Mark) (counts : Counting) (old new : Option World) → Told GoesLater old new → ComesAfter session next added → Told (IsPass session (advance next added) counts) old new
       → Passes images (Steps session next added) disk disk_after → Told (KeepsStandingSince images own_rules disk disk_after) old new
-  stands_on next added count count_after None None later comes pass passes = tt
-  stands_on next added count count_after None (Some new) later comes pass passes = absurd later
-  stands_on next added count count_after (Some old) None later comes pass passes = absurd later
-  stands_on next added count count_after (Some old) (Some new) later comes pass passes = λ never apart from early stood.
+  stands_on next added counts None None later comes pass passes = tt
+  stands_on next added counts None (Some new) later comes pass passes = absurd later
+  stands_on next added counts (Some old) None later comes pass passes = absurd later
+  stands_on next added counts (Some old) (Some new) later comes pass passes = λ never apart from early stood.
       all_stand (Steps session next added) old.history new.history later passes (λ x y left step. elim step [
         | inl stays ↦ stays_stands session own never old.history new.history x y later left stays
-        | inr gains ↦ gains_stands session own never old.history new.history next added pass.looks count.faults count_after.faults x y pass.pass comes apart left gains
+        | inr gains ↦ gains_stands session own never old.history new.history next added pass.looks counts.before.faults counts.after.faults x y pass.pass comes apart left gains
       ]) from early stood

@@ -11,7 +11,7 @@ use Rattle.poll_core.proofs.EraLemmas.{rules_are as last_are, session_eras}
 use Rattle.poll_core.proofs.RuleLemmas.{OneSet}
 use Rattle.poll_core.specs.IsSession.{IsSession}
 use Rattle.poll_core.specs.MadeOf.{AreErasOf}
-use Rattle.poll_core.specs.Polled.{IsSummed, TreeCounts, stretch_of}
+use Rattle.poll_core.specs.Polled.{Advance, Counting, IsSummed, stretch_of}
 use Rattle.poll_core.specs.SessionParts.{checkpoint_of_session, is_first, poll_of_session, rules_of_session, stamp_of_session}
 use Rattle.poll_core.specs.Summed.{TellsAll, sums_of}
 use Rattle.poll_core.specs.declared.session.Session.{Session}
@@ -44,7 +44,7 @@ record PassSummed (poll : Poll) (stretch : Stretch) (looks : List Look) (before 
   pass : Pass poll stretch looks before after added
   are : AreSums poll stretch looks before after added pass sums
 
-module _ (session : Session) (next : Checkpoint) (added : List Mark) (summary : Summary) (count count_after : TreeCounts) (old new : World) (summed : IsSummed session next added summary count count_after old new) (tells : TellsAll summary) where
+module _ (session : Session) (next : Advance) (summary : Summary) (counts : Counting) (old new : World) (summed : IsSummed session next summary counts old new) (tells : TellsAll summary) where
   no_folder : length summed.deep ≡ 0
   no_folder = omega (arith, summed.deep_is, tells.deep)
 
@@ -70,15 +70,15 @@ module _ (session : Session) (next : Checkpoint) (added : List Mark) (summary : 
   pub all_reached : OneSet → (rules_of_session session).flush_after ≡ 0 → (output : List ℕ) (path : List ℕ) (file : ℕ) (eras : Eras) → IsSession session → AreErasOf session.eras eras → IsLater old.history new.history → Apart (rules_of_session session).front_size new.history → IsLawful new.history → KeepsNames old.history new.history
       → (stands : Stands eras old.history (checkpoint_of_session session).rows (checkpoint_of_session session).next_id output) → AreBefore (stamp_of_session session) stands.marks
       → Includes (rules_of_session session) path → IsNamed new.history path file
-      → (here : Look) × Contains summed.looks here × (here.file ≡ file) × (0 < size here → IsReached eras new.history next.rows here)
+      → (here : Look) × Contains summed.looks here × (here.file ≡ file) × (0 < size here → IsReached eras new.history next.after.rows here)
   all_reached one_set never output path file eras is are later apart lawful keeps stands times included named =
       let rules_are : rules_of_session session ≡ last_era eras = last_are one_set session is eras are in
       let own = session_eras one_set session is (subst AreRules (sym rules_are) (last_laws eras are.laws)) in
       let as_poll : poll_of_session session ≡ poll_in eras (is_first session) (stamp_of_session session) = own.poll_is eras are in
-      let stretch : Stretch = stretch_of old.history new.history count.faults count_after.faults in
+      let stretch : Stretch = stretch_of old.history new.history counts.before.faults counts.after.faults in
       let before : Checkpoint = checkpoint_of_session session in
-      let both : PassSummed (poll_in eras (is_first session) (stamp_of_session session)) stretch summed.looks before next added (sums_of summary) =
-      subst (λ (p : Poll). PassSummed p stretch summed.looks before next added (sums_of summary)) as_poll (record { pass = summed.pass; are = summed.sums }) in
-      complete_pass eras are.laws (is_first session) (stamp_of_session session) (own.plain never eras are) stretch summed.looks before next added both.pass output (sums_of summary) path file
+      let both : PassSummed (poll_in eras (is_first session) (stamp_of_session session)) stretch summed.looks before next.after next.added (sums_of summary) =
+      subst (λ (p : Poll). PassSummed p stretch summed.looks before next.after next.added (sums_of summary)) as_poll (record { pass = summed.pass; are = summed.sums }) in
+      complete_pass eras are.laws (is_first session) (stamp_of_session session) (own.plain never eras are) stretch summed.looks before next.after next.added both.pass output (sums_of summary) path file
       (subst (λ n. Apart n new.history) (ap (λ (r : Rules). r.front_size) rules_are ∙ last_size eras are.laws) apart) lawful keeps stands times both.are tells.none
       (subst (λ (r : Rules). Includes r path) rules_are included) (reachable path file included (throughout old.history new.history path file keeps later named)) named

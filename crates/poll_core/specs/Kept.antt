@@ -31,6 +31,16 @@ pub record IsLeft {D : Type 0} (journal after : Option Journal) (kept : ℕ) (ta
   pub same : after ≡ journal
   pub still : new ≡ old
 
-abbrev pub Keeps : {D : Type 0} → Images DiskFile D → Keeping → Taking → ℕ → Option Journal → Option Journal → D → D → Type 0
-Keeps images keeping taking kept journal after old new = IsLeft journal after kept taking old new
-    ⊎ ((next : Journal) × (after ≡ Some next) × IsSaved images keeping journal next old new × (IsQuiet journal kept taking → ⊥))
+-- What stood before, what was taken behind that, and what of it is to be kept.
+pub record ToKeep : Type 0 where
+  pub journal : Option Journal
+  pub kept : ℕ
+  pub taking : Taking
+  pub keeping : Keeping
+
+abbrev pub to_keep : Option Journal → ℕ → Taking → Keeping → ToKeep
+to_keep journal kept taking keeping = record { journal = journal; kept = kept; taking = taking; keeping = keeping }
+
+abbrev pub Keeps : {D : Type 0} → Images DiskFile D → ToKeep → Option Journal → D → D → Type 0
+Keeps images all after old new = IsLeft all.journal after all.kept all.taking old new
+    ⊎ ((next : Journal) × (after ≡ Some next) × IsSaved images all.keeping all.journal next old new × (IsQuiet all.journal all.kept all.taking → ⊥))

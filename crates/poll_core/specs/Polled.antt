@@ -9,6 +9,7 @@ use Rattle.checkpoint_store.specs.declared.Change.{Change}
 use Rattle.checkpoint_store.specs.declared.Checkpoint.{Checkpoint}
 use Rattle.file_pass.specs.Cost.{cost_of}
 use Rattle.file_pass.specs.Full.{lines_text}
+use Rattle.file_pass.specs.Moment.{Meanings, Moment}
 use Rattle.file_tracker.specs.declared.row.Row.{Row}
 use Rattle.outside.specs.Count.{raised, last_count}
 use Rattle.outside.specs.Crash.{Passes}
@@ -52,25 +53,41 @@ pub record TreeCounts : Type 0 where
 abbrev pub counts_of : {T : Type 0} → TreeMeaning T → T → TreeCounts
 counts_of trees tree = record { faults = trees.faults tree; taken = trees.taken tree }
 
+-- those before and after
+pub record Counting : Type 0 where
+  pub before : TreeCounts
+  pub after : TreeCounts
+
+abbrev pub counting : {T : Type 0} → TreeMeaning T → T → T → Counting
+counting trees old new = record { before = counts_of trees old; after = counts_of trees new }
+
+-- the next checkpoint, and the lines that come before it
+pub record Advance : Type 0 where
+  pub after : Checkpoint
+  pub added : List Mark
+
+abbrev pub advance : Checkpoint → List Mark → Advance
+advance after added = record { after = after; added = added }
+
 -- Reads gave no more bytes than the front of each file looked at, and what is read on of it.
 abbrev pub ReadsAtMost : Session → List Look → TreeCounts → TreeCounts → Type 0
 ReadsAtMost session looks before after = after.taken ≤ before.taken + cost_of (poll_of_session session) looks (start_at (checkpoint_of_session session))
 
 -- There are looks with which the checkpoint became this one, and added these lines.
-pub record IsPass (session : Session) (after : Checkpoint) (added : List Mark) (counts counts_after : TreeCounts) (old new : World) : Type 0 where
+pub record IsPass (session : Session) (next : Advance) (counts : Counting) (old new : World) : Type 0 where
   pub looks : List Look
-  pub pass : Pass (poll_of_session session) (stretch_of old.history new.history counts.faults counts_after.faults) looks
-      (checkpoint_of_session session) after added
-  pub read : ReadsAtMost session looks counts counts_after
+  pub pass : Pass (poll_of_session session) (stretch_of old.history new.history counts.before.faults counts.after.faults) looks
+      (checkpoint_of_session session) next.after next.added
+  pub read : ReadsAtMost session looks counts.before counts.after
 
 -- Besides, the numbers of the summary are theirs, and `deep` counts the folders that were met and lie too deep.
-pub record IsSummed (session : Session) (after : Checkpoint) (added : List Mark) (summary : Summary) (counts counts_after : TreeCounts) (old new : World) : Type 0 where
+pub record IsSummed (session : Session) (next : Advance) (summary : Summary) (counts : Counting) (old new : World) : Type 0 where
   pub looks : List Look
-  pub pass : Pass (poll_of_session session) (stretch_of old.history new.history counts.faults counts_after.faults) looks
-      (checkpoint_of_session session) after added
-  pub read : ReadsAtMost session looks counts counts_after
-  pub sums : AreSums (poll_of_session session) (stretch_of old.history new.history counts.faults counts_after.faults) looks
-      (checkpoint_of_session session) after added pass (sums_of summary)
+  pub pass : Pass (poll_of_session session) (stretch_of old.history new.history counts.before.faults counts.after.faults) looks
+      (checkpoint_of_session session) next.after next.added
+  pub read : ReadsAtMost session looks counts.before counts.after
+  pub sums : AreSums (poll_of_session session) (stretch_of old.history new.history counts.before.faults counts.after.faults) looks
+      (checkpoint_of_session session) next.after next.added pass (sums_of summary)
   pub deep : List (List ℕ)
   pub deep_once : Ascends deep
   pub deep_is : summary.deep ≡ capped (length deep)
@@ -137,13 +154,13 @@ pub record LeavesAll {D : Type 0} (session next : Session) (disk disk_after : D)
   pub still : disk_after ≡ disk
 
 -- A crash may leave the next checkpoint, which is that of a pass.
-pub record MayGain {T D : Type 0} (trees : TreeMeaning T) (disks : DiskMeaning D) (session : Session) (tree tree_after : T) (disk disk_after : D) : Type 0 where
+pub record MayGain {T D : Type 0} (means : Meanings T D) (session : Session) (old new : Moment T D) : Type 0 where
   pub after : Checkpoint
   pub added : List Mark
   pub comes : ComesAfter session after added
-  pub pass : Told (IsPass session after added (counts_of trees tree) (counts_of trees tree_after)) (trees.world tree) (trees.world tree_after)
-  pub crash : Passes disks.images (Steps session after added) disk disk_after
-  pub cost : HasCost disks session after disk disk_after
+  pub pass : Told (IsPass session (advance after added) (counting means.trees old.tree new.tree)) (means.trees.world old.tree) (means.trees.world new.tree)
+  pub crash : Passes means.disks.images (Steps session after added) old.disk new.disk
+  pub cost : HasCost means.disks session after old.disk new.disk
 
 -- The failures that are counted raised the tree's count. Names that aren't UTF-8 are counted besides.
 pub record RoseBy {T : Type 0} (trees : TreeMeaning T) (failed : ℕ) (tree tree_after : T) : Type 0 where
@@ -154,7 +171,7 @@ pub record RoseBy {T : Type 0} (trees : TreeMeaning T) (failed : ℕ) (tree tree
   pub rose_by_names : trees.nameless tree ≤ last_count → trees.nameless tree_after ≡ raised (trees.nameless tree) unnamed
 
 -- A poll that came to its end: the next session is that of a pass, which the summary tells, and stands on the disk.
-pub record Polled {T D : Type 0} (trees : TreeMeaning T) (disks : DiskMeaning D) (session next : Session) (summary : Summary) (tree tree_after : T) (disk disk_after : D) : Type 0 where
+pub record Polled {T D : Type 0} (means : Meanings T D) (session next : Session) (summary : Summary) (old new : Moment T D) : Type 0 where
   pub rules : rules_of_session next ≡ rules_of_session session
   pub limit : limit_of next ≡ limit_of session
   pub time : time_of_session next ≡ time_of_session session
@@ -163,13 +180,13 @@ pub record Polled {T D : Type 0} (trees : TreeMeaning T) (disks : DiskMeaning D)
   pub comes : ComesAfter session (checkpoint_of_session next) added
   pub lines : summary.lines ≡ length added
   pub output : summary.output ≡ kept_of next
-  pub failed : RoseBy trees summary.failed tree tree_after
-  pub pass : Told (IsSummed session (checkpoint_of_session next) added summary (counts_of trees tree) (counts_of trees tree_after)) (trees.world tree) (trees.world tree_after)
-  pub stands : StandsOn disks.images next disk_after
-  pub cost : HasCost disks session (checkpoint_of_session next) disk disk_after
+  pub failed : RoseBy means.trees summary.failed old.tree new.tree
+  pub pass : Told (IsSummed session (advance (checkpoint_of_session next) added) summary (counting means.trees old.tree new.tree)) (means.trees.world old.tree) (means.trees.world new.tree)
+  pub stands : StandsOn means.disks.images next new.disk
+  pub cost : HasCost means.disks session (checkpoint_of_session next) old.disk new.disk
   -- What changed was kept, and where nothing changed, nothing was done.
   pub kept : (ChangesNothing session (checkpoint_of_session next) → ⊥) → HasNextJournal session next cost.rows
-  pub quiet : ChangesNothing session (checkpoint_of_session next) → LeavesAll session next disk disk_after
+  pub quiet : ChangesNothing session (checkpoint_of_session next) → LeavesAll session next old.disk new.disk
   -- A session without a sequence number left wrote nothing.
   pub not_worn : IsWorn (journal_of_session session) → journal_of_session next ≡ journal_of_session session
 
@@ -178,7 +195,7 @@ pub record HasToKeep {T : Type 0} (trees : TreeMeaning T) (session : Session) (t
   pub after : Checkpoint
   pub added : List Mark
   pub comes : ComesAfter session after added
-  pub pass : Told (IsPass session after added (counts_of trees tree) (counts_of trees tree_after)) (trees.world tree) (trees.world tree_after)
+  pub pass : Told (IsPass session (advance after added) (counting trees tree tree_after)) (trees.world tree) (trees.world tree_after)
   pub changes : ChangesNothing session after → ⊥
 
 -- ---- what stands

@@ -17,7 +17,7 @@ ghost use Rattle.poll_core.specs.Found.{IsFound};
 ghost use Rattle.poll_core.specs.IsSession.{IsSession};
 ghost use Rattle.poll_core.specs.MadeOf.{AreErasOf, EndsWithRules, IsMadeOf, HasRules};
 ghost use Rattle.poll_core.specs.OpenFaults.{HasOtherSettings, IsRefused};
-ghost use Rattle.poll_core.specs.Polled.{ComesAfter, Gains, IsSummed, Stays, Steps, TreeCounts};
+ghost use Rattle.poll_core.specs.Polled.{Advance, ComesAfter, Counting, Gains, IsSummed, Stays, Steps};
 ghost use Rattle.poll_core.specs.Remembers.{GoesOnFrom, IsLeftBy};
 ghost use Rattle.poll_core.specs.Reopens.{Reopens};
 ghost use Rattle.poll_core.specs.Sequence.{HasSequence};
@@ -168,8 +168,8 @@ pub fn polling_keeps_what_is_kept()
 /// that has a path to be read was looked at, and unless it was empty then, all that its bytes had then is taken. The settings flush
 /// nothing.
 pub fn a_complete_poll_reaches_all()
-    ensures { (session : Session) (next : Checkpoint) (added : List Mark) (summary : Summary) (count count_after : TreeCounts)
-        (old new : World) (summed : IsSummed session next added summary count count_after old new)
+    ensures { (session : Session) (next : Advance) (summary : Summary) (counts : Counting)
+        (old new : World) (summed : IsSummed session next summary counts old new)
         → TellsAll summary → (rules_of_session session).flush_after ≡ 0
         → (output path : List ℕ) (file : ℕ) (eras : Eras) → IsSession session
         → AreErasOf session.eras eras
@@ -180,7 +180,7 @@ pub fn a_complete_poll_reaches_all()
         → AreBefore (stamp_of_session session) stands.marks
         → Includes (rules_of_session session) path → IsNamed new.history path file
         → (here : Look) × Contains summed.looks here × (here.file ≡ file)
-        × (0 < size here → IsReached eras new.history next.rows here) }
+        × (0 < size here → IsReached eras new.history next.after.rows here) }
 {
     settings_give_one_set_of_rules();
 }

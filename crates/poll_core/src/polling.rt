@@ -3,6 +3,7 @@ ghost use Rattle.std.specs.Prelude.{◌≡◌, ◌⊎◌, ℕ, ◌≤◌, ◌^�
 ghost use Rattle.checkpoint_journal.specs.Written.{IsWorn};
 ghost use Rattle.file_pass.specs.DiskTerms.{KeepsDisk};
 ghost use Rattle.file_pass.specs.Fed.{poll_of};
+ghost use Rattle.file_pass.specs.Moment.{meanings, moment, taking_at};
 ghost use Rattle.file_pass.specs.PassCause.{HasPassCause};
 ghost use Rattle.file_pass.specs.Sane.{AreSaneRows};
 ghost use Rattle.file_tracker.specs.Limits.{row_limit};
@@ -58,8 +59,8 @@ impl Session {
         requires session { IsSession self }
         requires stands { StandsOn D.meaning.images self disk.old }
         ensures session { IfOk result (λ done. IsSession done.0) }
-        ensures ok { IfOk result (λ done. Polled T.meaning D.meaning self done.0 done.1 tree.old tree.new disk.old disk.new) }
-        ensures crash { Passes D.meaning.images (Stays self) disk.old disk.new ⊎ MayGain T.meaning D.meaning self tree.old tree.new disk.old disk.new }
+        ensures ok { IfOk result (λ done. Polled (meanings T.meaning D.meaning) self done.0 done.1 (moment tree.old disk.old) (moment tree.new disk.new)) }
+        ensures crash { Passes D.meaning.images (Stays self) disk.old disk.new ⊎ MayGain (meanings T.meaning D.meaning) self (moment tree.old disk.old) (moment tree.new disk.new) }
         ensures early { DoneFewer 4 (D.meaning.done disk.old) (D.meaning.done disk.new) → Passes D.meaning.images (Stays self) disk.old disk.new }
         ensures standing { Told (KeepsStandingSince D.meaning.images (rules_of_session self) disk.old disk.new) (T.meaning.world tree.old) (T.meaning.world tree.new) }
         ensures full { (size : ℕ) → result ≡ Err (PollFault.OutputFull size) → Told (Overflows self size) (T.meaning.world tree.old) (T.meaning.world tree.new) }
@@ -86,8 +87,8 @@ impl Session {
         requires rules { AreRules (rules_of_session self) }
         requires stands { StandsOn D.meaning.images self disk.old }
         ensures session { IfOk result (λ done. IsSession done.0) }
-        ensures ok { IfOk result (λ done. Polled T.meaning D.meaning self done.0 done.1 tree.old tree.new disk.old disk.new) }
-        ensures crash { Passes D.meaning.images (Stays self) disk.old disk.new ⊎ MayGain T.meaning D.meaning self tree.old tree.new disk.old disk.new }
+        ensures ok { IfOk result (λ done. Polled (meanings T.meaning D.meaning) self done.0 done.1 (moment tree.old disk.old) (moment tree.new disk.new)) }
+        ensures crash { Passes D.meaning.images (Stays self) disk.old disk.new ⊎ MayGain (meanings T.meaning D.meaning) self (moment tree.old disk.old) (moment tree.new disk.new) }
         ensures early { DoneFewer 4 (D.meaning.done disk.old) (D.meaning.done disk.new) → Passes D.meaning.images (Stays self) disk.old disk.new }
         ensures full { (size : ℕ) → result ≡ Err (PollFault.OutputFull size) → Told (Overflows self size) (T.meaning.world tree.old) (T.meaning.world tree.new) }
         ensures worn { (sequence : ℕ) → result ≡ Err (PollFault.Worn sequence)
@@ -108,6 +109,7 @@ impl Session {
         } = self;
         let stamp = stamp_of(&pipeline, time);
         let setup = Setup {
+            alloc,
             pipeline: &pipeline,
             settings: last_text(&eras),
             era: eras.as_slice().len() as u32,
@@ -115,7 +117,7 @@ impl Session {
             first: journal.is_none(),
             limit: limit.max(kept),
         };
-        let (walk, taking) = pass(alloc, tree, disk, &setup, tracker, kept)?;
+        let (walk, taking) = pass(tree, disk, &setup, tracker, kept)?;
         let summary = Summary::of(&walk, &taking);
         let heading = Heading {
             eras: &eras,
@@ -147,7 +149,6 @@ pub(crate) fn stamp_of(pipeline: &Pipeline, time: u64) -> Option<u64>
 
 // Walks the tree and takes the paths that it finds.
 fn pass<T: Tree, D: Disk>(
-    alloc: Global,
     tree: &mut T,
     disk: &mut D,
     setup: &Setup<'_>,
@@ -160,17 +161,19 @@ fn pass<T: Tree, D: Disk>(
     requires few { length rows ≤ row_limit }
     requires within { kept ≤ setup.now.limit }
     requires ends { IsTrue (D.meaning.images.tells disk.old) → length (D.meaning.images.seen disk.old DiskFile.Output) ≡ kept }
-    ensures ok { IfOk result (λ found. Passed T.meaning D.meaning setup.now rows kept found.0 found.1 tree.old tree.new disk.old disk.new) }
-    ensures full { (size : ℕ) → result ≡ Err (PassFault.OutputFull size) → PassFills T.meaning setup.now rows kept size tree.old tree.new }
+    ensures ok { IfOk result (λ found. Passed (meanings T.meaning D.meaning) setup.now found.0
+        (record { rows = rows; end = kept; outside = moment tree.old disk.old }) (taking_at found.1 (moment tree.new disk.new))) }
+    ensures full { (size : ℕ) → result ≡ Err (PassFault.OutputFull size) → PassFills T.meaning setup.now size
+        (record { rows = rows; end = kept; outside = moment tree.old disk.old }) tree.new }
     ensures tree { LeavesTree T.meaning tree.old tree.new }
     ensures disk { KeepsDisk D.meaning kept disk.old disk.new }
     ensures cause { HasPassCause result (D.meaning.faults disk.old) (D.meaning.faults disk.new) }
 {
     let globs = setup.pipeline;
-    let walk = paths(alloc, tree, globs.include(), globs.exclude())?;
+    let walk = paths(setup.alloc, tree, globs.include(), globs.exclude())?;
     check_paths(&walk.paths)?;
-    let mut taking = begin(alloc, rows, kept)?;
-    take_all(alloc, tree, disk, setup, &walk.paths, &mut taking)?;
+    let mut taking = begin(setup.alloc, rows, kept)?;
+    take_all(tree, disk, setup, &walk.paths, &mut taking)?;
     Ok((walk, taking))
 }
 

@@ -11,7 +11,7 @@ ghost use Rattle.outside.specs.Image.{Image};
 ghost use Rattle.outside.specs.declared.disk.DiskFile.{DiskFile};
 ghost use Rattle.poll_core.specs.Begun.{IsQuiet};
 ghost use Rattle.poll_core.specs.IsSession.{IsShort};
-ghost use Rattle.poll_core.specs.Kept.{Keeps, KeepsTime};
+ghost use Rattle.poll_core.specs.Kept.{Keeps, KeepsTime, to_keep};
 ghost use Rattle.poll_core.specs.Next.{Costs, DifferInOutput, IsDue, IsNext, IsSavable, IsSavedIn, KeepsMemory, Puts, Saves, WrittenAtMost, cost_of_rows};
 ghost use Rattle.poll_core.specs.PollCause.{HasPollCause};
 ghost use Rattle.poll_core.specs.Taken.{keeping_of, taken_change, taken_checkpoint};
@@ -49,7 +49,7 @@ pub(crate) fn keep<D: Disk>(
     requires short { IfSome journal IsShort }
     requires savable { EachLeft D.meaning.images disk.old (IsSavable journal (keeping_of heading.now taking.now)) }
     requires slots { (one other : Image DiskFile) → D.meaning.images.may_leave disk.old one → D.meaning.images.may_leave disk.old other → DifferInOutput one other }
-    ensures kept { IfOk result (λ after. Keeps D.meaning.images (keeping_of heading.now taking.now) taking.now kept journal after disk.old disk.new) }
+    ensures kept { IfOk result (λ after. Keeps D.meaning.images (to_keep journal kept taking.now (keeping_of heading.now taking.now)) after disk.old disk.new) }
     ensures crash { Passes D.meaning.images (Saves journal (taken_checkpoint heading.now taking.now) (D.meaning.images.seen disk.old DiskFile.Output)) disk.old disk.new }
     ensures early { DoneFewer 4 (D.meaning.done disk.old) (D.meaning.done disk.new) → Passes D.meaning.images (KeepsMemory journal) disk.old disk.new }
     ensures worn { (sequence : ℕ) → result ≡ Err (PollFault.Worn sequence)

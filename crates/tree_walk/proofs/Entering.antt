@@ -27,6 +27,9 @@ use Rattle.tree_walk.specs.Gained.{Gains, IsListed, TakesItems}
 use Rattle.standing.specs.Included.{IsIncluded}
 use Rattle.tree_walk.specs.Starts.{MayHold}
 use Rattle.tree_walk.specs.Times.{WasOnce, WasAlways}
+use Rattle.tree_walk.specs.FoundAt.{found_at}
+use Rattle.tree_walk.specs.Listings.{failures, listings}
+use Rattle.tree_walk.specs.Patterns.{patterns}
 use Rattle.tree_walk.specs.declared.findings.Findings.{Findings}
 
 -- the path of one item is added, or not
@@ -68,7 +71,7 @@ module _ (include exclude : List Pattern) (folder : List ℕ) where
 -- one folder, over a told world
 module _ (include exclude : List Pattern) (folder : List ℕ) (before after : Findings) (old new : World) where
   pub entered_items : (items : Vec Item) (unnamed : ℕ) (mid : Findings) → mid.paths ≡ before.paths → mid.folders ≡ before.folders → TakesItems include exclude folder items.items mid after
-      → Lists folder (Ok (Items items unnamed)) old new → EntersIn include exclude (folder ∷ []) before after 0 unnamed old new
+      → Lists folder (Ok (Items items unnamed)) old new → EntersIn (patterns include exclude) (listings (folder ∷ []) (failures 0 unnamed)) before after old new
   entered_items items unnamed mid same_paths same_folders takes lists = record {
     handles = lists.handles;
     unlisteds = [];
@@ -118,7 +121,7 @@ module _ (include exclude : List Pattern) (folder : List ℕ) (before after : Fi
           let here : kind_at (names at.moment) (path_within folder name) ≡ Some kind = ap (kind_at (names at.moment)) (sym is) ∙ always at.moment (later_moves at.before) (later_moves at.after) in
           let there = (at.holds.each name kind proper).0 here in (there.0, record { name = name; kind = kind }, there.1, there.2, (refl, is))
 
-  pub entered_gone : after ≡ before → Lists folder (Ok Gone) old new → EntersIn include exclude (folder ∷ []) before after 0 0 old new
+  pub entered_gone : after ≡ before → Lists folder (Ok Gone) old new → EntersIn (patterns include exclude) (listings (folder ∷ []) (failures 0 0)) before after old new
   entered_gone same lists = record {
     handles = lists.handles;
     unlisteds = [];
@@ -141,7 +144,7 @@ module _ (include exclude : List Pattern) (folder : List ℕ) (before after : Fi
           let there = folder_there (names at.moment) other name kind (always at.moment (later_moves at.before) (later_moves at.after)) in
           both_ways (is_folder (names at.moment) folder) at.holds (ap (is_folder (names at.moment)) same ∙ there)
 
-  pub entered_failed : after.paths ≡ before.paths → after.folders ≡ before.folders → Lists folder (Err Failed) old new → EntersIn include exclude (folder ∷ []) before after 1 0 old new
+  pub entered_failed : after.paths ≡ before.paths → after.folders ≡ before.folders → Lists folder (Err Failed) old new → EntersIn (patterns include exclude) (listings (folder ∷ []) (failures 1 0)) before after old new
   entered_failed same_paths same_folders lists = record {
     handles = lists.handles;
     unlisteds = folder ∷ [];
@@ -158,7 +161,7 @@ module _ (include exclude : List Pattern) (folder : List ℕ) (before after : Fi
 
 -- several folders, over a told world
 module _ (include exclude : List Pattern) where
-  entered_none : (found : Findings) (world : World) → EntersIn include exclude [] found found 0 0 world world
+  entered_none : (found : Findings) (world : World) → EntersIn (patterns include exclude) (listings [] (failures 0 0)) found found world world
   entered_none found world = record {
     handles = refl;
     unlisteds = [];
@@ -175,8 +178,8 @@ module _ (include exclude : List Pattern) where
 
   entered_then : (first second : List (List ℕ)) (before mid after : Findings) (f u g v : ℕ) (old between new : World)
       → ((path : List ℕ) → Contains mid.paths.items path → Contains after.paths.items path) → ((path : List ℕ) → Contains mid.folders.items path → Contains after.folders.items path)
-      → EntersIn include exclude first before mid f u old between → EntersIn include exclude second mid after g v between new
-      → EntersIn include exclude (first ++ second) before after (f + g) (u + v) old new
+      → EntersIn (patterns include exclude) (listings first (failures f u)) before mid old between → EntersIn (patterns include exclude) (listings second (failures g v)) mid after between new
+      → EntersIn (patterns include exclude) (listings (first ++ second) (failures (f + g) (u + v))) before after old new
   entered_then first second before mid after f u g v old between new keep_paths keep_folders a b =
       let early = later_none old.history in
       let late = later_none new.history in
@@ -242,7 +245,7 @@ counts_then meaning f u g v old mid new a b = record {
 }
 
 module _ {T : Type 0} (meaning : TreeMeaning T) (include exclude : List Pattern) where
-  pub enters_none : (found : Findings) (tree : T) → Enters meaning include exclude [] found found tree tree
+  pub enters_none : (found : Findings) (tree : T) → Enters meaning (patterns include exclude) [] (found_at found tree) (found_at found tree)
   enters_none found tree = record {
     fails = 0;
     unnamed = 0;
@@ -255,8 +258,8 @@ module _ {T : Type 0} (meaning : TreeMeaning T) (include exclude : List Pattern)
     world = told_same _ (meaning.world tree) (entered_none include exclude found);
   }
 
-  pub enters_then : (first second : List (List ℕ)) (before mid after : Findings) (old between new : T) → Enters meaning include exclude first before mid old between → Enters meaning include exclude second mid after between new
-      → Enters meaning include exclude (first ++ second) before after old new
+  pub enters_then : (first second : List (List ℕ)) (before mid after : Findings) (old between new : T) → Enters meaning (patterns include exclude) first (found_at before old) (found_at mid between) → Enters meaning (patterns include exclude) second (found_at mid between) (found_at after new)
+      → Enters meaning (patterns include exclude) (first ++ second) (found_at before old) (found_at after new)
   enters_then first second before mid after old between new a b = record {
     fails = a.fails + b.fails;
     unnamed = a.unnamed + b.unnamed;
@@ -274,7 +277,7 @@ module _ {T : Type 0} (meaning : TreeMeaning T) (include exclude : List Pattern)
   module _ (folder : List ℕ) (before after : Findings) (old new : T) where
     pub enters_items : (items : Vec Item) (unnamed : ℕ) (mid : Findings) → mid.paths ≡ before.paths → mid.folders ≡ before.folders → mid.failed ≡ in_32_bits (before.failed + unnamed) → TakesItems include exclude folder items.items mid after
         → meaning.faults new ≡ meaning.faults old → meaning.nameless new ≡ raised (meaning.nameless old) unnamed
-        → Told (Lists folder (Ok (Items items unnamed))) (meaning.world old) (meaning.world new) → Enters meaning include exclude (folder ∷ []) before after old new
+        → Told (Lists folder (Ok (Items items unnamed))) (meaning.world old) (meaning.world new) → Enters meaning (patterns include exclude) (folder ∷ []) (found_at before old) (found_at after new)
     enters_items items unnamed mid same_paths same_folders failed takes stood nameless told = record {
       fails = 0;
       unnamed = unnamed;
@@ -288,7 +291,7 @@ module _ {T : Type 0} (meaning : TreeMeaning T) (include exclude : List Pattern)
     }
 
     pub enters_gone : after ≡ before → meaning.faults new ≡ meaning.faults old → meaning.nameless new ≡ meaning.nameless old
-        → Told (Lists folder (Ok Gone)) (meaning.world old) (meaning.world new) → Enters meaning include exclude (folder ∷ []) before after old new
+        → Told (Lists folder (Ok Gone)) (meaning.world old) (meaning.world new) → Enters meaning (patterns include exclude) (folder ∷ []) (found_at before old) (found_at after new)
     enters_gone same stood nameless told = record {
       fails = 0;
       unnamed = 0;
@@ -302,7 +305,7 @@ module _ {T : Type 0} (meaning : TreeMeaning T) (include exclude : List Pattern)
     }
 
     pub enters_failed : after.paths ≡ before.paths → after.folders ≡ before.folders → after.failed ≡ in_32_bits (before.failed + 1) → raised (meaning.faults old) 1 ≤ meaning.faults new → meaning.nameless new ≡ meaning.nameless old
-        → Told (Lists folder (Err Failed)) (meaning.world old) (meaning.world new) → Enters meaning include exclude (folder ∷ []) before after old new
+        → Told (Lists folder (Err Failed)) (meaning.world old) (meaning.world new) → Enters meaning (patterns include exclude) (folder ∷ []) (found_at before old) (found_at after new)
     enters_failed same_paths same_folders failed rose nameless told = record {
       fails = 1;
       unnamed = 0;

@@ -22,6 +22,8 @@ use Rattle.tree_walk.specs.ListsOnce.{ListsFolders, ListsOnce}
 use Rattle.tree_walk.specs.ListsSome.{ListsSome}
 use Rattle.tree_walk.specs.Reached.{ReachesIn, Reaches}
 use Rattle.tree_walk.specs.Starts.{IsStart, MayHold}
+use Rattle.tree_walk.specs.Listings.{failures}
+use Rattle.tree_walk.specs.Patterns.{patterns}
 use Rattle.tree_walk.specs.declared.findings.Findings.{Findings}
 
 distinct_one : (x : List ℕ) → IsDistinct bytes_eq (x ∷ [])
@@ -132,14 +134,14 @@ module _ {T : Type 0} (meaning : TreeMeaning T) (include : List Pattern) where
       told_weaker (ListsAbove include (is_some (meaning.world old)) level) (ListsFolders include (is_some (meaning.world old))) (meaning.listed old) (meaning.listed new)
       (λ x y a. record { folders = a.folders; goes_on = a.goes_on; each_met = a.each_met; each_once = a.each_once; none_deep = λ is folder c. omega (arith, a.each_above is folder c, shallow) }) listed
 
-  pub listed_next : (exclude : List Pattern) (starts : List (List ℕ)) → starts ≡ map start include → (level : ℕ) → level ≤ 32 → (found : Findings) (old between new : T) → Reaches meaning include exclude level found old between
+  pub listed_next : (exclude : List Pattern) (starts : List (List ℕ)) → starts ≡ map start include → (level : ℕ) → level ≤ 32 → (found : Findings) (old between new : T) → Reaches meaning (patterns include exclude) level found old between
       → HasListed level old between → Told (ListsSome (IsDue found.folders.items starts level)) (meaning.listed between) (meaning.listed new) → HasListed (level + 1) old new
   listed_next exclude starts from_include level shallow found old between new reached before some =
       let told = is_some (meaning.world old) in
       let Due = IsDue found.folders.items starts level in
       told_then (ListsAbove include told level) (ListsSome Due) (ListsAbove include told (level + 1)) (meaning.listed old) (meaning.listed between) (meaning.listed new) (λ x y z a b. above_then include told level Due met at x y z a b) before some
     where
-      found_at : (w x : Option World) → IsTrue (is_some w) → Told (ReachesIn include exclude level found reached.fails reached.unnamed) w x → (folder : List ℕ) → Contains found.folders.items folder → depth folder ≡ level
+      found_at : (w x : Option World) → IsTrue (is_some w) → Told (ReachesIn (patterns include exclude) level (failures reached.fails reached.unnamed) found) w x → (folder : List ℕ) → Contains found.folders.items folder → depth folder ≡ level
       found_at None x is in_it folder c = absurd (cc is)
       found_at (Some w) None is in_it folder c = absurd in_it
       found_at (Some w) (Some x) is in_it folder c = (in_it.are_folders folder c).0

@@ -36,6 +36,9 @@ use Rattle.tree_walk.specs.Reached.{ReachesIn, Reaches}
 use Rattle.tree_walk.specs.Times.{WasAlways}
 use Rattle.tree_walk.specs.Walked.{IsHidden, IsMet, FindsIn, Finds}
 use Rattle.tree_walk.specs.declared.findings.Findings.{Findings}
+use Rattle.tree_walk.specs.FoundAt.{found_at}
+use Rattle.tree_walk.specs.Listings.{failures, listings}
+use Rattle.tree_walk.specs.Patterns.{patterns}
 use Rattle.tree_walk.specs.declared.walk.Walk.{Walk}
 
 module _ {X Y : Type 0} (f : X → Y) where
@@ -91,7 +94,7 @@ met_longer include old mid new folder late met = elim met [
 ]
 
 -- before anything was listed
-reached_none : (include exclude : List Pattern) (found : Findings) (world : World) → found.paths.items ≡ [] → found.folders.items ≡ [] → ReachesIn include exclude 0 found 0 0 world world
+reached_none : (include exclude : List Pattern) (found : Findings) (world : World) → found.paths.items ≡ [] → found.folders.items ≡ [] → ReachesIn (patterns include exclude) 0 (failures 0 0) found world world
 reached_none include exclude found world no_paths no_folders = record {
   handles = refl;
   unlisteds = [];
@@ -106,7 +109,7 @@ reached_none include exclude found world no_paths no_folders = record {
   finds = λ path included always few. absurd (omega (arith, few, same_count path, some_length (relative path)));
 }
 
-pub reaches_none : {T : Type 0} (meaning : TreeMeaning T) (include exclude : List Pattern) (found : Findings) (tree : T) → found.paths.items ≡ [] → found.folders.items ≡ [] → found.failed ≡ 0 → Reaches meaning include exclude 0 found tree tree
+pub reaches_none : {T : Type 0} (meaning : TreeMeaning T) (include exclude : List Pattern) (found : Findings) (tree : T) → found.paths.items ≡ [] → found.folders.items ≡ [] → found.failed ≡ 0 → Reaches meaning (patterns include exclude) 0 found tree tree
 reaches_none meaning include exclude found tree no_paths no_folders none = record {
   fails = 0;
   unnamed = 0;
@@ -122,7 +125,7 @@ module _ (include exclude : List Pattern) (leads : (glob : Pattern) → Contains
     (level : ℕ) (shallow : level ≤ 32) (found emptied after : Findings) (due folders : List (List ℕ)) (with_starts : Gains (λ folder. Contains starts folder × (level_of folder ≡ level)) found.folders.items due)
     (sorted : IsSorted due folders) (same_paths : emptied.paths.items ≡ found.paths.items) (no_folders : emptied.folders.items ≡ [])
     (keep_paths : (path : List ℕ) → Contains emptied.paths.items path → Contains after.paths.items path) (may_hold : (folder : List ℕ) → Contains found.folders.items folder → MayHold include folder)
-    (f u g v : ℕ) (old between new : World) (lawful : IsLawful new.history) (before : ReachesIn include exclude level found f u old between) (enters : EntersIn include exclude folders emptied after g v between new) where
+    (f u g v : ℕ) (old between new : World) (lawful : IsLawful new.history) (before : ReachesIn (patterns include exclude) level (failures f u) found old between) (enters : EntersIn (patterns include exclude) (listings folders (failures g v)) emptied after between new) where
   early : IsLater old.history between.history
   early = before.calls.later
 
@@ -211,7 +214,7 @@ module _ (include exclude : List Pattern) (leads : (glob : Pattern) → Contains
     ]
   ]
 
-  reached_next : ReachesIn include exclude (level + 1) after (f + g) (u + v) old new
+  reached_next : ReachesIn (patterns include exclude) (level + 1) (failures (f + g) (u + v)) after old new
   reached_next = record {
     handles = enters.handles ∙ before.handles;
     unlisteds = unlisteds;
@@ -241,8 +244,8 @@ module _ (include exclude : List Pattern) (leads : (glob : Pattern) → Contains
 
 -- one level more, over any tree
 pub reaches_next : {T : Type 0} (meaning : TreeMeaning T) (include exclude : List Pattern) → ((glob : Pattern) → Contains include glob → LeadsToMatches glob) → (starts : List (List ℕ)) → starts ≡ map start include → (level : ℕ) → level ≤ 32
-    → (found after : Findings) (old between new : T) → TellsLawful (meaning.world new) → Reaches meaning include exclude level found old between → EntersLevel meaning include exclude starts level found after between new
-    → Reaches meaning include exclude (level + 1) after old new
+    → (found after : Findings) (old between new : T) → TellsLawful (meaning.world new) → Reaches meaning (patterns include exclude) level found old between → EntersLevel meaning (patterns include exclude) starts level (found_at found between) (found_at after new)
+    → Reaches meaning (patterns include exclude) (level + 1) after old new
 reaches_next meaning include exclude leads starts from_include level shallow found after old between new lawful before entered =
     let e = entered.enters in
     record {
@@ -261,11 +264,11 @@ reaches_next meaning include exclude leads starts from_include level shallow fou
       world = by (meaning.world old) (meaning.world between) (meaning.world new) lawful before.world e.world;
     }
   where
-    e : Enters meaning include exclude entered.folders entered.emptied after between new
+    e : Enters meaning (patterns include exclude) entered.folders (found_at entered.emptied between) (found_at after new)
     e = entered.enters
 
-    by : (x y z : Option World) → TellsLawful z → Told (ReachesIn include exclude level found before.fails before.unnamed) x y → Told (EntersIn include exclude entered.folders entered.emptied after e.fails e.unnamed) y z
-        → Told (ReachesIn include exclude (level + 1) after (before.fails + e.fails) (before.unnamed + e.unnamed)) x z
+    by : (x y z : Option World) → TellsLawful z → Told (ReachesIn (patterns include exclude) level (failures before.fails before.unnamed) found) x y → Told (EntersIn (patterns include exclude) (listings entered.folders (failures e.fails e.unnamed)) entered.emptied after) y z
+        → Told (ReachesIn (patterns include exclude) (level + 1) (failures (before.fails + e.fails) (before.unnamed + e.unnamed)) after) x z
     by None None None l a b = tt
     by None None (Some z) l a b = b
     by None (Some y) z l a b = absurd a
@@ -278,7 +281,7 @@ reaches_next meaning include exclude leads starts from_include level shallow fou
 -- all levels, over a told world
 module _ (include exclude : List Pattern) (leads : (glob : Pattern) → Contains include glob → LeadsToMatches glob) (starts : List (List ℕ)) (from_include : starts ≡ map start include)
     (found : Findings) (paths deep due : List (List ℕ)) (sorted : IsSorted found.paths.items paths) (with_starts : Gains (λ folder. Contains starts folder × (level_of folder ≡ 33)) found.folders.items due) (deep_sorted : IsSorted due deep)
-    (may_hold : (folder : List ℕ) → Contains found.folders.items folder → MayHold include folder) (f u : ℕ) (old new : World) (reached : ReachesIn include exclude 33 found f u old new) where
+    (may_hold : (folder : List ℕ) → Contains found.folders.items folder → MayHold include folder) (f u : ℕ) (old new : World) (reached : ReachesIn (patterns include exclude) 33 (failures f u) found old new) where
   deep_left : (path : List ℕ) → IsIncluded include exclude path → (IsReachable path → ⊥) → WasAlways File old.history new.history path → ((folder : List ℕ) × Contains deep folder × IsOnWay path folder) ⊎ IsHidden reached.unlisteds path
   deep_left path included never always =
       let matched = any_found _ include included.matched in
@@ -304,7 +307,7 @@ module _ (include exclude : List Pattern) (leads : (glob : Pattern) → Contains
       too_far : (path : List ℕ) → (IsReachable path → ⊥) → 33 < length (parts path)
       too_far path never = elim (cases_lt 33 (length (parts path))) [ inl far ↦ far | inr near ↦ absurd (never near) ]
 
-  found_in : FindsIn include exclude paths deep f u old new
+  found_in : FindsIn (patterns include exclude) paths deep (failures f u) old new
   found_in = record {
     handles = reached.handles;
     unlisteds = reached.unlisteds;
@@ -326,7 +329,7 @@ module _ (include exclude : List Pattern) (leads : (glob : Pattern) → Contains
   }
 
 pub finds_all : {T : Type 0} (meaning : TreeMeaning T) (include exclude : List Pattern) → ((glob : Pattern) → Contains include glob → LeadsToMatches glob) → (starts : List (List ℕ)) → starts ≡ map start include
-    → (found ready : Findings) (walk : Walk) (old new : T) → Reaches meaning include exclude 33 found old new → Gains (λ folder. Contains starts folder × (level_of folder ≡ 33)) found.folders.items ready.folders.items
+    → (found ready : Findings) (walk : Walk) (old new : T) → Reaches meaning (patterns include exclude) 33 found old new → Gains (λ folder. Contains starts folder × (level_of folder ≡ 33)) found.folders.items ready.folders.items
     → ready.paths ≡ found.paths → ready.failed ≡ found.failed → IsFinished ready walk → Finds meaning include exclude walk old new
 finds_all meaning include exclude leads starts from_include found ready walk old new reached with_starts same_paths same_failed finished = record {
   included = λ path c. reached.included path (was path (finished.paths.only path c));

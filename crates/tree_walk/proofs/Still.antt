@@ -18,12 +18,14 @@ use Rattle.standing.specs.Pass.{IsReachable}
 use Rattle.tree_walk.proofs.Lists.{contains_none, contains_first, contains_behind, contains_cases}
 use Rattle.standing.specs.Included.{IsIncluded}
 use Rattle.tree_walk.specs.Times.{IsOfKind, WasAlways}
+use Rattle.tree_walk.specs.Listings.{failures}
+use Rattle.tree_walk.specs.Patterns.{patterns}
 use Rattle.tree_walk.specs.Walked.{Ascends, IsHidden, FindsIn}
 
 none_in : (xs : List (List ℕ)) (x : List ℕ) → 0 ≡ length xs → Contains xs x → ⊥
 none_in xs x none c = absurd (omega (arith, none, c.1))
 
-pub found_whole : (include exclude : List Pattern) (paths : List (List ℕ)) (unnamed : ℕ) (old new : World) → ((path : List ℕ) → Contains paths path → IsIncluded include exclude path) → FindsIn include exclude paths [] 0 unnamed old new
+pub found_whole : (include exclude : List Pattern) (paths : List (List ℕ)) (unnamed : ℕ) (old new : World) → ((path : List ℕ) → Contains paths path → IsIncluded include exclude path) → FindsIn (patterns include exclude) paths [] (failures 0 unnamed) old new
     → KeepsNames old.history new.history → (path : List ℕ) → Contains paths path ↔ (IsIncluded include exclude path × IsOfKind File old.history path)
 found_whole include exclude paths unnamed old new included finds keeps path = (there, back)
   where

@@ -1,5 +1,8 @@
 pub mod Calls
 pub mod Depth
+pub mod Patterns
+pub mod Listings
+pub mod FoundAt
 pub mod Entered
 pub mod Finished
 pub mod Gained

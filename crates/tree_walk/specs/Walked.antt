@@ -14,6 +14,8 @@ use Rattle.standing.specs.Pass.{IsOnWay, IsReachable}
 use Rattle.tree_walk.specs.Calls.{ListsOnly, Counts, in_32_bits}
 use Rattle.tree_walk.specs.Depth.{depth}
 use Rattle.standing.specs.Included.{IsIncluded}
+use Rattle.tree_walk.specs.Listings.{Failures, failures}
+use Rattle.tree_walk.specs.Patterns.{Patterns, patterns}
 use Rattle.tree_walk.specs.Starts.{IsStart, MayHold}
 use Rattle.tree_walk.specs.Times.{WasOnce, WasAlways}
 use Rattle.tree_walk.specs.declared.walk.Walk.{Walk}
@@ -33,20 +35,20 @@ IsMet include old new folder = IsStart include folder ⊎ (MayHold include folde
 
 -- What a walk over a told world finds. `deep` are the folders that lie too deep, `unlisteds` those that could not be
 -- listed.
-pub record FindsIn (include exclude : List Pattern) (paths deep : List (List ℕ)) (fails unnamed : ℕ) (old new : World) : Type 0 where
+pub record FindsIn (by : Patterns) (paths deep : List (List ℕ)) (failed : Failures) (old new : World) : Type 0 where
   pub handles : new.handles ≡ old.handles
   pub unlisteds : List (List ℕ)
   pub calls : ListsOnly unlisteds old.history new.history
-  pub each_fails : fails ≡ length unlisteds
-  pub each_named : unnamed ≡ 0
+  pub each_fails : failed.lists ≡ length unlisteds
+  pub each_named : failed.names ≡ 0
   pub each_once : IsDistinct bytes_eq unlisteds
-  pub each_met : (folder : List ℕ) → Contains unlisteds folder → (depth folder ≤ deepest) × IsMet include old.history new.history folder
+  pub each_met : (folder : List ℕ) → Contains unlisteds folder → (depth folder ≤ deepest) × IsMet by.include old.history new.history folder
   -- each path was that of a file
   pub are_files : (path : List ℕ) → Contains paths path → WasOnce File old.history new.history path
-  pub none_left_out : (path : List ℕ) → IsIncluded include exclude path → IsReachable path → WasAlways File old.history new.history path → Contains paths path ⊎ IsHidden unlisteds path
-  pub are_deep : (folder : List ℕ) → Contains deep folder → (deepest < depth folder) × IsMet include old.history new.history folder
+  pub none_left_out : (path : List ℕ) → IsIncluded by.include by.exclude path → IsReachable path → WasAlways File old.history new.history path → Contains paths path ⊎ IsHidden unlisteds path
+  pub are_deep : (folder : List ℕ) → Contains deep folder → (deepest < depth folder) × IsMet by.include old.history new.history folder
   -- a path that lies too deep has a folder on its way that does
-  pub no_deep_left_out : (path : List ℕ) → IsIncluded include exclude path → (IsReachable path → ⊥) → WasAlways File old.history new.history path
+  pub no_deep_left_out : (path : List ℕ) → IsIncluded by.include by.exclude path → (IsReachable path → ⊥) → WasAlways File old.history new.history path
       → ((folder : List ℕ) × Contains deep folder × IsOnWay path folder) ⊎ IsHidden unlisteds path
 
 -- What a walk answers over any tree.
@@ -65,4 +67,4 @@ pub record Finds {T : Type 0} (meaning : TreeMeaning T) (include exclude : List 
   pub each_deep : (folder : List ℕ) → Contains deep_folders folder → IsStart include folder ⊎ MayHold include folder
   pub starts : (folder : List ℕ) → IsStart include folder → deepest < depth folder → Contains deep_folders folder
   -- what a tree that tells its history was found to have
-  pub world : Told (FindsIn include exclude walk.paths.items deep_folders fails unnamed) (meaning.world old) (meaning.world new)
+  pub world : Told (FindsIn (patterns include exclude) walk.paths.items deep_folders (failures fails unnamed)) (meaning.world old) (meaning.world new)

@@ -3,8 +3,10 @@ ghost use Rattle.std.specs.Prelude.{◌≡◌, ◌∷◌, [], OnOk};
 ghost use Rattle.outside.specs.World.{Told};
 ghost use Rattle.tree_walk.specs.Calls.{Lasts};
 ghost use Rattle.tree_walk.specs.Entered.{Enters};
+ghost use Rattle.tree_walk.specs.FoundAt.{found_at};
 ghost use Rattle.tree_walk.specs.Gained.{TakesItems};
 ghost use Rattle.tree_walk.specs.ListsSome.{ListsSome};
+ghost use Rattle.tree_walk.specs.Patterns.{patterns};
 
 use crate::findings::Findings;
 use crate::globs::Globs;
@@ -21,7 +23,7 @@ pub(crate) fn list_folder<T: Tree>(
     folder: &str,
     found: &mut Findings,
 ) -> Result<(), AllocError>
-    ensures ok { OnOk result (Enters T.meaning globs.now.include.now globs.now.exclude.now (folder.now ∷ []) found.old found.new tree.old tree.new) }
+    ensures ok { OnOk result (Enters T.meaning (patterns globs.now.include.now globs.now.exclude.now) (folder.now ∷ []) (found_at found.old tree.old) (found_at found.new tree.new)) }
     ensures lasts { Lasts T.meaning tree.old tree.new }
     ensures lists { Told (ListsSome (λ listed. listed ≡ folder.now)) ((T.meaning).listed tree.old) ((T.meaning).listed tree.new) }
 {

@@ -5,6 +5,8 @@ ghost use Rattle.outside.specs.World.{World};
 ghost use Rattle.outside.specs.declared.tree.Kind.{Kind};
 ghost use Rattle.standing.specs.Moments.{KeepsNames};
 ghost use Rattle.standing.specs.Included.{IsIncluded};
+ghost use Rattle.tree_walk.specs.Listings.{failures};
+ghost use Rattle.tree_walk.specs.Patterns.{patterns};
 ghost use Rattle.tree_walk.specs.Times.{IsOfKind};
 ghost use Rattle.tree_walk.specs.Walked.{Ascends, FindsIn};
 
@@ -12,7 +14,7 @@ ghost use Rattle.tree_walk.specs.Walked.{Ascends, FindsIn};
 /// those of the files that are included.
 pub fn still_worlds_are_found_whole()
     ensures { (include exclude : List Pattern) (paths : List (List ℕ)) (unnamed : ℕ) (old new : World)
-        → ((path : List ℕ) → Contains paths path → IsIncluded include exclude path) → FindsIn include exclude paths [] 0 unnamed old new
+        → ((path : List ℕ) → Contains paths path → IsIncluded include exclude path) → FindsIn (patterns include exclude) paths [] (failures 0 unnamed) old new
         → KeepsNames old.history new.history
         → (path : List ℕ) → Contains paths path ↔ (IsIncluded include exclude path × IsOfKind Kind.File old.history path) }
 {}

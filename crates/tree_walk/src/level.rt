@@ -6,7 +6,9 @@ ghost use Rattle.outside.specs.World.{Told};
 ghost use Rattle.tree_walk.specs.Calls.{Lasts};
 ghost use Rattle.tree_walk.specs.Depth.{level_of};
 ghost use Rattle.tree_walk.specs.Entered.{Enters, EntersLevel};
+ghost use Rattle.tree_walk.specs.FoundAt.{found_at};
 ghost use Rattle.tree_walk.specs.ListsSome.{ListsSome};
+ghost use Rattle.tree_walk.specs.Patterns.{patterns};
 
 use crate::findings::Findings;
 use crate::folder::list_folder;
@@ -27,7 +29,7 @@ pub(crate) fn list_level<T: Tree>(
     level: usize,
     found: &mut Findings,
 ) -> Result<(), AllocError>
-    ensures ok { OnOk result (EntersLevel T.meaning globs.now.include.now globs.now.exclude.now starts.now level found.old found.new tree.old tree.new) }
+    ensures ok { OnOk result (EntersLevel T.meaning (patterns globs.now.include.now globs.now.exclude.now) starts.now level (found_at found.old tree.old) (found_at found.new tree.new)) }
     ensures lasts { Lasts T.meaning tree.old tree.new }
     ensures lists { Told (ListsSome (λ folder. Contains found.old.folders.items folder ⊎ (Contains starts.now folder × (level_of folder ≡ level))))
         ((T.meaning).listed tree.old) ((T.meaning).listed tree.new) }
@@ -44,7 +46,7 @@ fn list_folders<T: Tree>(
     folders: &[Text],
     found: &mut Findings,
 ) -> Result<(), AllocError>
-    ensures ok { OnOk result (Enters T.meaning globs.now.include.now globs.now.exclude.now folders.now found.old found.new tree.old tree.new) }
+    ensures ok { OnOk result (Enters T.meaning (patterns globs.now.include.now globs.now.exclude.now) folders.now (found_at found.old tree.old) (found_at found.new tree.new)) }
     ensures lasts { Lasts T.meaning tree.old tree.new }
     ensures lists { IsDistinct bytes_eq folders.now
         → Told (ListsSome (Contains folders.now)) ((T.meaning).listed tree.old) ((T.meaning).listed tree.new) }

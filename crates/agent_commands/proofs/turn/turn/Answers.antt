@@ -1,5 +1,6 @@
 use Rattle.std.proofs.Common.{ℕ, ◌≡◌, sym, ◌∙◌, ap, subst, inl, inr, refl}
 use Rattle.std.specs.Prelude.{Err}
+use Rattle.file_pass.specs.Moment as pass
 use Rattle.outside.specs.World.{Told}
 use Rattle.poll_core.specs.Polled.{Polled}
 use Rattle.poll_core.specs.SessionParts.{checkpoint_of_session}
@@ -65,7 +66,7 @@ returns-in-Ok-report_summary-clause-turns g c = λ begun keeps.
       now = at.now;
       read = at.read;
       summary = c.in-Ok.done.1;
-      polled = subst (λ (s : Session). Polled g.T.Tree.meaning g.D.Disk.meaning s next c.in-Ok.done.1 c.args.tree.now c.poll.new.tree c.args.disk.now c.poll.new.disk) at.is c.in-Ok.ensures.polled;
+      polled = subst (λ (s : Session). Polled (pass.meanings g.T.Tree.meaning g.D.Disk.meaning) s next c.in-Ok.done.1 (pass.moment c.args.tree.now c.args.disk.now) (pass.moment c.poll.new.tree c.poll.new.disk)) at.is c.in-Ok.ensures.polled;
       whole = λ first is.
           subst (λ (s : Session). Told (HoldsAll s (checkpoint_of_session next) c.in-Ok.done.1 (StoodSince images first.history begun.disk c.args.disk.now)) (world c.args.tree.now) (world c.poll.new.tree)) at.is
           (holds_since images (λ disk image since. g.met.D.Disk.only_now disk image since) (λ disk from image early left. g.met.D.Disk.counts_now disk from image early left)
@@ -89,7 +90,7 @@ returns-in-Err-Failed-clause-stops g c =
       read = at.read;
       next = c.in-Ok.done.0;
       summary = c.in-Ok.done.1;
-      polled = subst (λ (s : Session). Polled g.T.Tree.meaning g.D.Disk.meaning s c.in-Ok.done.0 c.in-Ok.done.1 c.args.tree.now c.poll.new.tree c.args.disk.now c.poll.new.disk) at.is c.in-Ok.ensures.polled;
+      polled = subst (λ (s : Session). Polled (pass.meanings g.T.Tree.meaning g.D.Disk.meaning) s c.in-Ok.done.0 c.in-Ok.done.1 (pass.moment c.args.tree.now c.args.disk.now) (pass.moment c.poll.new.tree c.poll.new.disk)) at.is c.in-Ok.ensures.polled;
       is = inl refl;
       told = c.report_summary.ensures.part;
     })
@@ -107,7 +108,7 @@ returns-clause-stops g c =
       read = at.read;
       next = c.in-Ok.done.0;
       summary = c.in-Ok.done.1;
-      polled = subst (λ (s : Session). Polled g.T.Tree.meaning g.D.Disk.meaning s c.in-Ok.done.0 c.in-Ok.done.1 c.args.tree.now c.poll.new.tree c.args.disk.now c.poll.new.disk) at.is c.in-Ok.ensures.polled;
+      polled = subst (λ (s : Session). Polled (pass.meanings g.T.Tree.meaning g.D.Disk.meaning) s c.in-Ok.done.0 c.in-Ok.done.1 (pass.moment c.args.tree.now c.args.disk.now) (pass.moment c.poll.new.tree c.poll.new.disk)) at.is c.in-Ok.ensures.polled;
       is = inr refl;
       told = c.report_summary.ensures.part;
     })

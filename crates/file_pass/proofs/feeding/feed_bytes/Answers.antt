@@ -1,4 +1,4 @@
-use Rattle.std.proofs.Common.{◌≡◌, ◌+◌, ℕ, List, refl, sym, ap, ◌∙◌, arith}
+use Rattle.std.proofs.Common.{◌+◌, ℕ, List, refl, sym, ap, ◌∙◌, arith}
 use Rattle.pipeline.specs.RowStates.{IsStateOfRow}
 use Rattle.standing.specs.AreRules.{AreRules}
 use Rattle.standing.specs.Rows.{Row}

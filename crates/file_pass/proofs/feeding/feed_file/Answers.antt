@@ -1,6 +1,7 @@
 use Rattle.std.proofs.Common.{◌≡◌, ◌∙◌, ◌≤◌, sym, ap, arith, Err}
 use Rattle.standing.specs.AreRules.{AreRules}
 use Rattle.file_pass.specs.Fed.{rules_in}
+use Rattle.file_pass.specs.Moment.{feeding_at, meanings, moment}
 use Rattle.file_pass.specs.declared.fault.PassFault.TheVariants.{OutputFull}
 use Rattle.file_pass.proofs.DiskLemmas.{ends_then, keeps_disk_then}
 use Rattle.file_pass.proofs.FlushLemmas.{on_whole}
@@ -10,10 +11,10 @@ use Rattle.file_pass.proofs.feeding.feed_file.Goals as goal
 pub returns-in_err-ending-clause-full : goal.returns-in_err-ending-clause-full
 returns-in_err-ending-clause-full g c = λ size is.
     let same : OutputFull size ≡ c.in_err-ending.field-0.0 = rw is at c.from_residual.ensures.1 in
-    fills_part g.T.Tree.meaning c.args.setup.now c.args.file c.args.feeding.now c.args.end.now size c.args.tree.now c.read_on.new.tree (c.in_err-ending.ensures.full size (ap Err (sym same)))
+    fills_part g.T.Tree.meaning c.args.setup.now size (feeding_at c.args.feeding.now c.args.end.now (moment c.args.tree.now c.args.disk.now)) c.read_on.new.tree (c.in_err-ending.ensures.full size (ap Err (sym same)))
 
 pub look_on-requires-clause-asked : goal.look_on-requires-clause-asked
-look_on-requires-clause-asked g c = (on_whole (rules_in c.args.setup.now) c.args.file.size c.in_ok-ending.ending c.args.feeding.now.offset (sym c.may_flush.ensures ∙ c.if-may_flush.true)).1
+look_on-requires-clause-asked g c = (on_whole (rules_in c.args.setup.now) c.args.feeding.now.file.size c.in_ok-ending.ending c.args.feeding.now.offset (sym c.may_flush.ensures ∙ c.if-may_flush.true)).1
 
 pub look_on-requires-clause-size : goal.look_on-requires-clause-size
 look_on-requires-clause-size g c =
@@ -21,14 +22,14 @@ look_on-requires-clause-size g c =
     omega (
       arith,
       c.requires.size,
-      size_is g.T.Tree.meaning g.D.Disk.meaning c.args.setup.now laws c.args.file c.args.feeding.now c.read_on.new.feeding c.args.end.now c.read_on.new.end c.in_ok-ending.ending c.args.tree.now c.read_on.new.tree c.args.disk.now c.read_on.new.disk
+      size_is (meanings g.T.Tree.meaning g.D.Disk.meaning) c.args.setup.now laws c.in_ok-ending.ending (feeding_at c.args.feeding.now c.args.end.now (moment c.args.tree.now c.args.disk.now)) (feeding_at c.read_on.new.feeding c.read_on.new.end (moment c.read_on.new.tree c.read_on.new.disk))
           c.in_ok-ending.ensures.ok (sym c.may_flush.ensures ∙ c.if-may_flush.true),
     )
 
 pub look_on-requires-clause-none : goal.look_on-requires-clause-none
 look_on-requires-clause-none g c =
     let laws : AreRules (rules_in c.args.setup.now) = c.a_pipeline_is_rules.ensures c.args.setup.now.settings.now c.requires.setup.0 in
-    no_cuts g.T.Tree.meaning g.D.Disk.meaning c.args.setup.now laws c.args.file c.args.feeding.now c.read_on.new.feeding c.args.end.now c.read_on.new.end c.in_ok-ending.ending c.args.tree.now c.read_on.new.tree c.args.disk.now c.read_on.new.disk
+    no_cuts (meanings g.T.Tree.meaning g.D.Disk.meaning) c.args.setup.now laws c.in_ok-ending.ending (feeding_at c.args.feeding.now c.args.end.now (moment c.args.tree.now c.args.disk.now)) (feeding_at c.read_on.new.feeding c.read_on.new.end (moment c.read_on.new.tree c.read_on.new.disk))
     c.in_ok-ending.ensures.ok
 
 pub look_on-requires-clause-ends : goal.look_on-requires-clause-ends
@@ -39,7 +40,7 @@ look_on-requires-clause-ends g c =
 pub returns-in_ok-look_on-clause-ok : goal.returns-in_ok-look_on-clause-ok
 returns-in_ok-look_on-clause-ok g c =
     let laws : AreRules (rules_in c.args.setup.now) = c.a_pipeline_is_rules.ensures c.args.setup.now.settings.now c.requires.setup.0 in
-    reads_looked g.T.Tree.meaning g.D.Disk.meaning c.args.setup.now laws c.args.file c.args.feeding.now c.read_on.new.feeding c.args.end.now c.read_on.new.end c.in_ok-ending.ending c.args.tree.now c.read_on.new.tree c.args.disk.now c.read_on.new.disk
+    reads_looked (meanings g.T.Tree.meaning g.D.Disk.meaning) c.args.setup.now laws c.in_ok-ending.ending (feeding_at c.args.feeding.now c.args.end.now (moment c.args.tree.now c.args.disk.now)) (feeding_at c.read_on.new.feeding c.read_on.new.end (moment c.read_on.new.tree c.read_on.new.disk))
     c.in_ok-ending.ensures.ok (sym c.may_flush.ensures ∙ c.if-may_flush.true) c.look_on.new.feeding c.look_on.new.end c.look_on.new.disk c.read_on.ensures.disk.terms.tells
     c.in_ok-look_on.ensures.row c.in_ok-look_on.ensures.flushed c.in_ok-look_on.ensures.few c.in_ok-look_on.ensures.ok
 
@@ -57,11 +58,11 @@ pub returns-in_err-look_on-clause-full : goal.returns-in_err-look_on-clause-full
 returns-in_err-look_on-clause-full g c = λ size is.
     let laws : AreRules (rules_in c.args.setup.now) = c.a_pipeline_is_rules.ensures c.args.setup.now.settings.now c.requires.setup.0 in
     let same : OutputFull size ≡ c.in_err-look_on.field-0.0 = rw is at c.from_residual-in_err-look_on.ensures.1 in
-    fills_looked g.T.Tree.meaning g.D.Disk.meaning c.args.setup.now laws c.args.file c.args.feeding.now c.read_on.new.feeding c.args.end.now c.read_on.new.end c.in_ok-ending.ending c.args.tree.now c.read_on.new.tree c.args.disk.now c.read_on.new.disk
+    fills_looked (meanings g.T.Tree.meaning g.D.Disk.meaning) c.args.setup.now laws c.in_ok-ending.ending (feeding_at c.args.feeding.now c.args.end.now (moment c.args.tree.now c.args.disk.now)) (feeding_at c.read_on.new.feeding c.read_on.new.end (moment c.read_on.new.tree c.read_on.new.disk))
     c.in_ok-ending.ensures.ok (sym c.may_flush.ensures ∙ c.if-may_flush.true) size (c.in_err-look_on.ensures.full size (ap Err (sym same)))
 
 pub returns-else-may_flush-clause-ok : goal.returns-else-may_flush-clause-ok
 returns-else-may_flush-clause-ok g c =
     let laws : AreRules (rules_in c.args.setup.now) = c.a_pipeline_is_rules.ensures c.args.setup.now.settings.now c.requires.setup.0 in
-    reads_plain g.T.Tree.meaning g.D.Disk.meaning c.args.setup.now laws c.args.file c.args.feeding.now c.read_on.new.feeding c.args.end.now c.read_on.new.end c.in_ok-ending.ending c.args.tree.now c.read_on.new.tree c.args.disk.now c.read_on.new.disk
+    reads_plain (meanings g.T.Tree.meaning g.D.Disk.meaning) c.args.setup.now laws c.in_ok-ending.ending (feeding_at c.args.feeding.now c.args.end.now (moment c.args.tree.now c.args.disk.now)) (feeding_at c.read_on.new.feeding c.read_on.new.end (moment c.read_on.new.tree c.read_on.new.disk))
     c.in_ok-ending.ensures.ok c.requires.stood (sym c.may_flush.ensures ∙ c.if-may_flush.false)

@@ -2,6 +2,7 @@ use Rattle.std.proofs.Common.{◌≡◌, ◌≤◌, ◌+◌, ◌-◌, length, Is
 use Rattle.outside.specs.declared.disk.DiskFile.TheVariants.{Output}
 use Rattle.file_pass.specs.DiskTerms.{KeepsDisk}
 use Rattle.file_pass.specs.Fed.{IsReading, IsSane}
+use Rattle.file_pass.specs.Moment.{feeding_at, meanings, moment}
 use Rattle.file_pass.specs.TreeTerms.{KeepsTree}
 use Rattle.file_pass.proofs.feeding.read_on.Given as goal
 
@@ -10,7 +11,7 @@ invariant-loop-from g l =
     let trees = g.T.Tree.meaning in
     let disks = g.D.Disk.meaning in
     record {
-      reading : IsReading trees disks l.setup l.file l.fn.feeding l.feeding l.fn.end l.end l.from l.fn.tree l.tree l.fn.disk l.disk;
+      reading : IsReading (meanings trees disks) l.setup l.from (feeding_at l.fn.feeding l.fn.end (moment l.fn.tree l.fn.disk)) (feeding_at l.feeding l.end (moment l.tree l.disk));
       sane : IsSane l.setup l.feeding l.end;
       offset : l.feeding.offset + length l.feeding.carried.items ≡ l.from;
       later : l.fn.end ≤ l.end;

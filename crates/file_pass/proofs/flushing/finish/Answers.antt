@@ -1,4 +1,4 @@
-use Rattle.std.proofs.Common.{◌≡◌, ◌∙◌, List, ℕ, refl, sym, ap, arith}
+use Rattle.std.proofs.Common.{List, ℕ, refl, sym, arith}
 use Rattle.pipeline.specs.RowStates.{IsStateOfRow}
 use Rattle.standing.specs.Rows.{Row}
 use Rattle.file_pass.specs.Fed.{feeding_row, poll_of}

@@ -1,4 +1,4 @@
-use Rattle.std.proofs.Common.{◌≡◌, ◌∙◌, ◌==◌, refl, sym, ap, not, length, eqb-true}
+use Rattle.std.proofs.Common.{◌∙◌, ◌==◌, refl, sym, ap, not, length, eqb-true}
 use Rattle.std.specs.Str.{bytes_eq}
 use Rattle.pipeline.specs.RowStates.{IsStateOfRow}
 use Rattle.standing.specs.Rows.{Row}

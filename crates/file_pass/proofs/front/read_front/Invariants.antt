@@ -1,6 +1,6 @@
 use Rattle.std.proofs.Common.{◌≡◌, ◌≤◌, ◌-◌, length, take}
 use Rattle.outside.specs.World.{Told}
-use Rattle.file_pass.specs.Reads.{Reads}
+use Rattle.file_pass.specs.Reads.{Reads, piece_at}
 use Rattle.file_pass.specs.TreeTerms.{KeepsTree}
 use Rattle.file_pass.specs.declared.ending.Ending.TheVariants.{Whole}
 use Rattle.file_pass.proofs.front.read_front.Given as goal
@@ -11,7 +11,7 @@ invariant-loop-filled g l =
     record {
       within : l.filled ≤ length l.front;
       long : length l.front ≡ length l.fn.front;
-      world : Told (Reads l.file.handle.0 0 (length l.fn.front) (take l.filled l.front) Whole) (trees.world l.fn.tree) (trees.world l.tree);
+      world : Told (Reads (piece_at l.file.handle.0 0 (length l.fn.front) (take l.filled l.front) Whole)) (trees.world l.fn.tree) (trees.world l.tree);
       cause : trees.faults l.tree ≡ trees.faults l.fn.tree;
       keeps : KeepsTree trees (length l.fn.front) l.filled l.fn.tree l.tree;
     }

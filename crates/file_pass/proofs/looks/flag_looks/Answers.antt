@@ -1,5 +1,5 @@
 use Rattle.std.proofs.Common.{arith, refl}
-use Rattle.file_pass.proofs.Flagging.{flags_begin, flags_end, flags_step}
+use Rattle.file_pass.proofs.Flagging.{flags_begin, flags_end}
 use Rattle.file_pass.proofs.looks.flag_looks.Goals as goal
 
 pub loop-place-init : goal.loop-place-init

@@ -8,7 +8,10 @@ use Rattle.outside.specs.declared.tree.Kind.TheVariants.{Folder, File as PlainFi
 use Rattle.outside.specs.declared.tree.Opened.TheVariants.{File, Gone, NotAFile}
 use Rattle.outside.specs.declared.fault.CallFault.TheVariants.{Failed, Memory}
 use Rattle.file_pass.specs.Fed.{poll_of, rules_in}
+use Rattle.file_pass.specs.Full.{overflow}
+use Rattle.file_pass.specs.Moment.{meanings, moment, rows_at}
 use Rattle.file_pass.specs.declared.ending.OpenFile.{OpenFile}
+use Rattle.file_pass.specs.declared.ending.PathFile.{PathFile}
 use Rattle.file_pass.specs.declared.taking.TheConstants.{BUFFER_SIZE}
 use Rattle.file_pass.proofs.Flagging.{growth_none}
 use Rattle.file_pass.proofs.Joining.{tree_opens, tree_file, takes_file, fills_file, takes_missed, takes_lost}
@@ -18,21 +21,25 @@ pub returns-in-Ok-File-clause-ok : goal.returns-in-Ok-File-clause-ok
 returns-in-Ok-File-clause-ok g c =
     let opened = rw c.in-Ok-File.field-0-is at c.in-Ok-File.ensures in
     let file : OpenFile = record { handle = c.in-Ok-File.handle; size = c.in-Ok-File.size } in
+    let at : PathFile = record { path = c.args.path; file = file } in
     IfOk-weaker c.take_opened-found.result _ _ (λ found takes.
-    takes_file g.T.Tree.meaning g.D.Disk.meaning (poll_of c.args.setup.now) c.args.path.now c.requires.included file c.args.taking.now.tracker c.args.tree.now c.open_file.new.self c.take_opened-found.new.tree c.close.new.self
+    takes_file (meanings g.T.Tree.meaning g.D.Disk.meaning) (poll_of c.args.setup.now) at c.requires.included c.args.tree.now (rows_at c.args.taking.now (moment c.open_file.new.self c.args.disk.now))
+    (rows_at c.take_opened-found.new.taking (moment c.take_opened-found.new.tree c.take_opened-found.new.disk)) c.close.new.self
     (told_weaker (Opens c.args.path.now (Ok (File c.in-Ok-File.handle c.in-Ok-File.size))) (OpensFile c.args.path.now file.handle.0 file.size) (g.T.Tree.meaning.world c.args.tree.now) (g.T.Tree.meaning.world c.open_file.new.self) (λ x y o. o) (rw c.as_str.ensures at opened.history))
     c.close.ensures.history opened.cause c.close.ensures.cause
-    c.take_opened-found.new.taking.tracker found c.args.taking.now.end c.take_opened-found.new.taking.end c.args.disk.now c.take_opened-found.new.disk c.open_file.ensures.taken c.close.ensures.taken takes)
+    found c.open_file.ensures.taken c.close.ensures.taken takes)
     c.take_opened-found.ensures.ok
 
 pub returns-in-Ok-File-clause-full : goal.returns-in-Ok-File-clause-full
 returns-in-Ok-File-clause-full g c = λ size is.
     let opened = rw c.in-Ok-File.field-0-is at c.in-Ok-File.ensures in
     let file : OpenFile = record { handle = c.in-Ok-File.handle; size = c.in-Ok-File.size } in
-    fills_file g.T.Tree.meaning g.D.Disk.meaning (poll_of c.args.setup.now) c.args.path.now c.requires.included file c.args.taking.now.tracker c.args.tree.now c.open_file.new.self c.take_opened-found.new.tree c.close.new.self
+    let at : PathFile = record { path = c.args.path; file = file } in
+    fills_file (meanings g.T.Tree.meaning g.D.Disk.meaning) (poll_of c.args.setup.now) at c.requires.included c.args.tree.now (rows_at c.args.taking.now (moment c.open_file.new.self c.args.disk.now))
+    (rows_at c.take_opened-found.new.taking (moment c.take_opened-found.new.tree c.take_opened-found.new.disk)) c.close.new.self
     (told_weaker (Opens c.args.path.now (Ok (File c.in-Ok-File.handle c.in-Ok-File.size))) (OpensFile c.args.path.now file.handle.0 file.size) (g.T.Tree.meaning.world c.args.tree.now) (g.T.Tree.meaning.world c.open_file.new.self) (λ x y o. o) (rw c.as_str.ensures at opened.history))
     c.close.ensures.history opened.cause c.close.ensures.cause
-    c.args.setup.now.limit c.args.taking.now.end size (c.take_opened-found.ensures.full size is)
+    (overflow c.args.setup.now.limit c.args.taking.now.end size) (c.take_opened-found.ensures.full size is)
 
 pub returns-in-Ok-File-clause-tree : goal.returns-in-Ok-File-clause-tree
 returns-in-Ok-File-clause-tree g c =
@@ -45,22 +52,22 @@ returns-in-Ok-File-clause-tree g c =
 pub returns-in-Ok-Gone-clause-ok : goal.returns-in-Ok-Gone-clause-ok
 returns-in-Ok-Gone-clause-ok g c =
     let opened = rw c.in-Ok-Gone.field-0-is at c.in-Ok-Gone.ensures in
-    takes_lost g.T.Tree.meaning g.D.Disk.meaning (poll_of c.args.setup.now) c.args.path.now c.args.taking.now.tracker c.args.taking.now.end c.args.tree.now c.open_file.new.self c.args.disk.now
+    takes_lost (meanings g.T.Tree.meaning g.D.Disk.meaning) (poll_of c.args.setup.now) c.args.path.now (rows_at c.args.taking.now (moment c.args.tree.now c.args.disk.now)) c.open_file.new.self c.open_file.ensures.taken
     (λ (history : History). kind_at (names history) c.args.path.now ≡ None) (λ history none some. (let never : None ≡ Some PlainFile = sym none ∙ some in cc))
-    (told_weaker (Opens c.args.path.now (Ok Gone)) _ (g.T.Tree.meaning.world c.args.tree.now) (g.T.Tree.meaning.world c.open_file.new.self) (λ x y o. o) (rw c.as_str.ensures at opened.history)) opened.cause c.open_file.ensures.taken
+    (told_weaker (Opens c.args.path.now (Ok Gone)) _ (g.T.Tree.meaning.world c.args.tree.now) (g.T.Tree.meaning.world c.open_file.new.self) (λ x y o. o) (rw c.as_str.ensures at opened.history)) opened.cause
 
 pub returns-in-Ok-NotAFile-clause-ok : goal.returns-in-Ok-NotAFile-clause-ok
 returns-in-Ok-NotAFile-clause-ok g c =
     let opened = rw c.in-Ok-NotAFile.field-0-is at c.in-Ok-NotAFile.ensures in
-    takes_lost g.T.Tree.meaning g.D.Disk.meaning (poll_of c.args.setup.now) c.args.path.now c.args.taking.now.tracker c.args.taking.now.end c.args.tree.now c.open_file.new.self c.args.disk.now
+    takes_lost (meanings g.T.Tree.meaning g.D.Disk.meaning) (poll_of c.args.setup.now) c.args.path.now (rows_at c.args.taking.now (moment c.args.tree.now c.args.disk.now)) c.open_file.new.self c.open_file.ensures.taken
     (λ (history : History). kind_at (names history) c.args.path.now ≡ Some Folder) (λ history folder some. (let never : Some Folder ≡ Some PlainFile = sym folder ∙ some in cc))
-    (told_weaker (Opens c.args.path.now (Ok NotAFile)) _ (g.T.Tree.meaning.world c.args.tree.now) (g.T.Tree.meaning.world c.open_file.new.self) (λ x y o. o) (rw c.as_str.ensures at opened.history)) opened.cause c.open_file.ensures.taken
+    (told_weaker (Opens c.args.path.now (Ok NotAFile)) _ (g.T.Tree.meaning.world c.args.tree.now) (g.T.Tree.meaning.world c.open_file.new.self) (λ x y o. o) (rw c.as_str.ensures at opened.history)) opened.cause
 
 pub returns-in-Err-Failed-clause-ok : goal.returns-in-Err-Failed-clause-ok
 returns-in-Err-Failed-clause-ok g c =
     let opened = rw c.in-Err-Failed.field-0-is at c.in-Err-Failed.ensures in
-    takes_missed g.T.Tree.meaning g.D.Disk.meaning (poll_of c.args.setup.now) c.args.path.now c.args.taking.now.tracker c.args.taking.now.end c.args.tree.now c.open_file.new.self c.args.disk.now
-    (told_weaker (Opens c.args.path.now (Err Failed)) _ (g.T.Tree.meaning.world c.args.tree.now) (g.T.Tree.meaning.world c.open_file.new.self) (λ x y o. o) (rw c.as_str.ensures at opened.history)) opened.cause c.open_file.ensures.taken
+    takes_missed (meanings g.T.Tree.meaning g.D.Disk.meaning) (poll_of c.args.setup.now) c.args.path.now (rows_at c.args.taking.now (moment c.args.tree.now c.args.disk.now)) c.open_file.new.self c.open_file.ensures.taken
+    (told_weaker (Opens c.args.path.now (Err Failed)) _ (g.T.Tree.meaning.world c.args.tree.now) (g.T.Tree.meaning.world c.open_file.new.self) (λ x y o. o) (rw c.as_str.ensures at opened.history)) opened.cause
 
 pub returns-in-Ok-Gone-clause-tree : goal.returns-in-Ok-Gone-clause-tree
 returns-in-Ok-Gone-clause-tree g c =

@@ -1,10 +1,6 @@
-use Rattle.std.proofs.Common.{◌≡◌, ◌≤◌, ◌∙◌, Bool, length, drop, map, sym, ap, arith, List}
-use Rattle.std.proofs.lemmas.Result.{err_from_is_err_and}
-use Rattle.file_tracker.specs.declared.row.Row.{Row}
+use Rattle.std.proofs.Common.{◌∙◌, Bool, length, drop, ap, arith, List}
 use Rattle.file_pass.specs.Fed.{rules_in}
 use Rattle.file_pass.proofs.Flagging.{growth_ends, looks_within, written_back}
-use Rattle.file_pass.proofs.Joining.{tree_none}
-use Rattle.file_pass.proofs.DiskLemmas.{keeps_disk_none}
 use Rattle.file_pass.proofs.taking.take_all.Goals as goal
 
 pub flag_looks-requires-clause-rows : goal.flag_looks-requires-clause-rows

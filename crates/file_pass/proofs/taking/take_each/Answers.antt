@@ -4,6 +4,7 @@ use Rattle.std.proofs.lemmas.List.{take_all}
 use Rattle.file_pass.specs.AllTaken.{TakesAll}
 use Rattle.file_pass.specs.Fed.{rules_in}
 use Rattle.file_pass.specs.Full.{lines_text}
+use Rattle.file_pass.specs.Moment.{meanings, moment, taking_at}
 use Rattle.file_pass.specs.declared.fault.PassFault.TheVariants.{OutputFull}
 use Rattle.file_pass.specs.declared.taking.TheConstants.{BUFFER_SIZE}
 use Rattle.file_pass.proofs.DiskLemmas.{keeps_disk_none, keeps_disk_then, ends_then}
@@ -13,7 +14,7 @@ use Rattle.file_pass.proofs.taking.take_each.Goals as goal
 
 pub loop-path-init : goal.loop-path-init
 loop-path-init g c = record {
-  taken = takes_all_none g.T.Tree.meaning g.D.Disk.meaning c.args.setup.now c.args.taking.now c.args.tree.now c.args.disk.now c.stand.ensures;
+  taken = takes_all_none (meanings g.T.Tree.meaning g.D.Disk.meaning) c.args.setup.now (taking_at c.args.taking.now (moment c.args.tree.now c.args.disk.now)) c.stand.ensures;
   sane = c.requires.sane;
   flags = growth_none (rules_in c.args.setup.now) c.args.taking.now.tracker c.args.taking.now.changed.items;
   keeps_tree = tree_none g.T.Tree.meaning BUFFER_SIZE c.args.tree.now;
@@ -32,7 +33,7 @@ take_path-requires-clause-short g c = c.requires.short c.path-item.result (c.loo
 pub returns-in_err-take_path-clause-full : goal.returns-in_err-take_path-clause-full
 returns-in_err-take_path-clause-full g c = λ size is.
     let same : OutputFull size ≡ c.in_err-take_path.field-0.0 = rw is at c.from_residual-in_err-take_path.ensures.1 in
-    takes_all_fill g.T.Tree.meaning g.D.Disk.meaning c.args.setup.now (take c.loop-path.path-index c.args.paths.now) c.path-item.result c.args.paths.now c.args.taking.now c.loop-path.taking c.args.tree.now c.loop-path.tree c.take_path.new.tree c.args.disk.now c.loop-path.disk size
+    takes_all_fill (meanings g.T.Tree.meaning g.D.Disk.meaning) c.args.setup.now (take c.loop-path.path-index c.args.paths.now) c.path-item.result c.args.paths.now (taking_at c.args.taking.now (moment c.args.tree.now c.args.disk.now)) (taking_at c.loop-path.taking (moment c.loop-path.tree c.loop-path.disk)) c.take_path.new.tree size
     c.loop-path.invariant.taken (firsts_more c.args.paths.now c.loop-path.path-index c.path-item.result c.loop-path-test.true c.path-item.is) (c.in_err-take_path.ensures.full size (ap Err (sym same)))
 
 pub returns-in_err-take_path-clause-tree : goal.returns-in_err-take_path-clause-tree
@@ -48,7 +49,7 @@ loop-path-preserved g c =
     let one = one_more c.args.paths.now c.loop-path.path-index c.path-item.result c.loop-path-test.true c.path-item.is in
     let ok = c.in_ok-take_path.ensures.ok in
     record {
-      taken = rw one (takes_all_more g.T.Tree.meaning g.D.Disk.meaning c.args.setup.now (take c.loop-path.path-index c.args.paths.now) c.path-item.result c.args.taking.now c.loop-path.taking c.take_path.new.taking c.args.tree.now c.loop-path.tree c.take_path.new.tree c.args.disk.now c.loop-path.disk c.take_path.new.disk
+      taken = rw one (takes_all_more (meanings g.T.Tree.meaning g.D.Disk.meaning) c.args.setup.now (take c.loop-path.path-index c.args.paths.now) c.path-item.result (taking_at c.args.taking.now (moment c.args.tree.now c.args.disk.now)) (taking_at c.loop-path.taking (moment c.loop-path.tree c.loop-path.disk)) (taking_at c.take_path.new.taking (moment c.take_path.new.tree c.take_path.new.disk))
           inv.keeps_disk.terms.tells inv.taken ok);
       sane = c.in_ok-take_path.ensures.sane;
       flags = growth_then (rules_in c.args.setup.now) c.args.taking.now.tracker c.loop-path.taking.tracker c.take_path.new.taking.tracker c.args.taking.now.changed.items c.loop-path.taking.changed.items c.take_path.new.taking.changed.items inv.flags c.in_ok-take_path.ensures.flags;
@@ -60,4 +61,4 @@ loop-path-preserved g c =
     }
 
 pub returns-clause-ok : goal.returns-clause-ok
-returns-clause-ok g c = subst (λ (paths : List (List ℕ)). TakesAll g.T.Tree.meaning g.D.Disk.meaning c.args.setup.now paths c.args.taking.now c.loop-path.taking c.args.tree.now c.loop-path.tree c.args.disk.now c.loop-path.disk) (take_all c.loop-path.path-index c.args.paths.now c.loop-path-test.false) c.loop-path.invariant.taken
+returns-clause-ok g c = subst (λ (paths : List (List ℕ)). TakesAll (meanings g.T.Tree.meaning g.D.Disk.meaning) c.args.setup.now paths (taking_at c.args.taking.now (moment c.args.tree.now c.args.disk.now)) (taking_at c.loop-path.taking (moment c.loop-path.tree c.loop-path.disk))) (take_all c.loop-path.path-index c.args.paths.now c.loop-path-test.false) c.loop-path.invariant.taken

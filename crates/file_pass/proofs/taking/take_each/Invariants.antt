@@ -3,6 +3,7 @@ use Rattle.std.specs.Prelude.{IsTrue}
 use Rattle.outside.specs.declared.disk.DiskFile.TheVariants.{Output}
 use Rattle.file_pass.specs.AllTaken.{TakesAll}
 use Rattle.file_pass.specs.DiskTerms.{KeepsDisk}
+use Rattle.file_pass.specs.Moment.{meanings, moment, taking_at}
 use Rattle.file_pass.specs.Sane.{IsSaneTaking}
 use Rattle.file_pass.specs.Taken.{KeepsTreeAt}
 use Rattle.file_pass.specs.Unchanged.{FlagsGrown}
@@ -11,7 +12,7 @@ use Rattle.file_pass.proofs.taking.take_each.Given as goal
 
 abbrev pub invariant-loop-path : goal.invariant-loop-path
 invariant-loop-path g l = record {
-  taken : TakesAll g.T.Tree.meaning g.D.Disk.meaning l.setup (take l.path-index l.paths) l.fn.taking l.taking l.fn.tree l.tree l.fn.disk l.disk;
+  taken : TakesAll (meanings g.T.Tree.meaning g.D.Disk.meaning) l.setup (take l.path-index l.paths) (taking_at l.fn.taking (moment l.fn.tree l.fn.disk)) (taking_at l.taking (moment l.tree l.disk));
   sane : IsSaneTaking l.setup l.taking;
   flags : FlagsGrown l.setup l.fn.taking l.taking;
   keeps_tree : KeepsTreeAt g.T.Tree.meaning BUFFER_SIZE l.fn.tree l.tree;

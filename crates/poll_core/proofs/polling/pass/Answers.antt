@@ -2,6 +2,8 @@ use Rattle.std.proofs.Common.{◌≡◌, ℕ, List, Err, sym, ap, subst, ◌∙�
 use Rattle.std.specs.Prelude.{Contains}
 use Rattle.file_pass.specs.AllTaken.{TakesAll}
 use Rattle.file_pass.specs.Fed.{poll_of}
+use Rattle.file_pass.specs.Full.{overflow}
+use Rattle.file_pass.specs.Moment.{meanings, moment, taking_at}
 use Rattle.file_pass.specs.Overflow.{AllFill}
 use Rattle.file_pass.specs.declared.fault.PassFault.TheVariants.{OutputFull}
 use Rattle.file_tracker.specs.declared.row.Row.{Row}
@@ -35,9 +37,9 @@ returns-in_err-take_all-clause-full g c = λ size is.
       walk = c.in_ok-walk.walk;
       finds = finds_by trees setup _ _ c.in_ok-walk.walk c.args.tree.now between c.include.ensures c.exclude.ensures c.in_ok-walk.ensures.ok;
       fills =
-          subst (λ (paths : List (List ℕ)). Told (AllFill (poll_of setup) setup.limit paths c.args.rows c.args.kept size) (trees.world between) (trees.world c.take_all.new.tree)) c.deref-2.ensures.value
-          (subst (λ (rows : List Row). Told (AllFill (poll_of setup) setup.limit c.deref-2.result.now rows c.args.kept size) (trees.world between) (trees.world c.take_all.new.tree)) begun.rows_are
-          (subst (λ (end : ℕ). Told (AllFill (poll_of setup) setup.limit c.deref-2.result.now c.in_ok-taking.taking.tracker end size) (trees.world between) (trees.world c.take_all.new.tree)) begun.end_is
+          subst (λ (paths : List (List ℕ)). Told (AllFill (poll_of setup) (overflow setup.limit c.args.kept size) paths c.args.rows) (trees.world between) (trees.world c.take_all.new.tree)) c.deref-2.ensures.value
+          (subst (λ (rows : List Row). Told (AllFill (poll_of setup) (overflow setup.limit c.args.kept size) c.deref-2.result.now rows) (trees.world between) (trees.world c.take_all.new.tree)) begun.rows_are
+          (subst (λ (end : ℕ). Told (AllFill (poll_of setup) (overflow setup.limit end size) c.deref-2.result.now c.in_ok-taking.taking.tracker) (trees.world between) (trees.world c.take_all.new.tree)) begun.end_is
           (c.in_err-take_all.ensures.full size (ap Err (sym same)))));
     }
 
@@ -55,7 +57,7 @@ returns-clause-ok g c =
       begun = c.in_ok-taking.taking;
       is_begun = c.in_ok-taking.ensures;
       finds = finds_by trees setup _ _ c.in_ok-walk.walk c.args.tree.now between c.include.ensures c.exclude.ensures c.in_ok-walk.ensures.ok;
-      takes = subst (λ (paths : List (List ℕ)). TakesAll trees disks setup paths c.in_ok-taking.taking c.take_all.new.taking between c.take_all.new.tree c.args.disk.now c.take_all.new.disk) c.deref-2.ensures.value c.in_ok-take_all.ensures.ok;
+      takes = subst (λ (paths : List (List ℕ)). TakesAll (meanings trees disks) setup paths (taking_at c.in_ok-taking.taking (moment between c.args.disk.now)) (taking_at c.take_all.new.taking (moment c.take_all.new.tree c.take_all.new.disk))) c.deref-2.ensures.value c.in_ok-take_all.ensures.ok;
       walk_read = c.in_ok-walk.ensures.lasts.taken;
       nameless = c.take_all.ensures.tree.1.nameless;
       sane = c.in_ok-take_all.ensures.sane;

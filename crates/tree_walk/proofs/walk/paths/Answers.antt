@@ -5,6 +5,7 @@ use Rattle.tree_walk.proofs.Once.{listed_none, listed_next, listed_in_all}
 use Rattle.tree_walk.proofs.Reaching.{reaches_none, reaches_next, finds_all}
 use Rattle.tree_walk.specs.Reached.{Reaches}
 use Rattle.tree_walk.specs.declared.findings.Findings.{Findings}
+use Rattle.tree_walk.specs.Patterns.{patterns}
 use Rattle.tree_walk.proofs.walk.paths.Goals as goal
 
 pub loop-level-init : goal.loop-level-init
@@ -46,7 +47,7 @@ returns-clause-ok g c =
     let found : Findings = c.loop-level.found in
     let ready : Findings = record { paths = found.paths; folders = c.add_starts.new.folders; failed = found.failed } in
     let last : c.loop-level.level ≡ 33 = omega arith in
-    let reached = subst (λ (level : ℕ). Reaches g.T.Tree.meaning c.args.include.now c.args.exclude.now level found c.args.tree.now c.loop-level.tree) last c.loop-level.invariant.reached in
+    let reached = subst (λ (level : ℕ). Reaches g.T.Tree.meaning (patterns c.args.include.now c.args.exclude.now) level found c.args.tree.now c.loop-level.tree) last c.loop-level.invariant.reached in
     IfOk-weaker c.finish.result _ _
     (λ walk finished.
     finds_all g.T.Tree.meaning c.args.include.now c.args.exclude.now c.in_ok-starts.ensures.leads c.in_ok-starts.starts.items c.in_ok-starts.ensures.starts found ready walk c.args.tree.now c.loop-level.tree reached

@@ -40,7 +40,7 @@ returns-clause-standing g c =
     let own : SessionEras session = session_eras c.settings_give_one_set_of_rules.ensures.rules session c.requires.session laws in
     elim c.poll_once.ensures.crash [
       | inl stays ↦ stands_still images old new (λ from image early left. g.met.D.Disk.counts_now old from image early left) session own c.requires.stands.each (trees.world c.args.tree.now) (trees.world c.poll_once.new.tree) c.poll_once.ensures.tree.later stays
-      | inr gain ↦ stands_on images old new (λ from image early left. g.met.D.Disk.counts_now old from image early left) session own c.requires.stands.each gain.after gain.added _ _ (trees.world c.args.tree.now) (trees.world c.poll_once.new.tree) c.poll_once.ensures.tree.later gain.comes gain.pass gain.crash
+      | inr gain ↦ stands_on images old new (λ from image early left. g.met.D.Disk.counts_now old from image early left) session own c.requires.stands.each gain.after gain.added _ (trees.world c.args.tree.now) (trees.world c.poll_once.new.tree) c.poll_once.ensures.tree.later gain.comes gain.pass gain.crash
     ]
 
 pub returns-clause-full : goal.returns-clause-full

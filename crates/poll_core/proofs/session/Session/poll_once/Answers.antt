@@ -2,6 +2,7 @@ use Rattle.std.proofs.Common.{◌≡◌, length, Err, Option, refl, sym, ap, sub
 use Rattle.std.proofs.lemmas.Result.{err_from_is_err_and}
 use Rattle.checkpoint_store.specs.Limits.{newest}
 use Rattle.checkpoint_store.specs.Rules.{beside_of}
+use Rattle.file_pass.specs.Moment.{meanings, moment}
 use Rattle.file_pass.specs.Sane.{AreSaneRows}
 use Rattle.file_pass.specs.declared.taking.Taking.{Taking}
 use Rattle.checkpoint_journal.specs.declared.journal.Journal.{Journal}
@@ -63,7 +64,7 @@ pub returns-in_err-walk-clause-full : goal.returns-in_err-walk-clause-full
 returns-in_err-walk-clause-full g c = λ size is.
     let session = c.args.self in
     let same = poll_by session _ _ _ _ c.last_text.ensures (ap length c.as_slice.ensures) (first_of session.journal c.is_none.result c.is_none.ensures) c.stamp_of-stamp.ensures in
-    overflows_by g.T.Tree.meaning session _ size c.args.tree.now c.pass.new.tree (c.in_err-walk.ensures.full size (ap Err (full_of_pass c.in_err-walk.field-0.0 size (rw is at c.from_residual.ensures.1))))
+    overflows_by g.T.Tree.meaning session _ size (moment c.args.tree.now c.args.disk.now) c.pass.new.tree (c.in_err-walk.ensures.full size (ap Err (full_of_pass c.in_err-walk.field-0.0 size (rw is at c.from_residual.ensures.1))))
     same c.max.ensures (λ mark. c.requires.rules.lines.not_empty mark)
 
 pub returns-in_err-walk-clause-worn : goal.returns-in_err-walk-clause-worn
@@ -87,7 +88,7 @@ keep-requires-clause-lawful g c =
     let session = c.args.self in
     let same = poll_by session _ _ _ _ c.last_text.ensures (ap length c.as_slice.ensures) (first_of session.journal c.is_none.result c.is_none.ensures) c.stamp_of-stamp.ensures in
     let times = times_of session _ _ _ c.stamp_of-stamp.ensures c.kept_time.ensures in
-    lawful_own g.T.Tree.meaning g.D.Disk.meaning session c.requires.session c.requires.rules _ c.in_ok-walk.walk c.in_ok-walk.taking c.args.tree.now c.pass.new.tree c.args.disk.now c.pass.new.disk c.in_ok-walk.ensures.ok _ (set_up session _ _ c.requires.session same c.max.ensures (later_by session _ _ c.requires.session times)) times c.max.ensures c.requires.stands c.pass.ensures.disk
+    lawful_own (meanings g.T.Tree.meaning g.D.Disk.meaning) session c.requires.session c.requires.rules _ c.in_ok-walk.walk c.in_ok-walk.taking (moment c.args.tree.now c.args.disk.now) (moment c.pass.new.tree c.pass.new.disk) c.in_ok-walk.ensures.ok _ (set_up session _ _ c.requires.session same c.max.ensures (later_by session _ _ c.requires.session times)) times c.max.ensures c.requires.stands c.pass.ensures.disk
 
 pub keep-requires-clause-short : goal.keep-requires-clause-short
 keep-requires-clause-short g c =
@@ -98,14 +99,14 @@ keep-requires-clause-savable g c =
     let session = c.args.self in
     let same = poll_by session _ _ _ _ c.last_text.ensures (ap length c.as_slice.ensures) (first_of session.journal c.is_none.result c.is_none.ensures) c.stamp_of-stamp.ensures in
     let times = times_of session _ _ _ c.stamp_of-stamp.ensures c.kept_time.ensures in
-    savable_own g.T.Tree.meaning g.D.Disk.meaning session c.requires.session c.requires.rules _ c.in_ok-walk.walk c.in_ok-walk.taking c.args.tree.now c.pass.new.tree c.args.disk.now c.pass.new.disk c.in_ok-walk.ensures.ok _ (set_up session _ _ c.requires.session same c.max.ensures (later_by session _ _ c.requires.session times)) times c.max.ensures c.requires.stands c.pass.ensures.disk
+    savable_own (meanings g.T.Tree.meaning g.D.Disk.meaning) session c.requires.session c.requires.rules _ c.in_ok-walk.walk c.in_ok-walk.taking (moment c.args.tree.now c.args.disk.now) (moment c.pass.new.tree c.pass.new.disk) c.in_ok-walk.ensures.ok _ (set_up session _ _ c.requires.session same c.max.ensures (later_by session _ _ c.requires.session times)) times c.max.ensures c.requires.stands c.pass.ensures.disk
 
 pub keep-requires-clause-slots : goal.keep-requires-clause-slots
 keep-requires-clause-slots g c =
     let session = c.args.self in
     let same = poll_by session _ _ _ _ c.last_text.ensures (ap length c.as_slice.ensures) (first_of session.journal c.is_none.result c.is_none.ensures) c.stamp_of-stamp.ensures in
     let times = times_of session _ _ _ c.stamp_of-stamp.ensures c.kept_time.ensures in
-    slots_after g.T.Tree.meaning g.D.Disk.meaning session c.requires.session c.requires.rules _ c.in_ok-walk.walk c.in_ok-walk.taking c.args.tree.now c.pass.new.tree c.args.disk.now c.pass.new.disk c.in_ok-walk.ensures.ok _ (set_up session _ _ c.requires.session same c.max.ensures (later_by session _ _ c.requires.session times)) times c.max.ensures c.requires.stands c.pass.ensures.disk
+    slots_after (meanings g.T.Tree.meaning g.D.Disk.meaning) session c.requires.session c.requires.rules _ c.in_ok-walk.walk c.in_ok-walk.taking (moment c.args.tree.now c.args.disk.now) (moment c.pass.new.tree c.pass.new.disk) c.in_ok-walk.ensures.ok _ (set_up session _ _ c.requires.session same c.max.ensures (later_by session _ _ c.requires.session times)) times c.max.ensures c.requires.stands c.pass.ensures.disk
 
 -- ---- keeping failed
 
@@ -124,14 +125,14 @@ returns-in_err-journal-clause-crash g c =
     let session = c.args.self in
     let same = poll_by session _ _ _ _ c.last_text.ensures (ap length c.as_slice.ensures) (first_of session.journal c.is_none.result c.is_none.ensures) c.stamp_of-stamp.ensures in
     let times = times_of session _ _ _ c.stamp_of-stamp.ensures c.kept_time.ensures in
-    inr (may_gain g.T.Tree.meaning g.D.Disk.meaning session c.requires.session c.requires.rules _ c.in_ok-walk.walk c.in_ok-walk.taking c.args.tree.now c.pass.new.tree c.args.disk.now c.pass.new.disk c.in_ok-walk.ensures.ok _ (set_up session _ _ c.requires.session same c.max.ensures (later_by session _ _ c.requires.session times)) times c.max.ensures c.requires.stands c.pass.ensures.disk (λ image left. g.met.D.Disk.told c.args.disk.now image left) (λ tells. g.met.D.Disk.shown c.args.disk.now tells) c.keep.new.disk c.keep.ensures.crash c.keep.ensures.costs)
+    inr (may_gain (meanings g.T.Tree.meaning g.D.Disk.meaning) session c.requires.session c.requires.rules _ c.in_ok-walk.walk c.in_ok-walk.taking (moment c.args.tree.now c.args.disk.now) (moment c.pass.new.tree c.pass.new.disk) c.in_ok-walk.ensures.ok _ (set_up session _ _ c.requires.session same c.max.ensures (later_by session _ _ c.requires.session times)) times c.max.ensures c.requires.stands c.pass.ensures.disk (λ image left. g.met.D.Disk.told c.args.disk.now image left) (λ tells. g.met.D.Disk.shown c.args.disk.now tells) c.keep.new.disk c.keep.ensures.crash c.keep.ensures.costs)
 
 pub returns-in_err-journal-clause-early : goal.returns-in_err-journal-clause-early
 returns-in_err-journal-clause-early g c =
     let session = c.args.self in
     let same = poll_by session _ _ _ _ c.last_text.ensures (ap length c.as_slice.ensures) (first_of session.journal c.is_none.result c.is_none.ensures) c.stamp_of-stamp.ensures in
     let times = times_of session _ _ _ c.stamp_of-stamp.ensures c.kept_time.ensures in
-    early g.T.Tree.meaning g.D.Disk.meaning session c.requires.session c.requires.rules _ c.in_ok-walk.walk c.in_ok-walk.taking c.args.tree.now c.pass.new.tree c.args.disk.now c.pass.new.disk c.in_ok-walk.ensures.ok _ (set_up session _ _ c.requires.session same c.max.ensures (later_by session _ _ c.requires.session times)) times c.max.ensures c.requires.stands c.pass.ensures.disk (λ image left. g.met.D.Disk.told c.args.disk.now image left) (λ tells. g.met.D.Disk.shown c.args.disk.now tells) c.keep.new.disk c.keep.ensures.crash c.keep.ensures.early
+    early (meanings g.T.Tree.meaning g.D.Disk.meaning) session c.requires.session c.requires.rules _ c.in_ok-walk.walk c.in_ok-walk.taking (moment c.args.tree.now c.args.disk.now) (moment c.pass.new.tree c.pass.new.disk) c.in_ok-walk.ensures.ok _ (set_up session _ _ c.requires.session same c.max.ensures (later_by session _ _ c.requires.session times)) times c.max.ensures c.requires.stands c.pass.ensures.disk (λ image left. g.met.D.Disk.told c.args.disk.now image left) (λ tells. g.met.D.Disk.shown c.args.disk.now tells) c.keep.new.disk c.keep.ensures.crash c.keep.ensures.early
 
 pub returns-in_err-journal-clause-full : goal.returns-in_err-journal-clause-full
 returns-in_err-journal-clause-full g c = λ size is.
@@ -145,7 +146,7 @@ returns-in_err-journal-clause-worn g c = λ sequence is.
     let session = c.args.self in
     let same = poll_by session _ _ _ _ c.last_text.ensures (ap length c.as_slice.ensures) (first_of session.journal c.is_none.result c.is_none.ensures) c.stamp_of-stamp.ensures in
     let times = times_of session _ _ _ c.stamp_of-stamp.ensures c.kept_time.ensures in
-    (worn.0, worn.1, has_to_keep g.T.Tree.meaning g.D.Disk.meaning session c.requires.session c.requires.rules _ c.in_ok-walk.walk c.in_ok-walk.taking c.args.tree.now c.pass.new.tree c.args.disk.now c.pass.new.disk c.in_ok-walk.ensures.ok _ (set_up session _ _ c.requires.session same c.max.ensures (later_by session _ _ c.requires.session times)) times c.max.ensures c.requires.stands c.pass.ensures.disk (λ image left. g.met.D.Disk.told c.args.disk.now image left) (λ tells. g.met.D.Disk.shown c.args.disk.now tells) worn.2)
+    (worn.0, worn.1, has_to_keep (meanings g.T.Tree.meaning g.D.Disk.meaning) session c.requires.session c.requires.rules _ c.in_ok-walk.walk c.in_ok-walk.taking (moment c.args.tree.now c.args.disk.now) (moment c.pass.new.tree c.pass.new.disk) c.in_ok-walk.ensures.ok _ (set_up session _ _ c.requires.session same c.max.ensures (later_by session _ _ c.requires.session times)) times c.max.ensures c.requires.stands c.pass.ensures.disk (λ image left. g.met.D.Disk.told c.args.disk.now image left) (λ tells. g.met.D.Disk.shown c.args.disk.now tells) worn.2)
 
 pub returns-in_err-journal-clause-tree : goal.returns-in_err-journal-clause-tree
 returns-in_err-journal-clause-tree g c =
@@ -171,14 +172,14 @@ returns-clause-session g c =
     let session = c.args.self in
     let same = poll_by session _ _ _ _ c.last_text.ensures (ap length c.as_slice.ensures) (first_of session.journal c.is_none.result c.is_none.ensures) c.stamp_of-stamp.ensures in
     let times = times_of session _ _ _ c.stamp_of-stamp.ensures c.kept_time.ensures in
-    next_session g.T.Tree.meaning g.D.Disk.meaning session c.requires.session c.requires.rules _ c.in_ok-walk.walk c.in_ok-walk.taking c.args.tree.now c.pass.new.tree c.args.disk.now c.pass.new.disk c.in_ok-walk.ensures.ok _ (set_up session _ _ c.requires.session same c.max.ensures (later_by session _ _ c.requires.session times)) times c.max.ensures c.requires.stands c.pass.ensures.disk (λ image left. g.met.D.Disk.told c.args.disk.now image left) (λ tells. g.met.D.Disk.shown c.args.disk.now tells) c.in_ok-journal.journal c.keep.new.disk c.in_ok-journal.ensures.kept
+    next_session (meanings g.T.Tree.meaning g.D.Disk.meaning) session c.requires.session c.requires.rules _ c.in_ok-walk.walk c.in_ok-walk.taking (moment c.args.tree.now c.args.disk.now) (moment c.pass.new.tree c.pass.new.disk) c.in_ok-walk.ensures.ok _ (set_up session _ _ c.requires.session same c.max.ensures (later_by session _ _ c.requires.session times)) times c.max.ensures c.requires.stands c.pass.ensures.disk (λ image left. g.met.D.Disk.told c.args.disk.now image left) (λ tells. g.met.D.Disk.shown c.args.disk.now tells) c.in_ok-journal.journal c.keep.new.disk c.in_ok-journal.ensures.kept
 
 pub returns-clause-ok : goal.returns-clause-ok
 returns-clause-ok g c =
     let session = c.args.self in
     let same = poll_by session _ _ _ _ c.last_text.ensures (ap length c.as_slice.ensures) (first_of session.journal c.is_none.result c.is_none.ensures) c.stamp_of-stamp.ensures in
     let times = times_of session _ _ _ c.stamp_of-stamp.ensures c.kept_time.ensures in
-    polled g.T.Tree.meaning g.D.Disk.meaning session c.requires.session c.requires.rules _ c.in_ok-walk.walk c.in_ok-walk.taking c.args.tree.now c.pass.new.tree c.args.disk.now c.pass.new.disk c.in_ok-walk.ensures.ok _ (set_up session _ _ c.requires.session same c.max.ensures (later_by session _ _ c.requires.session times)) times c.max.ensures c.requires.stands c.pass.ensures.disk (λ image left. g.met.D.Disk.told c.args.disk.now image left) (λ tells. g.met.D.Disk.shown c.args.disk.now tells) c.in_ok-journal.journal c.keep.new.disk c.of-summary.result
+    polled (meanings g.T.Tree.meaning g.D.Disk.meaning) session c.requires.session c.requires.rules _ c.in_ok-walk.walk c.in_ok-walk.taking (moment c.args.tree.now c.args.disk.now) (moment c.pass.new.tree c.pass.new.disk) c.in_ok-walk.ensures.ok _ (set_up session _ _ c.requires.session same c.max.ensures (later_by session _ _ c.requires.session times)) times c.max.ensures c.requires.stands c.pass.ensures.disk (λ image left. g.met.D.Disk.told c.args.disk.now image left) (λ tells. g.met.D.Disk.shown c.args.disk.now tells) c.in_ok-journal.journal c.keep.new.disk c.of-summary.result
     (λ image left. sym (c.keep.ensures.terms.tells ∙ c.pass.ensures.disk.terms.tells) ∙ g.met.D.Disk.told c.keep.new.disk image left) (g.met.T.Tree.lawful c.pass.new.tree) c.of-summary.ensures c.in_ok-journal.ensures.kept c.keep.ensures.costs
 
 pub returns-clause-crash : goal.returns-clause-crash
@@ -186,14 +187,14 @@ returns-clause-crash g c =
     let session = c.args.self in
     let same = poll_by session _ _ _ _ c.last_text.ensures (ap length c.as_slice.ensures) (first_of session.journal c.is_none.result c.is_none.ensures) c.stamp_of-stamp.ensures in
     let times = times_of session _ _ _ c.stamp_of-stamp.ensures c.kept_time.ensures in
-    inr (may_gain g.T.Tree.meaning g.D.Disk.meaning session c.requires.session c.requires.rules _ c.in_ok-walk.walk c.in_ok-walk.taking c.args.tree.now c.pass.new.tree c.args.disk.now c.pass.new.disk c.in_ok-walk.ensures.ok _ (set_up session _ _ c.requires.session same c.max.ensures (later_by session _ _ c.requires.session times)) times c.max.ensures c.requires.stands c.pass.ensures.disk (λ image left. g.met.D.Disk.told c.args.disk.now image left) (λ tells. g.met.D.Disk.shown c.args.disk.now tells) c.keep.new.disk c.keep.ensures.crash c.keep.ensures.costs)
+    inr (may_gain (meanings g.T.Tree.meaning g.D.Disk.meaning) session c.requires.session c.requires.rules _ c.in_ok-walk.walk c.in_ok-walk.taking (moment c.args.tree.now c.args.disk.now) (moment c.pass.new.tree c.pass.new.disk) c.in_ok-walk.ensures.ok _ (set_up session _ _ c.requires.session same c.max.ensures (later_by session _ _ c.requires.session times)) times c.max.ensures c.requires.stands c.pass.ensures.disk (λ image left. g.met.D.Disk.told c.args.disk.now image left) (λ tells. g.met.D.Disk.shown c.args.disk.now tells) c.keep.new.disk c.keep.ensures.crash c.keep.ensures.costs)
 
 pub returns-clause-early : goal.returns-clause-early
 returns-clause-early g c =
     let session = c.args.self in
     let same = poll_by session _ _ _ _ c.last_text.ensures (ap length c.as_slice.ensures) (first_of session.journal c.is_none.result c.is_none.ensures) c.stamp_of-stamp.ensures in
     let times = times_of session _ _ _ c.stamp_of-stamp.ensures c.kept_time.ensures in
-    early g.T.Tree.meaning g.D.Disk.meaning session c.requires.session c.requires.rules _ c.in_ok-walk.walk c.in_ok-walk.taking c.args.tree.now c.pass.new.tree c.args.disk.now c.pass.new.disk c.in_ok-walk.ensures.ok _ (set_up session _ _ c.requires.session same c.max.ensures (later_by session _ _ c.requires.session times)) times c.max.ensures c.requires.stands c.pass.ensures.disk (λ image left. g.met.D.Disk.told c.args.disk.now image left) (λ tells. g.met.D.Disk.shown c.args.disk.now tells) c.keep.new.disk c.keep.ensures.crash c.keep.ensures.early
+    early (meanings g.T.Tree.meaning g.D.Disk.meaning) session c.requires.session c.requires.rules _ c.in_ok-walk.walk c.in_ok-walk.taking (moment c.args.tree.now c.args.disk.now) (moment c.pass.new.tree c.pass.new.disk) c.in_ok-walk.ensures.ok _ (set_up session _ _ c.requires.session same c.max.ensures (later_by session _ _ c.requires.session times)) times c.max.ensures c.requires.stands c.pass.ensures.disk (λ image left. g.met.D.Disk.told c.args.disk.now image left) (λ tells. g.met.D.Disk.shown c.args.disk.now tells) c.keep.new.disk c.keep.ensures.crash c.keep.ensures.early
 
 pub returns-clause-full : goal.returns-clause-full
 returns-clause-full g c =
