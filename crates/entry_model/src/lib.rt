@@ -6,6 +6,7 @@
 //! those three views alone.
 #![tactic(auto)]
 
+mod content;
 mod copy;
 mod depth;
 mod entry;

@@ -3,17 +3,18 @@ ghost use Rattle.std.specs.Cmp.Lexicographic.{slice_cmp};
 ghost use Rattle.std.specs.Ordering.{nat_cmp};
 ghost use Rattle.std.specs.Prelude.{◌≡◌, IfOk, IsTrue, ◌↔◌, [], length, string_bytes};
 
+use crate::content::Content;
 use std::alloc::{AllocError, Global};
 use std::cmp::Ordering;
 use std::fmt;
 use std::marker::Model;
-use std::rc::RcStr;
 
-/// A text in UTF-8. Texts are ordered by their bytes. Texts that were shared have their bytes in one place of memory.
+/// A text in UTF-8. Texts are ordered by their bytes. One of at most 24 bytes takes no memory besides its own place. Longer
+/// ones that were shared have their bytes in one place of memory: a copy of at most 104 bytes is one allocation, and one of
+/// more is two.
 #[derive(Drop)]
 pub struct Text {
-    /// None stands for the empty text, which takes no memory.
-    content: Option<RcStr>,
+    content: Content,
 }
 
 impl Model for Text {
@@ -30,46 +31,41 @@ impl Text {
     pub fn empty() -> Text
         ensures { result ≡ [] }
     {
-        Text { content: None }
+        Text {
+            content: Content::empty(),
+        }
     }
 
     pub fn new(content: String) -> Result<Text, AllocError>
         ensures { IfOk result (λ text. text ≡ string_bytes content) }
     {
-        if content.is_empty() {
-            return Ok(Text::empty());
-        }
         Ok(Text {
-            content: Some(RcStr::from_string(content)?),
+            content: Content::from_string(content)?,
         })
     }
 
     pub fn from_str(alloc: Global, content: &str) -> Result<Text, AllocError>
         ensures { IfOk result (λ text. text ≡ content.now) }
     {
-        Text::new(String::from_str(alloc, content)?)
+        Ok(Text {
+            content: Content::from_str(alloc, content)?,
+        })
     }
 
-    /// A text equal to this one, with its bytes where this one has them. It takes no memory; the one want of memory
-    /// is that of a further count, past 2^64 - 1 texts that share.
+    /// A text equal to this one. It takes no memory; the one want of memory is that of a further count, past 2^64 - 1
+    /// texts that share their bytes.
     pub fn share(&self) -> Result<Text, AllocError>
         ensures { IfOk result (λ text. text ≡ self.now) }
     {
-        match &self.content {
-            None => Ok(Text::empty()),
-            Some(content) => Ok(Text {
-                content: Some(content.clone()?),
-            }),
-        }
+        Ok(Text {
+            content: self.content.share()?,
+        })
     }
 
     pub fn as_str(&self) -> &str
         ensures { result.now ≡ self.now }
     {
-        match &self.content {
-            None => "",
-            Some(content) => content.as_str(),
-        }
+        self.content.as_str()
     }
 
     /// The number of bytes.
