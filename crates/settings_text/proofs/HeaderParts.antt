@@ -1,9 +1,15 @@
 -- The parts of a header between delimiters.
+use denote.Ref.{Bor}
 use Rattle.std.proofs.Common.{◌≡◌, ℕ, suc, ◌+◌, ◌<◌, ◌≤◌, List, [], ◌∷◌, ◌++◌, ◌∙◌, ap, sym, refl, Bool, true, false, not, ◌==◌, ◌&&◌, ◌||◌, cond, length, take, drop, arith}
-use Rattle.std.specs.List.{position_or_len}
+use Rattle.std.proofs.lemmas.Map.Text.{is_eq-slice_cmp}
+use Rattle.std.specs.BTreeMap.{is_at}
+use Rattle.std.specs.BTreeSet.{BTreeSet, Updates}
+use Rattle.std.specs.Cmp.Lexicographic.{slice_cmp}
+use Rattle.std.specs.List.{list_any, position_or_len}
+use Rattle.std.specs.Ordering.{nat_cmp}
 use Rattle.std.specs.Str.{bytes_eq}
 use Rattle.settings_text.specs.Ids.{is_taken}
-use Rattle.settings_text.specs.Names.{in_front, parts_of, is_name, are_names}
+use Rattle.settings_text.specs.Names.{in_front, parts_of, is_empty, are_names, has}
 
 abbrev first_place : ℕ → List ℕ → ℕ
 first_place delimiter text = position_or_len (λ byte. byte == delimiter) text
@@ -41,24 +47,70 @@ part_cut delimiter text n is h = parts_at delimiter text (omega (arith, is, h)) 
 pub part_uncut : (delimiter : ℕ) (text : List ℕ) (n : ℕ) → n ≡ position_or_len (λ byte. byte == delimiter) text → length text ≤ n → parts_of delimiter text ≡ text ∷ []
 part_uncut delimiter text n is h = parts_whole delimiter text (omega (arith, is, h))
 
--- ---- one part more
+-- ---- names, from the first on
 
-module _ (name part : List ℕ) (rest left : List (List ℕ)) (all : Bool) (so_far : is_taken name rest ≡ all) (cut : rest ≡ part ∷ left) where
-  taken_on : (bytes_eq name part || is_taken name left) ≡ all
-  taken_on = sym (ap (is_taken name) cut) ∙ so_far
+-- whether the names are none of those that are seen, and make names
+abbrev pub fresh : (List ℕ → Bool) → List (List ℕ) → Bool
+fresh seen [] = true
+fresh seen (name ∷ names) = not (is_empty name || seen name) && fresh (λ other. bytes_eq name other || seen other) names
 
-  pub taken_here : bytes_eq name part ≡ true → true ≡ all
-  taken_here same = sym (ap (λ b. b || is_taken name left) same) ∙ taken_on
+fresh_alike : (seen known : List ℕ → Bool) → ((name : List ℕ) → seen name ≡ known name) → (names : List (List ℕ)) → fresh seen names ≡ fresh known names
+fresh_alike seen known same [] = refl
+fresh_alike seen known same (name ∷ names) =
+    ap (λ b. not (is_empty name || b) && fresh (λ other. bytes_eq name other || seen other) names) (same name)
+    ∙ ap (λ b. not (is_empty name || known name) && b) (fresh_alike (λ other. bytes_eq name other || seen other) (λ other. bytes_eq name other || known other) (λ other. ap (λ b. bytes_eq name other || b) (same other)) names)
 
-  pub taken_behind : bytes_eq name part ≡ false → is_taken name left ≡ all
-  taken_behind other = sym (ap (λ b. b || is_taken name left) other) ∙ taken_on
+taken_or : (one other : List ℕ → Bool) (names : List (List ℕ)) → list_any (λ name. one name || other name) names ≡ (list_any one names || list_any other names)
+taken_or one other [] = refl
+taken_or one other (name ∷ names) = ap (λ b. (one name || other name) || b) (taken_or one other names) ∙ by (one name) (other name) (list_any one names) (list_any other names)
+  where
+    by : (a b c d : Bool) → ((a || b) || (c || d)) ≡ ((a || c) || (b || d))
+    by true b c d = refl
+    by false true true d = refl
+    by false true false d = refl
+    by false false c d = refl
 
-module _ (name : List ℕ) (rest left : List (List ℕ)) (all : Bool) (so_far : are_names rest ≡ all) (cut : rest ≡ name ∷ left) where
-  names_on : (is_name name left && are_names left) ≡ all
-  names_on = sym (ap are_names cut) ∙ so_far
+settled : (empty seen taken names more : Bool) → (not (empty || seen) && (names && not (taken || more))) ≡ ((not (empty || taken) && names) && not (seen || more))
+settled true s t n m = refl
+settled false true true n m = refl
+settled false true false true m = refl
+settled false true false false m = refl
+settled false false true true m = refl
+settled false false true false m = refl
+settled false false false n m = refl
 
-  pub name_refused : is_name name left ≡ false → false ≡ all
-  name_refused refused = sym (ap (λ b. b && are_names left) refused) ∙ names_on
+fresh_is : (seen : List ℕ → Bool) (names : List (List ℕ)) → fresh seen names ≡ (are_names names && not (list_any seen names))
+fresh_is seen [] = refl
+fresh_is seen (name ∷ names) =
+    ap (λ b. not (is_empty name || seen name) && b) (fresh_is (λ other. bytes_eq name other || seen other) names)
+    ∙ ap (λ b. not (is_empty name || seen name) && (are_names names && not b)) (taken_or (bytes_eq name) seen names)
+    ∙ settled (is_empty name) (seen name) (is_taken name names) (are_names names) (list_any seen names)
 
-  pub names_behind : is_name name left ≡ true → are_names left ≡ all
-  names_behind is = sym (ap (λ b. b && are_names left) is) ∙ names_on
+fresh_of_none : (names : List (List ℕ)) → fresh (λ _. false) names ≡ are_names names
+fresh_of_none names = fresh_is (λ _. false) names ∙ ap (λ b. are_names names && not b) (none names) ∙ by (are_names names)
+  where
+    none : (names : List (List ℕ)) → list_any (λ _. false) names ≡ false
+    none [] = refl
+    none (name ∷ names) = none names
+
+    by : (b : Bool) → (b && true) ≡ b
+    by true = refl
+    by false = refl
+
+pub fresh_at_first : (texts : BTreeSet (Bor (List ℕ))) → texts.keys ≡ [] → (names : List (List ℕ)) → fresh (has texts) names ≡ are_names names
+fresh_at_first texts none names =
+    fresh_alike (has texts) (λ _. false) (λ name. ap (list_any (is_at (λ (other : Bor (List ℕ)). slice_cmp nat_cmp name other.now))) none) names
+    ∙ fresh_of_none names
+
+-- ---- sets of texts
+
+or_cond : (one other : Bool) → cond one true other ≡ (one || other)
+or_cond true other = refl
+or_cond false other = refl
+
+pub has_more : (texts more : BTreeSet (Bor (List ℕ))) (text : Bor (List ℕ)) → Updates (λ x y. slice_cmp nat_cmp x.now y.now) texts more text true
+    → (other : List ℕ) → has more other ≡ (bytes_eq text.now other || has texts other)
+has_more texts more text updated other =
+    updated.0 (record { ref_ptr = (0, 0); now = other })
+    ∙ ap (λ b. cond b true (has texts other)) (is_eq-slice_cmp text.now other)
+    ∙ or_cond (bytes_eq text.now other) (has texts other)

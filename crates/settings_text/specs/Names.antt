@@ -1,6 +1,10 @@
 -- The names of a header, and delimiters.
+use denote.Ref.{Bor}
 use Rattle.std.specs.Prelude.{ℕ, List, [], ◌∷◌, ◌++◌, ◌==◌, ◌&&◌, ◌||◌, not, nat_lt, Bool, true, false, if◌then◌else◌, Option, None, Some}
+use Rattle.std.specs.BTreeSet.{BTreeSet, contains_by}
+use Rattle.std.specs.Cmp.Lexicographic.{slice_cmp}
 use Rattle.std.specs.List.{list_any}
+use Rattle.std.specs.Ordering.{nat_cmp}
 use Rattle.settings_text.specs.Ids.{is_taken}
 
 -- ---- names between delimiters
@@ -32,6 +36,10 @@ is_name name others = not (is_empty name || is_taken name others)
 abbrev pub are_names : List (List ℕ) → Bool
 are_names [] = true
 are_names (name ∷ names) = is_name name names && are_names names
+
+-- whether a set of texts has this one
+abbrev pub has : BTreeSet (Bor (List ℕ)) → List ℕ → Bool
+has texts text = contains_by (λ other. slice_cmp nat_cmp text other.now) texts
 
 -- ---- delimiters
 

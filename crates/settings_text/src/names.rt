@@ -1,61 +1,41 @@
 // The names of a header, and delimiters.
-ghost use Rattle.std.specs.Prelude.{◌≡◌, ◌==◌, ◌<◌, ◌∷◌, length, IsTrue};
+ghost use Rattle.std.specs.Prelude.{◌≡◌, ◌==◌, ◌<◌, ◌∷◌, ◌||◌, not, length, IsTrue, IfOk, ℕ, List};
 ghost use Rattle.std.specs.List.{list_any, position_or_len};
 ghost use Rattle.std.specs.Str.{bytes_eq};
-ghost use Rattle.settings_text.specs.Ids.{is_taken};
 ghost use Rattle.settings_text.specs.Names as names;
-ghost use Rattle.settings_text.specs.Names.{parts_of, parts_left};
+ghost use Rattle.settings_text.specs.Names.{has, is_empty, parts_of, parts_left};
 
-/// Whether the parts of a header between delimiters are names: none is empty, and none stands twice.
-pub fn are_names(header: &[u8], delimiter: u8) -> bool
-    ensures { result ≡ names.are_names (parts_of delimiter header.now) }
+use std::alloc::{AllocError, Global};
+use std::collections::BTreeSet;
+
+/// Whether the parts of a header between delimiters are names: none is empty, and none stands twice. It takes time in
+/// proportion to the header's length and the logarithm of their number.
+pub fn are_names(alloc: Global, header: &[u8], delimiter: u8) -> Result<bool, AllocError>
+    ensures { IfOk result (λ are. are ≡ names.are_names (parts_of delimiter header.now)) }
 {
+    let mut seen = BTreeSet::new(alloc);
     let mut rest = header;
     'names: loop {
         let (name, behind, found) = first_part(rest, delimiter);
-        if !is_name(name, behind, found, delimiter) {
-            return false;
+        if !add_name(&mut seen, name)? {
+            return Ok(false);
         }
         if !found {
-            return true;
+            return Ok(true);
         }
         rest = behind;
     }
 }
 
-/// Whether a part is a name which isn't one of those behind it, where there are any.
-fn is_name(name: &[u8], behind: &[u8], found: bool, delimiter: u8) -> bool
-    ensures { result ≡ names.is_name name.now (parts_left delimiter behind.now found) }
+/// Adds a part to the names in front of it, and says whether it is a name that is none of those.
+fn add_name<'a>(seen: &mut BTreeSet<&'a [u8]>, name: &'a [u8]) -> Result<bool, AllocError>
+    ensures is { IfOk result (λ is. is ≡ not (is_empty name.now || has seen.old name.now)) }
+    ensures added { IfOk result (λ is. IsTrue is → (other : List ℕ) → has seen.new other ≡ (bytes_eq name.now other || has seen.old other)) }
 {
     if name.is_empty() {
-        return false;
+        return Ok(false);
     }
-    if found {
-        return !is_part(name, behind, delimiter);
-    }
-    true
-}
-
-fn is_part(name: &[u8], text: &[u8], delimiter: u8) -> bool
-    ensures { result ≡ is_taken name.now (parts_of delimiter text.now) }
-{
-    let mut rest = text;
-    'parts: loop {
-        let (part, behind, found) = first_part(rest, delimiter);
-        if is_same(name, part) {
-            return true;
-        }
-        if !found {
-            return false;
-        }
-        rest = behind;
-    }
-}
-
-fn is_same(name: &[u8], part: &[u8]) -> bool
-    ensures { result ≡ bytes_eq name.now part.now }
-{
-    name == part
+    Ok(seen.insert(name)?)
 }
 
 /// The first part of a text, what stands behind the delimiter, and whether there is one.

@@ -12,7 +12,7 @@ use crate::names::{are_names, single};
 use crate::parsers;
 use crate::place::place;
 use crate::settings::OpKind;
-use crate::words::{Words, is_one_of, tested_text};
+use crate::words::is_one_of;
 use entry_model::Text;
 use serde_json::Value;
 use std::alloc::Global;
@@ -39,27 +39,24 @@ fn delimiter(alloc: Global, object: &Value, at: &str) -> Result<u8, SettingsFaul
     }
 }
 
-/// Headers of names between delimiters.
-#[derive(Clone, Copy)]
-struct Headers {
-    delimiter: u8,
-}
-
-impl Words for Headers {
-    ghost use Rattle.settings_text.specs.Names.{are_names, parts_of};
-
-    ghost test = { λ headers header. are_names (parts_of headers.delimiter header) };
-
-    fn has(&self, header: &str) -> bool {
-        are_names(header.as_bytes(), self.delimiter)
-    }
-}
-
+/// Names between delimiters.
 fn header(alloc: Global, object: &Value, at: &str, delimiter: u8) -> Result<Text, SettingsFault>
     ensures { Gives (λ header. header) result
         (kinds.must at.now (codes "header") (csv_parsing.header delimiter) (view object.now)) }
 {
-    tested_text(alloc, object, at, "header", &Headers { delimiter })
+    let Some(value) = object.get("header") else {
+        return Err(SettingsFault::Missing {
+            key: place(alloc, at, "header")?,
+        });
+    };
+    let content = name(alloc, value, at, "header")?;
+    if are_names(alloc, content.as_bytes(), delimiter)? {
+        Ok(Text::from_str(alloc, content)?)
+    } else {
+        Err(SettingsFault::OutOfRange {
+            key: place(alloc, at, "header")?,
+        })
+    }
 }
 
 #[tactic(auto, unfolding(crate::specs::Types::CsvParsing::read))]
