@@ -9,16 +9,15 @@ ghost use Rattle.entry_model.specs.Datum.{datum, fields, is_map};
 ghost use Rattle.entry_model.specs.LogRecord.{log_record, members_in};
 ghost use Rattle.field_paths.specs.MapOf.{members_seen};
 ghost use Rattle.field_paths.specs.Members.{with_member, member_at};
-ghost use Rattle.container_parser.specs.Computed.{pod_in};
 ghost use Rattle.container_parser.specs.Told as told;
 
 use crate::line::ContainerLine;
-use crate::pod::{Pod, pod_of_path};
+use crate::pod::Pod;
+use crate::pods::Pods;
 use entry_model::{Entry, Fields, Text, Value};
 use std::alloc::{AllocError, Global};
 
 /// The entry with what its line says, and with the pod of its file.
-#[tactic(auto, unfolding(crate::specs::Told::told_by))]
 pub fn told_by(
     alloc: Global,
     by_path: bool,
@@ -27,28 +26,50 @@ pub fn told_by(
 ) -> Result<Entry, AllocError>
     ensures { IfOk result (λ made. log_record made ≡ told.told_by by_path line (log_record entry)) }
 {
-    let pod = pod_asked(alloc, by_path, &entry)?;
-    let attributes = with_text(alloc, entry.attributes, "log.iostream", line.stream)?;
-    let resource = with_pod(alloc, entry.resource, pod)?;
-    Ok(Entry {
-        body: Value::Text(line.text),
-        attributes,
-        resource,
-        timestamp: Some(line.timestamp),
-        severity: entry.severity,
-        severity_text: entry.severity_text,
-    })
+    let pods = Pods::new(alloc)?;
+    pods.told_by(alloc, by_path, line, entry)
 }
 
-fn pod_asked(alloc: Global, by_path: bool, entry: &Entry) -> Result<Option<Pod>, AllocError>
-    ensures { IfOk result (λ pod. pod ≡ told.pod_asked by_path (log_record entry.now)) }
-{
-    if !by_path {
-        return Ok(None);
+impl Pods {
+    /// As [`told_by`], by what is kept of the last path.
+    #[tactic(auto, unfolding(crate::specs::Told::told_by))]
+    pub fn told_by(
+        &self,
+        alloc: Global,
+        by_path: bool,
+        line: ContainerLine,
+        entry: Entry,
+    ) -> Result<Entry, AllocError>
+        ensures { IfOk result (λ made. log_record made ≡ told.told_by by_path line (log_record entry)) }
+    {
+        let pod = self.pod_asked(alloc, by_path, &entry)?;
+        let attributes = with_text(alloc, entry.attributes, "log.iostream", line.stream)?;
+        let resource = with_pod(alloc, entry.resource, pod)?;
+        Ok(Entry {
+            body: Value::Text(line.text),
+            attributes,
+            resource,
+            timestamp: Some(line.timestamp),
+            severity: entry.severity,
+            severity_text: entry.severity_text,
+        })
     }
-    match path_of(alloc, &entry.attributes)? {
-        Some(path) => pod_of(alloc, path.as_str()),
-        None => Ok(None),
+
+    fn pod_asked(
+        &self,
+        alloc: Global,
+        by_path: bool,
+        entry: &Entry,
+    ) -> Result<Option<Pod>, AllocError>
+        ensures { IfOk result (λ pod. pod ≡ told.pod_asked by_path (log_record entry.now)) }
+    {
+        if !by_path {
+            return Ok(None);
+        }
+        match path_of(alloc, &entry.attributes)? {
+            Some(path) => self.pod_of(alloc, &path),
+            None => Ok(None),
+        }
     }
 }
 
@@ -79,14 +100,6 @@ fn text_in(value: &Value) -> Result<Option<Text>, AllocError>
         Value::Text(text) => Ok(Some(text.share()?)),
         Value::Null | Value::Bool(_) | Value::Int(_) | Value::List(_) | Value::Map(_) => Ok(None),
     }
-}
-
-#[tactic(auto, using(crate::proofs::PodsTold::pod_is_told))]
-fn pod_of(alloc: Global, path: &str) -> Result<Option<Pod>, AllocError>
-    ensures { IfOk result (λ pod. pod ≡ pod_in path.now) }
-{
-    let pod = pod_of_path(alloc, path)?;
-    Ok(pod)
 }
 
 fn with_pod(alloc: Global, resource: Value, pod: Option<Pod>) -> Result<Value, AllocError>

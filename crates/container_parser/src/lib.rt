@@ -7,8 +7,8 @@
 //! answers the names that the last three components of a path have, exactly where they have them (`IsPodPath`). [`laws`] says
 //! that each of the three has one answer. [`ContainerOp::read`] answers what a body says (`body_read`), and [`told_by`] makes of
 //! an entry and its line what `told_by` of `specs/Told` says: the line's text is the body, its time is the entry's, its stream is
-//! the attribute `log.iostream`, and the pod that the path of the file tells of is in the resource. These definitions are
-//! computed, and laws say that they are what the grammars give.
+//! the attribute `log.iostream`, and the pod that the path of the file tells of is in the resource; [`Pods`] does the same, and
+//! keeps what the last path told. These definitions are computed, and laws say that they are what the grammars give.
 //!
 //! The names of the attributes are those of OpenTelemetry's
 //! [semantic conventions](https://opentelemetry.io/docs/specs/semconv/resource/k8s/).
@@ -27,6 +27,7 @@ mod format;
 pub mod laws;
 mod line;
 mod pod;
+mod pods;
 mod reading;
 mod split;
 mod stream;
@@ -37,4 +38,5 @@ pub use fault::ContainerFault;
 pub use format::{Format, detect};
 pub use line::{ContainerLine, read_line};
 pub use pod::{Pod, pod_of_path};
+pub use pods::Pods;
 pub use reading::ContainerOp;

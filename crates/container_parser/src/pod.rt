@@ -29,6 +29,21 @@ struct Names<'p> {
     restarts: &'p str,
 }
 
+impl Pod {
+    /// A pod of the same names, which takes no memory.
+    pub(crate) fn share(&self) -> Result<Pod, AllocError>
+        ensures { IfOk result (λ pod. pod ≡ self.now) }
+    {
+        Ok(Pod {
+            namespace: self.namespace.share()?,
+            pod: self.pod.share()?,
+            uid: self.uid.share()?,
+            container: self.container.share()?,
+            restarts: self.restarts.share()?,
+        })
+    }
+}
+
 /// The names that the path of a log has in its last three components, as `<namespace>_<pod>_<uid>/<container>/<n>.log`, or
 /// `<n>.log.20240101-000000` once it was rotated, which are the paths where a kubelet keeps logs. `None` exactly where they
 /// are others. The first has two `_`, and something before, between and behind them, the uid being of `0` to `9`, `a` to `f`

@@ -11,7 +11,7 @@ ghost use Rattle.op_kinds.specs.declared.cause.OpCause.TheVariants.{Memory};
 use crate::action::Applied;
 use crate::joining::join;
 use crate::{OpCause, OpState, Record};
-use container_parser::{ContainerLine, ContainerOp, Format, told_by};
+use container_parser::{ContainerLine, ContainerOp, Format, Pods};
 use entry_model::Text;
 use field_paths::{FieldPath, PathFault};
 use recombine::Recombine;
@@ -27,6 +27,7 @@ const MOST_PARTS: u32 = 1_000;
 pub(crate) struct Container {
     pub(crate) op: ContainerOp,
     pub(crate) parts: Recombine,
+    pods: Pods,
     pub ghost joined: { parts ≡ parts_joined },
 }
 
@@ -41,9 +42,11 @@ pub(crate) fn compile(
 {
     let field = body(alloc)?;
     let format = format_asked(format);
+    let pods = Pods::new(alloc)?;
     Ok(Container {
         op: ContainerOp { format, by_path },
         parts: Recombine::new(false, field, Text::empty(), MOST_PARTS, false),
+        pods,
     })
 }
 
@@ -103,7 +106,9 @@ impl Container {
         ensures { IfOk result (IsApplied (option_map with_groups (containers.whole_line (open_groups state.old) self.now.op.by_path item line)) item
             (effect state.old state.new out.old.items out.new.items)) }
     {
-        let entry = told_by(alloc, self.op.by_path, line, item.into_entry())?;
+        let entry = self
+            .pods
+            .told_by(alloc, self.op.by_path, line, item.into_entry())?;
         let opened = state.take_groups(alloc);
         *state = OpState::with_groups(opened);
         out.push((0, Record::new(alloc, entry)?))?;
@@ -126,7 +131,9 @@ impl Container {
         }
         let source = line.stream.share()?;
         let last = !line.partial;
-        let entry = told_by(alloc, self.op.by_path, line, item.into_entry())?;
+        let entry = self
+            .pods
+            .told_by(alloc, self.op.by_path, line, item.into_entry())?;
         join(alloc, &self.parts, state, last, &source, entry, out)
     }
 }
