@@ -161,17 +161,13 @@ fn read_part(part: Part, text: &[u8], at: usize, said: Said) -> Reading<Said>
         Part::ShortYear =>
             say!(said, read_number(2, 0, 99, text, at), value => year: full_year(value)),
         Part::Month => say!(said, read_number(2, 1, 12, text, at), value => month: value as u16),
-        Part::MonthName => say!(said, read_name(&months(), 3, text, at), value => month: value),
+        Part::MonthName => read_month_name(text, at, said),
         Part::Day => say!(said, read_number(2, 1, 31, text, at), value => day: value as u8),
         Part::PaddedDay => say!(said, read_padded_day(text, at), value => day: value as u8),
-        Part::WeekdayName => {
-            let (_, next) = read_name(&weekdays(), 3, text, at)?;
-            Ok((said, next))
-        }
+        Part::WeekdayName => read_weekday_name(text, at, said),
         Part::Hour => say!(said, read_number(2, 0, 23, text, at), value => hour: value as u8),
         Part::TwelveHour => say!(said, read_number(2, 1, 12, text, at), value => hour: value as u8),
-        Part::Meridiem =>
-            say!(said, read_name(&meridiems(), 2, text, at), value => clock: clock_of(value)),
+        Part::Meridiem => read_meridiem(text, at, said),
         Part::Minute => say!(said, read_number(2, 0, 59, text, at), value => minute: value as u8),
         Part::Second => say!(said, read_number(2, 0, 59, text, at), value => second: value as u8),
         Part::Fraction => say!(said, read_fraction(9, text, at), value => nanosecond: value),
@@ -180,13 +176,9 @@ fn read_part(part: Part, text: &[u8], at: usize, said: Said) -> Reading<Said>
         Part::Zone(colon) => say!(said, read_zone(colon, text, at), value => offset: value),
         Part::UnpaddedMonth =>
             say!(said, read_unpadded(12, text, at), value => month: value as u16),
-        Part::FullMonthName =>
-            say!(said, read_full_name(&month_names(), text, at), value => month: value),
+        Part::FullMonthName => read_full_month_name(text, at, said),
         Part::UnpaddedDay => say!(said, read_unpadded(31, text, at), value => day: value as u8),
-        Part::FullWeekdayName => {
-            let (_, next) = read_full_name(&day_names(), text, at)?;
-            Ok((said, next))
-        }
+        Part::FullWeekdayName => read_full_weekday_name(text, at, said),
         Part::UnpaddedTwelveHour =>
             say!(said, read_unpadded(12, text, at), value => hour: value as u8),
         Part::FixedFraction(digits) =>
@@ -207,6 +199,55 @@ fn read_literal(byte: u8, text: &[u8], at: usize, said: Said) -> Reading<Said>
         return Ok((said, at + 1));
     }
     Err(TimeFault::Mismatch { at })
+}
+
+// Names are read by calls of their own, since their tables would be cleared for each part that is read in the same one.
+
+#[inline(never)]
+fn read_month_name(text: &[u8], at: usize, said: Said) -> Reading<Said>
+    requires { at ≤ length text.now }
+    ensures is { result ≡ part_read Part.MonthName text.now at said }
+    ensures within { IfOk result (λ read. read.1 ≤ length text.now) }
+{
+    say!(said, read_name(&months(), 3, text, at), value => month: value)
+}
+
+#[inline(never)]
+fn read_weekday_name(text: &[u8], at: usize, said: Said) -> Reading<Said>
+    requires { at ≤ length text.now }
+    ensures is { result ≡ part_read Part.WeekdayName text.now at said }
+    ensures within { IfOk result (λ read. read.1 ≤ length text.now) }
+{
+    let (_, next) = read_name(&weekdays(), 3, text, at)?;
+    Ok((said, next))
+}
+
+#[inline(never)]
+fn read_meridiem(text: &[u8], at: usize, said: Said) -> Reading<Said>
+    requires { at ≤ length text.now }
+    ensures is { result ≡ part_read Part.Meridiem text.now at said }
+    ensures within { IfOk result (λ read. read.1 ≤ length text.now) }
+{
+    say!(said, read_name(&meridiems(), 2, text, at), value => clock: clock_of(value))
+}
+
+#[inline(never)]
+fn read_full_month_name(text: &[u8], at: usize, said: Said) -> Reading<Said>
+    requires { at ≤ length text.now }
+    ensures is { result ≡ part_read Part.FullMonthName text.now at said }
+    ensures within { IfOk result (λ read. read.1 ≤ length text.now) }
+{
+    say!(said, read_full_name(&month_names(), text, at), value => month: value)
+}
+
+#[inline(never)]
+fn read_full_weekday_name(text: &[u8], at: usize, said: Said) -> Reading<Said>
+    requires { at ≤ length text.now }
+    ensures is { result ≡ part_read Part.FullWeekdayName text.now at said }
+    ensures within { IfOk result (λ read. read.1 ≤ length text.now) }
+{
+    let (_, next) = read_full_name(&day_names(), text, at)?;
+    Ok((said, next))
 }
 
 fn full_year(short: u32) -> u16
