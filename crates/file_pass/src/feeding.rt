@@ -1,5 +1,5 @@
 // From the bytes of one file to lines of the output.
-ghost use Rattle.std.specs.Prelude.{◌≡◌, ◌+◌, ◌-◌, ◌<◌, ◌≤◌, ◌^◌, ℕ, List, [], ◌++◌, false, length, Err, IsTrue, IfOk, OnOk};
+ghost use Rattle.std.specs.Prelude.{◌≡◌, ◌+◌, ◌-◌, ◌<◌, ◌≤◌, ◌^◌, ℕ, List, [], ◌++◌, false, length, drop, Err, IsTrue, IfOk, OnOk};
 ghost use Rattle.outside.specs.declared.disk.DiskFile.{DiskFile};
 ghost use Rattle.file_pass.specs.DiskTerms.{Appends, KeepsDisk};
 ghost use Rattle.file_pass.specs.Fed.{poll_of, FillsPart, FillsUp, HasRead, IsSane, ReadsOn, feeding_row, last_in, last_of, rules_in};
@@ -9,6 +9,7 @@ ghost use Rattle.file_pass.specs.Moment.{feeding_at, meanings, moment};
 ghost use Rattle.file_pass.specs.PassCause.{HasPassCause};
 ghost use Rattle.file_pass.specs.TreeTerms.{KeepsTree};
 ghost use Rattle.pipeline.specs.Parts.{HaveKinds, settings_of};
+ghost use Rattle.pipeline.specs.Searched.{IsSearched, StaysSearched};
 ghost use Rattle.settings_text.specs.Limits.{KeepsLimits};
 ghost use Rattle.standing.specs.Look.{fed, lines_of};
 ghost use Rattle.standing.specs.Tokens.{used};
@@ -39,6 +40,8 @@ pub(crate) struct Feeding {
     pub state: FileState,
     /// The bytes that were read behind the offset, which no token used.
     pub carried: Vec<u8>,
+    /// How many of the bytes that are carried needn't be searched again for the end of a token.
+    pub searched: usize,
     /// What is remembered of the looks at the file.
     pub idle: Idle,
     /// Whether what waited was flushed.
@@ -58,6 +61,7 @@ pub(crate) fn feed_file<T: Tree, D: Disk>(
     requires setup { KeepsLimits (settings_of setup.now.pipeline.now) × (setup.now.limit ≤ 2 ^ 40) }
     requires sane { IsSane setup.now feeding.old end.old }
     requires none { feeding.old.carried.items ≡ [] }
+    requires anew { feeding.old.searched ≡ 0 }
     requires stood { feeding.old.flushed ≡ false }
     requires begins { feeding.old.offset ≤ feeding.old.file.size }
     requires size { feeding.old.file.size ≤ 2 ^ 62 }
@@ -94,6 +98,7 @@ fn read_on<T: Tree, D: Disk>(
     requires setup { KeepsLimits (settings_of setup.now.pipeline.now) × (setup.now.limit ≤ 2 ^ 40) }
     requires sane { IsSane setup.now feeding.old end.old }
     requires none { feeding.old.carried.items ≡ [] }
+    requires anew { feeding.old.searched ≡ 0 }
     requires begins { feeding.old.offset ≤ feeding.old.file.size }
     requires size { feeding.old.file.size ≤ 2 ^ 62 }
     requires room { (0 < length buffer.old) × (length buffer.old ≤ 65536) }
@@ -144,10 +149,12 @@ fn feed_carried<D: Disk>(
     requires setup { KeepsLimits (settings_of setup.now.pipeline.now) × (setup.now.limit ≤ 2 ^ 40) }
     requires sane { IsSane setup.now feeding.old end.old }
     requires size { feeding.old.offset + length feeding.old.carried.items ≤ 2 ^ 62 }
+    requires searched { IsSearched (settings_of setup.now.pipeline.now) feeding.old.carried.items feeding.old.searched }
     requires ends { IsTrue (D.meaning.images.tells disk.old) → length (D.meaning.images.seen disk.old DiskFile.Output) ≡ end.old }
     ensures ok { OnOk result (Appends D.meaning (lines_text (lines_of (poll_of setup.now) feeding.old.carried.items (feeding_row feeding.old))) end.old end.new disk.old disk.new) }
     ensures fed { OnOk result (feeding_row feeding.new ≡ fed (rules_in setup.now) feeding.old.carried.items (feeding_row feeding.old)) }
     ensures rest { OnOk result (feeding.new.carried.items ≡ waiting (rules_in setup.now) feeding.old.carried.items) }
+    ensures searched { OnOk result (StaysSearched (settings_of setup.now.pipeline.now) feeding.new.carried.items feeding.new.searched) }
     ensures flushed { feeding.new.flushed ≡ feeding.old.flushed }
     ensures sane { OnOk result (IsSane setup.now feeding.new end.new) }
     ensures full { (size : ℕ) → result ≡ Err (PassFault.OutputFull size)
@@ -159,9 +166,17 @@ fn feed_carried<D: Disk>(
     let mut lines = Vec::new(setup.alloc);
     let count = feed_bytes(setup, feeding, &mut lines)?;
     append(setup.alloc, disk, setup.limit, &lines, end)?;
-    feeding.carried.rotate_left(count);
-    feeding.carried.truncate(feeding.carried.len() - count);
+    drop_front(&mut feeding.carried, count);
     Ok(())
+}
+
+// Drops so many bytes from the front.
+fn drop_front(bytes: &mut Vec<u8>, count: usize)
+    requires { count ≤ length bytes.old.items }
+    ensures { bytes.new.items ≡ drop count bytes.old.items }
+{
+    bytes.rotate_left(count);
+    bytes.truncate(bytes.len() - count);
 }
 
 // Takes the tokens of the bytes that are carried, which stand from the offset on, and answers how many bytes they used.
@@ -174,7 +189,9 @@ fn feed_bytes(
     requires states { HaveKinds setup.now.pipeline.now feeding.old.state.states.items }
     requires few { (feeding.old.state.records ≤ feeding.old.offset) × (feeding.old.state.lines ≤ 2 ^ 40) }
     requires size { feeding.old.offset + length feeding.old.carried.items ≤ 2 ^ 62 }
+    requires searched { IsSearched (settings_of setup.now.pipeline.now) feeding.old.carried.items feeding.old.searched }
     requires none { lines.old.items ≡ [] }
+    ensures searched { IfOk result (λ count. StaysSearched (settings_of setup.now.pipeline.now) (drop count feeding.old.carried.items) feeding.new.searched) }
     ensures used { IfOk result (λ count. count ≡ used (rules_in setup.now) feeding.old.carried.items) }
     ensures fed { OnOk result (feeding_row feeding.new ≡ fed (rules_in setup.now) feeding.old.carried.items (feeding_row feeding.old)) }
     ensures lines { OnOk result (lines.new.items ≡ lines_text (lines_of (poll_of setup.now) feeding.old.carried.items (feeding_row feeding.old))) }
@@ -187,13 +204,14 @@ fn feed_bytes(
     a_pipeline_is_rules(setup.pipeline);
     a_row_is_fed_by_the_rules(setup.pipeline);
     let path = feeding.path.as_str();
-    let count = setup.pipeline.feed(
+    let count = setup.pipeline.feed_behind(
         setup.alloc,
         &mut feeding.state,
         feeding.id,
         path,
         setup.observed,
         &feeding.carried,
+        &mut feeding.searched,
         lines,
     )?;
     feeding.offset += count as u64;

@@ -1,5 +1,5 @@
 // The pass over the paths.
-ghost use Rattle.std.specs.Prelude.{◌≡◌, ◌⊎◌, ℕ, ◌<◌, ◌≤◌, ◌^◌, [], List, false, true, length, nat_lt, slice_get, slice_set, Contains, Err, IsTrue, Some, IfOk, OnOk};
+ghost use Rattle.std.specs.Prelude.{◌≡◌, ◌+◌, ◌⊎◌, ℕ, ◌<◌, ◌≤◌, ◌^◌, [], List, false, true, length, nat_lt, slice_get, slice_set, Contains, Err, IsTrue, Some, IfOk, OnOk};
 ghost use Rattle.file_pass.specs.AllTaken.{TakesAll, TakesOne};
 ghost use Rattle.file_pass.specs.DiskTerms.{KeepsDisk};
 ghost use Rattle.file_pass.specs.Fed.{poll_of, feeding_row, rules_in};
@@ -44,6 +44,9 @@ use std::alloc::AllocError;
 
 // How many bytes are read at once.
 const BUFFER_SIZE: usize = 65_536;
+
+// How many of a file's first bytes are read at most to know it.
+const FRONT_SIZE: usize = 4_096;
 
 /// What a pass has made so far.
 #[derive(Drop)]
@@ -111,7 +114,7 @@ fn take_each<T: Tree, D: Disk>(
     ensures cause { HasPassCause result (D.meaning.faults disk.old) (D.meaning.faults disk.new) }
 {
     taking.counts.stand();
-    let mut buffer = vec![in setup.alloc; 0; BUFFER_SIZE]?;
+    let mut buffer = vec![in setup.alloc; 0; FRONT_SIZE + BUFFER_SIZE]?;
     for path in paths {
         take_path(tree, disk, setup, path, taking, &mut buffer)?;
     }
@@ -131,7 +134,7 @@ fn take_path<T: Tree, D: Disk>(
     requires sane { IsSaneTaking setup.now taking.old }
     requires included { Includes (rules_in setup.now) path.now }
     requires short { IsShortText path.now }
-    requires room { (0 < length buffer.old) × (length buffer.old ≤ BUFFER_SIZE) }
+    requires room { (FRONT_SIZE < length buffer.old) × (length buffer.old ≤ FRONT_SIZE + BUFFER_SIZE) }
     requires ends { IsTrue (D.meaning.images.tells disk.old) → length (D.meaning.images.seen disk.old DiskFile.Output) ≡ taking.old.end }
     ensures ok { OnOk result (TakesOne (meanings T.meaning D.meaning) setup.now path.now (taking_at taking.old (moment tree.old disk.old)) (taking_at taking.new (moment tree.new disk.new))) }
     ensures sane { OnOk result (IsSaneTaking setup.now taking.new) }
@@ -162,7 +165,7 @@ fn open_path<T: Tree, D: Disk>(
     requires sane { IsSaneTaking setup.now taking.old }
     requires included { Includes (rules_in setup.now) path.now }
     requires short { IsShortText path.now }
-    requires room { (0 < length buffer.old) × (length buffer.old ≤ BUFFER_SIZE) }
+    requires room { (FRONT_SIZE < length buffer.old) × (length buffer.old ≤ FRONT_SIZE + BUFFER_SIZE) }
     requires ends { IsTrue (D.meaning.images.tells disk.old) → length (D.meaning.images.seen disk.old DiskFile.Output) ≡ taking.old.end }
     ensures ok { IfOk result (λ found. Finds (meanings T.meaning D.meaning) (PathTaken (poll_of setup.now) path.now) found
         (rows_at taking.old (moment tree.old disk.old)) (rows_at taking.new (moment tree.new disk.new))) }
@@ -204,7 +207,7 @@ fn take_opened<T: Tree, D: Disk>(
     requires sane { IsSaneTaking setup.now taking.old }
     requires size { opened.now.file.size ≤ 2 ^ 62 }
     requires short { IsShortText opened.now.path.now }
-    requires room { (0 < length buffer.old) × (length buffer.old ≤ BUFFER_SIZE) }
+    requires room { (FRONT_SIZE < length buffer.old) × (length buffer.old ≤ FRONT_SIZE + BUFFER_SIZE) }
     requires ends { IsTrue (D.meaning.images.tells disk.old) → length (D.meaning.images.seen disk.old DiskFile.Output) ≡ taking.old.end }
     ensures ok { IfOk result (λ found. Finds (meanings T.meaning D.meaning) (OpenTaken (poll_of setup.now) opened.now) found
         (rows_at taking.old (moment tree.old disk.old)) (rows_at taking.new (moment tree.new disk.new))) }
@@ -222,7 +225,7 @@ fn take_opened<T: Tree, D: Disk>(
     if file.size == 0 {
         return Ok(Found::Nothing);
     }
-    let mut first = [0; 4_096];
+    let (first, pieces) = buffer.split_at_mut(FRONT_SIZE);
     let wanted = u64::from(setup.pipeline.settings().fingerprint_size).min(file.size) as usize;
     let front = &mut first[..wanted];
     let (_, ending) = read_front(tree, file, front);
@@ -230,7 +233,7 @@ fn take_opened<T: Tree, D: Disk>(
         return Ok(Found::Unread(ending));
     }
     let seen = SeenFile { path, file, front };
-    let found = take_seen(tree, disk, setup, &seen, taking, buffer)?;
+    let found = take_seen(tree, disk, setup, &seen, taking, pieces)?;
     Ok(found)
 }
 
@@ -339,6 +342,7 @@ fn feeding_of(setup: &Setup<'_>, file: OpenFile, row: &Row) -> Result<Feeding, A
     ensures row { IfOk result (λ feeding. feeding_row feeding ≡ record row.now { front = []; start = 0; born = 0; ends = [] }) }
     ensures none { IfOk result (λ feeding. (feeding.carried.items ≡ []) × (feeding.flushed ≡ false)) }
     ensures file { IfOk result (λ feeding. feeding.file ≡ file) }
+    ensures anew { IfOk result (λ feeding. feeding.searched ≡ 0) }
     ensures idle { IfOk result (λ feeding. (feeding.idle.seen < 2 ^ 64) × (feeding.idle.quiet < 2 ^ 32)) }
     ensures kinds { IfOk result (λ feeding. HaveKinds setup.now.pipeline.now feeding.state.states.items) }
 {
@@ -351,6 +355,7 @@ fn feeding_of(setup: &Setup<'_>, file: OpenFile, row: &Row) -> Result<Feeding, A
         offset: row.offset,
         state,
         carried: Vec::new(setup.alloc),
+        searched: 0,
         idle: idle(row),
         flushed: false,
     })

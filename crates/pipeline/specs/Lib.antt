@@ -1,6 +1,7 @@
 pub mod Tokens
 pub mod NextToken
 pub mod Splitters
+pub mod Searched
 pub mod Entries
 pub mod Sources
 pub mod Wired

@@ -61,8 +61,16 @@ impl Pipeline {
         graph::go_on(&self.graph);
         lines_append();
         let source = self.source(alloc, id, path, observed)?;
-        let used = self.feed_by(alloc, state, &source, Cutting::Whole, bytes, out)?;
-        self.feed_by(alloc, state, &source, Cutting::Rest, &bytes[used..], out)?;
+        let used = self.feed_by(alloc, state, &source, Cutting::Whole, bytes, &mut 0, out)?;
+        self.feed_by(
+            alloc,
+            state,
+            &source,
+            Cutting::Rest,
+            &bytes[used..],
+            &mut 0,
+            out,
+        )?;
         self.close(alloc, state, id, observed, out)
     }
 

@@ -1,5 +1,5 @@
 // From bytes to lines.
-ghost use Rattle.std.specs.Prelude.{◌≡◌, ℕ, ◌+◌, ◌-◌, ◌^◌, ◌≤◌, [], ◌∷◌, ◌++◌, List, length, string_bytes, Option, OnOk, IfOk};
+ghost use Rattle.std.specs.Prelude.{◌≡◌, ℕ, ◌+◌, ◌-◌, ◌^◌, ◌≤◌, [], ◌∷◌, ◌++◌, List, length, drop, string_bytes, Option, OnOk, IfOk, IfSome, IfNone};
 ghost use Rattle.entry_model.specs.Datum.{Members};
 ghost use Rattle.graph_core.specs.Traces.{inputs, Served};
 ghost use Rattle.otlp_json.specs.OutputLine.{output_line};
@@ -11,6 +11,7 @@ ghost use Rattle.pipeline.specs.GraphOutput.{StandsFor};
 ghost use Rattle.pipeline.specs.NextToken.{IsNext};
 ghost use Rattle.pipeline.specs.Origin.{Origin, origin_of};
 ghost use Rattle.pipeline.specs.Parts.{settings_of, network, HaveKinds};
+ghost use Rattle.pipeline.specs.Searched.{IsSearched, StaysSearched};
 ghost use Rattle.pipeline.specs.Sources.{IsShared, IsSource};
 ghost use Rattle.line_splitter.specs.Cuts.{cuts, texts, used_by};
 ghost use Rattle.pipeline.specs.Tokens.{first_cut_of, rule_of, tokens_of, used_of};
@@ -71,13 +72,51 @@ impl Pipeline {
             → GoesOn (settings_of self.now) (network self.now) (origin_of id path.now observed) earlier
             (tokens_of (settings_of self.now) bytes.now) state.new out.old.items out.new.items) }
     {
+        self.feed_behind(alloc, state, id, path, observed, bytes, &mut 0, out)
+    }
+
+    /// As [`Pipeline::feed`], for bytes that come in pieces: `searched` is 0 for bytes of which none were searched, and else
+    /// what a call left there for the bytes that its tokens didn't use, which these begin with. So no line is searched again.
+    /// After want of memory nothing is said of it.
+    pub fn feed_behind(
+        &self,
+        alloc: Global,
+        state: &mut FileState,
+        id: u32,
+        path: &str,
+        observed: Option<u64>,
+        bytes: &[u8],
+        searched: &mut usize,
+        out: &mut Vec<u8>,
+    ) -> Result<usize, AllocError>
+        requires states { HaveKinds self.now state.old.states.items }
+        requires lines { state.old.lines ≤ 2 ^ 40 }
+        requires records { state.old.records + length bytes.now ≤ 2 ^ 62 }
+        requires searched { IsSearched (settings_of self.now) bytes.now searched.old }
+        ensures used { IfOk result (λ count. count ≡ used_of (settings_of self.now) bytes.now) }
+        ensures searched { IfOk result (λ count. StaysSearched (settings_of self.now) (drop count bytes.now) searched.new) }
+
+        // From any state.
+        ensures fed { OnOk result (Fed (settings_of self.now) (network self.now) (origin_of id path.now observed)
+            (tokens_of (settings_of self.now) bytes.now) state.old state.new out.old.items out.new.items) }
+        ensures records { OnOk result (state.new.records ≤ state.old.records + used_of (settings_of self.now) bytes.now) }
+        ensures lines { OnOk result (state.new.lines + length out.old.items ≤ state.old.lines + length out.new.items) }
+        ensures states { OnOk result (HaveKinds self.now state.new.states.items) }
+        ensures many { length state.new.states.items ≡ length state.old.states.items }
+
+        // From a state that stands for the tokens before.
+        ensures goes_on { OnOk result ((earlier : List (List ℕ))
+            → StandsFor (settings_of self.now) (network self.now) path.now earlier state.old
+            → GoesOn (settings_of self.now) (network self.now) (origin_of id path.now observed) earlier
+            (tokens_of (settings_of self.now) bytes.now) state.new out.old.items out.new.items) }
+    {
         graph::begin(&self.graph);
         graph::go_on(&self.graph);
         let source = self.source(alloc, id, path, observed)?;
-        self.feed_by(alloc, state, &source, Cutting::Whole, bytes, out)
+        self.feed_by(alloc, state, &source, Cutting::Whole, bytes, searched, out)
     }
 
-    // Takes these tokens of the bytes, and answers how many bytes they used.
+    // Takes these tokens of the bytes, and answers how many bytes they used. `searched` is as for `feed_behind`.
     pub(crate) fn feed_by(
         &self,
         alloc: Global,
@@ -85,12 +124,15 @@ impl Pipeline {
         source: &Source,
         cutting: Cutting,
         bytes: &[u8],
+        searched: &mut usize,
         out: &mut Vec<u8>,
     ) -> Result<usize, AllocError>
         requires source { (origin : Origin) × IsSource self.now origin source.now }
         requires states { HaveKinds self.now state.old.states.items }
         requires lines { state.old.lines ≤ 2 ^ 40 + length out.old.items }
         requires records { state.old.records + length bytes.now ≤ 2 ^ 62 }
+        requires searched { IsSearched (settings_of self.now) bytes.now searched.old }
+        ensures searched { IfOk result (λ count. StaysSearched (settings_of self.now) (drop count bytes.now) searched.new) }
         ensures used { IfOk result (λ count. count ≡ used_by (cuts (rule_of (settings_of self.now) cutting) bytes.now)) }
         ensures within { IfOk result (λ count. count ≤ length bytes.now) }
         ensures fed { OnOk result ((origin : Origin) → IsSource self.now origin source.now
@@ -106,7 +148,7 @@ impl Pipeline {
         lines_append();
         let mut buffers = Buffers::new(alloc);
         let mut at = 0;
-        while let Some(token) = self.next_token(alloc, cutting, &bytes[at..])? {
+        while let Some(token) = self.next_token(alloc, cutting, &bytes[at..], searched)? {
             let text = &bytes[at..][token.from..token.to];
             self.feed_token(alloc, state, source, &mut buffers, text, out)?;
             at += token.after;
@@ -118,22 +160,30 @@ impl Pipeline {
     pub fn first_token(&self, alloc: Global, bytes: &[u8]) -> Result<Option<Token>, AllocError>
         ensures { IfOk result (IsNext (first_cut_of (settings_of self.now)) bytes.now) }
     {
-        self.next_token(alloc, Cutting::Whole, bytes)
+        self.next_token(alloc, Cutting::Whole, bytes, &mut 0)
     }
 
-    // The first of these tokens of the bytes.
+    // The first of these tokens of the bytes. `searched` is as for the splitter.
+    #[tactic(auto, using(crate::proofs::Cutting::nothing_searched))]
     fn next_token(
         &self,
         alloc: Global,
         cutting: Cutting,
         bytes: &[u8],
+        searched: &mut usize,
     ) -> Result<Option<Token>, AllocError>
-        ensures { IfOk result (IsNext (rule_of (settings_of self.now) cutting) bytes.now) }
+        requires { IsSearched (settings_of self.now) bytes.now searched.old }
+        ensures token { IfOk result (IsNext (rule_of (settings_of self.now) cutting) bytes.now) }
+        ensures goes_on { IfOk result (λ token. IfNone token (StaysSearched (settings_of self.now) bytes.now searched.new)) }
+        ensures begins_anew { IfOk result (λ token. IfSome token (λ t. searched.new ≡ 0)) }
     {
         let max = self.settings.max_log_size as usize;
         match cutting {
-            Cutting::Whole => self.splitter.next(alloc, max, bytes),
-            Cutting::Rest => Ok(rest(max, bytes)),
+            Cutting::Whole => self.splitter.next(alloc, max, bytes, searched),
+            Cutting::Rest => {
+                *searched = 0;
+                Ok(rest(max, bytes))
+            }
         }
     }
 

@@ -1,6 +1,7 @@
 // What cuts the bytes of files into tokens.
-ghost use Rattle.std.specs.Prelude.{◌≡◌, ◌≤◌, OnOk, IfOk, IfErr};
+ghost use Rattle.std.specs.Prelude.{◌≡◌, ◌≤◌, ◌++◌, ℕ, List, OnOk, IfOk, IfErr, IfSome, IfNone};
 ghost use Rattle.pipeline.specs.NextToken.{IsNext};
+ghost use Rattle.pipeline.specs.Searched.{IsSearchedBy};
 ghost use Rattle.pipeline.specs.Splitters.{multiline_of, HasPattern, IsMultilineFault};
 ghost use Rattle.pipeline.specs.Tokens.{first_cut_by};
 
@@ -36,19 +37,28 @@ impl Splitter {
     }
 
     /// The first token of the bytes, where entries are cut after `max` bytes; `None` where more bytes are needed to decide
-    /// it.
+    /// it. `searched` is 0 for bytes of which none were searched, and else what a call that answered `None` for the first of
+    /// them left there. With a token it is 0, for the bytes past it.
+    #[tactic(auto, using(crate::proofs::Cutting::searched_of_several, crate::proofs::Cutting::searched_by_several))]
     pub(crate) fn next(
         &self,
         alloc: Global,
         max: usize,
         bytes: &[u8],
+        searched: &mut usize,
     ) -> Result<Option<Token>, AllocError>
-        requires { 1 ≤ max }
-        ensures { IfOk result (IsNext (first_cut_by (multiline_of self.now) max) bytes.now) }
+        requires max { 1 ≤ max }
+        requires searched { IsSearchedBy (multiline_of self.now) max bytes.now searched.old }
+        ensures token { IfOk result (IsNext (first_cut_by (multiline_of self.now) max) bytes.now) }
+        ensures goes_on { IfOk result (λ token. IfNone token ((more : List ℕ) → IsSearchedBy (multiline_of self.now) max (bytes.now ++ more) searched.new)) }
+        ensures begins_anew { IfOk result (λ token. IfSome token (λ t. searched.new ≡ 0)) }
     {
         match self {
-            Splitter::Lines => Ok(next(max, bytes)),
-            Splitter::Several(cutter) => cutter.next(alloc, max, bytes),
+            Splitter::Lines => {
+                *searched = 0;
+                Ok(next(max, bytes))
+            }
+            Splitter::Several(cutter) => cutter.next_behind(alloc, max, bytes, searched),
         }
     }
 }

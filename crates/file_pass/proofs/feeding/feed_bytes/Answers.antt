@@ -22,7 +22,7 @@ returns-clause-fed c =
     let state : IsStateOfRow c.args.setup.now.pipeline.now row c.args.feeding.now.state = record { states = record { kinds = c.requires.states; told = refl }; records_are = refl; lines_are = refl } in
     let fed = rw (c.deref.ensures.value, c.as_str-path.ensures) at c.in_ok-count.ensures.fed in
     let used = rw c.deref.ensures.value at c.in_ok-count.ensures.used in
-    let takes = c.a_row_is_fed_by_the_rules.ensures.fed text bytes (poll_of c.args.setup.now) row c.args.feeding.now.state c.feed.new.state c.args.lines.now.items c.feed.new.out.items refl state fed in
+    let takes = c.a_row_is_fed_by_the_rules.ensures.fed text bytes (poll_of c.args.setup.now) row c.args.feeding.now.state c.feed_behind.new.state c.args.lines.now.items c.feed_behind.new.out.items refl state fed in
     same_row row (ap (λ (n : ℕ). c.args.feeding.now.offset + n) (used ∙ sym (c.a_row_is_fed_by_the_rules.ensures.used text bytes))) takes.state.records_are takes.state.lines_are (sym takes.state.states.told)
 
 pub returns-clause-lines : goal.returns-clause-lines
@@ -32,5 +32,11 @@ returns-clause-lines c =
     let row : Row = feeding_row c.args.feeding.now in
     let state : IsStateOfRow c.args.setup.now.pipeline.now row c.args.feeding.now.state = record { states = record { kinds = c.requires.states; told = refl }; records_are = refl; lines_are = refl } in
     let fed = rw (c.deref.ensures.value, c.as_str-path.ensures) at c.in_ok-count.ensures.fed in
-    let takes = c.a_row_is_fed_by_the_rules.ensures.fed text bytes (poll_of c.args.setup.now) row c.args.feeding.now.state c.feed.new.state c.args.lines.now.items c.feed.new.out.items refl state fed in
+    let takes = c.a_row_is_fed_by_the_rules.ensures.fed text bytes (poll_of c.args.setup.now) row c.args.feeding.now.state c.feed_behind.new.state c.args.lines.now.items c.feed_behind.new.out.items refl state fed in
     rw c.requires.none at takes.written
+
+pub feed_behind-requires-clause-searched : goal.feed_behind-requires-clause-searched
+feed_behind-requires-clause-searched c = rw c.deref.ensures.value c.requires.searched
+
+pub returns-clause-searched : goal.returns-clause-searched
+returns-clause-searched c = rw c.deref.ensures.value at c.in_ok-count.ensures.searched

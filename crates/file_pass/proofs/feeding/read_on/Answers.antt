@@ -1,8 +1,11 @@
-use Rattle.std.proofs.Common.{◌≡◌, ◌+◌, ◌-◌, ◌++◌, List, ℕ, [], IsTrue, length, take, refl, ap, subst, ◌∙◌, arith, length-append, length-drop}
+use Rattle.std.proofs.Common.{sym, ◌≡◌, ◌+◌, ◌-◌, ◌++◌, List, ℕ, [], IsTrue, length, take, refl, ap, subst, ◌∙◌, arith, length-append, length-drop}
 use Rattle.std.proofs.lemmas.List.{length-take-le}
 use Rattle.std.proofs.lemmas.Result.{err_from_is_err_and}
 use Rattle.std.specs.Prelude.{Err}
 use Rattle.op_kinds.specs.StateTexts.{state_text}
+use Rattle.pipeline.specs.Parts.{settings_of}
+use Rattle.pipeline.specs.Searched.{IsSearched}
+use Rattle.pipeline.proofs.Cutting.{nothing_searched}
 use Rattle.standing.specs.AreRules.{AreRules}
 use Rattle.standing.specs.Rows.{Row}
 use Rattle.standing.specs.Tokens.{used}
@@ -26,6 +29,8 @@ loop-from-init g c =
     let offset : ℕ = c.args.feeding.now.offset in
     record {
       reading = reading_begins (meanings trees disks) c.args.setup.now laws (feeding_at c.args.feeding.now c.args.end.now (moment c.args.tree.now c.args.disk.now)) good (omega (arith, c.requires.begins)) c.requires.none;
+      searched = λ more. subst (λ (n : ℕ). IsSearched (settings_of c.args.setup.now.pipeline.now) (c.args.feeding.now.carried.items ++ more) n) (sym c.requires.anew)
+          (nothing_searched (settings_of c.args.setup.now.pipeline.now) (c.args.feeding.now.carried.items ++ more));
       sane = c.requires.sane;
       offset = omega (arith, ap length c.requires.none);
       later = omega arith;
@@ -122,6 +127,7 @@ loop-from-preserved g c =
       reading = subst (λ (n : ℕ). IsReading (meanings trees disks) c.args.setup.now (c.loop-from.from + n) (feeding_at c.args.feeding.now c.args.end.now (moment c.args.tree.now c.args.disk.now)) now) count_is
           (reading_on (meanings trees disks) c.args.setup.now laws (feeding_at c.args.feeding.now c.args.end.now (moment c.args.tree.now c.args.disk.now)) (feeding_at c.loop-from.feeding c.loop-from.end (moment c.loop-from.tree c.loop-from.disk)) now c.loop-from.from c.last_of-last.result piece
           inv.keeps_disk.terms.tells good inv.reading (omega (arith, count_is, c.read_piece-count.ensures.within.1)) c.last_of-last.ensures read.world read.cause fed rest c.feed_carried.ensures.flushed appends);
+      searched = c.in_ok-feed_carried.ensures.searched;
       sane = c.in_ok-feed_carried.ensures.sane;
       offset = omega (arith, ap (λ (r : Row). r.offset) fed, ap length rest, length-drop (used rules bytes) bytes, laws.tokens.within bytes, length-append c.loop-from.feeding.carried.items piece, count_is, inv.offset);
       later = omega (arith, inv.later, appends.end_is);
@@ -131,3 +137,7 @@ loop-from-preserved g c =
       stood = c.in_ok-feed_carried.ensures.cause ∙ inv.stood;
       long = c.read_piece-count.ensures.long ∙ inv.long;
     }
+
+pub feed_carried-requires-clause-searched : goal.feed_carried-requires-clause-searched
+feed_carried-requires-clause-searched g c =
+    rw c.in_ok-extend_from_slice.ensures.items (c.loop-from.invariant.searched (take c.read_piece-count.result.0 c.read_piece-count.new.buffer))

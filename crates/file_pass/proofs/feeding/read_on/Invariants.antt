@@ -1,5 +1,7 @@
 use Rattle.std.proofs.Common.{◌≡◌, ◌≤◌, ◌+◌, ◌-◌, length, IsTrue}
 use Rattle.outside.specs.declared.disk.DiskFile.TheVariants.{Output}
+use Rattle.pipeline.specs.Parts.{settings_of}
+use Rattle.pipeline.specs.Searched.{StaysSearched}
 use Rattle.file_pass.specs.DiskTerms.{KeepsDisk}
 use Rattle.file_pass.specs.Fed.{IsReading, IsSane}
 use Rattle.file_pass.specs.Moment.{feeding_at, meanings, moment}
@@ -12,6 +14,7 @@ invariant-loop-from g l =
     let disks = g.D.Disk.meaning in
     record {
       reading : IsReading (meanings trees disks) l.setup l.from (feeding_at l.fn.feeding l.fn.end (moment l.fn.tree l.fn.disk)) (feeding_at l.feeding l.end (moment l.tree l.disk));
+      searched : StaysSearched (settings_of l.setup.pipeline.now) l.feeding.carried.items l.feeding.searched;
       sane : IsSane l.setup l.feeding l.end;
       offset : l.feeding.offset + length l.feeding.carried.items ≡ l.from;
       later : l.fn.end ≤ l.end;

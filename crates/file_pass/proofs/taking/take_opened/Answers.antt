@@ -23,6 +23,14 @@ returns-then-not-is_whole-clause-ok g c =
     front_unread (meanings g.T.Tree.meaning g.D.Disk.meaning) (poll_of c.args.setup.now) c.args.opened.now some (rows_at c.args.taking.now (moment c.args.tree.now c.args.disk.now)) c.read_front-ending.new.front _ c.read_front-ending.result.0 c.read_front-ending.result.1 c.read_front-ending.new.tree
     c.read_front-ending.ensures.tree c.read_front-ending.ensures.long many (c.is_whole.ensures.no c.if-not-is_whole.true) (omega (arith, many, c.read_front-ending.ensures.within))
 
+pub returns-then-not-is_whole-clause-tree : goal.returns-then-not-is_whole-clause-tree
+returns-then-not-is_whole-clause-tree g c =
+    let many : length c.read_front-ending.new.front ≡ min (rules_in c.args.setup.now).front_size c.args.opened.now.file.size = grind (arith, common_steps) in
+    let some : 0 < c.args.opened.now.file.size = omega arith in
+    let narrow : length c.read_front-ending.new.front ≤ BUFFER_SIZE = omega (arith, many, c.requires.setup.0.fingerprint_size_to) in
+    front_tree (meanings g.T.Tree.meaning g.D.Disk.meaning) (poll_of c.args.setup.now) c.args.opened.now some (rows_at c.args.taking.now (moment c.args.tree.now c.args.disk.now)) c.read_front-ending.new.front _ c.read_front-ending.result.0 c.read_front-ending.result.1 c.read_front-ending.new.tree
+    c.read_front-ending.ensures.tree c.read_front-ending.ensures.long many BUFFER_SIZE (subst (λ n. n ≤ BUFFER_SIZE) c.read_front-ending.ensures.long narrow)
+
 pub returns-in_err-found-clause-full : goal.returns-in_err-found-clause-full
 returns-in_err-found-clause-full g c = λ size is.
     let many : length c.read_front-ending.new.front ≡ min (rules_in c.args.setup.now).front_size c.args.opened.now.file.size = grind (arith, common_steps) in

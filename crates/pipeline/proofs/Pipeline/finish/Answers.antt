@@ -2,6 +2,7 @@ use Rattle.std.proofs.Common.{arith, length-drop}
 use Rattle.std.proofs.lemmas.List.{take_rest}
 use Rattle.pipeline.specs.Origin.{origin_of}
 use Rattle.pipeline.specs.Parts.{settings_of, network}
+use Rattle.pipeline.proofs.Cutting.{nothing_searched}
 use Rattle.pipeline.proofs.Feeding.{GraphLaws, LineLaws, fed_then}
 use Rattle.pipeline.proofs.Texts.{on_ok}
 use Rattle.pipeline.proofs.Pipeline.finish.Goals as goal
@@ -33,3 +34,9 @@ feed_by-requires-clause-source c = (origin_of c.args.id c.args.path.now c.args.o
 
 pub feed_by-requires-2-clause-source : goal.feed_by-requires-2-clause-source
 feed_by-requires-2-clause-source c = (origin_of c.args.id c.args.path.now c.args.observed, c.in_ok-source.ensures)
+
+pub feed_by-requires-clause-searched : goal.feed_by-requires-clause-searched
+feed_by-requires-clause-searched c = nothing_searched (settings_of c.args.self.now) _
+
+pub feed_by-requires-2-clause-searched : goal.feed_by-requires-2-clause-searched
+feed_by-requires-2-clause-searched c = nothing_searched (settings_of c.args.self.now) _
