@@ -177,11 +177,14 @@ impl Groups {
     }
 }
 
-// Where the group of the source is. Sources are compared where their marks are the same.
+// Where the group of the source is. Sources are compared where their marks are the same, and where no group is open none is looked for.
 fn place_in(groups: &[OpenGroup], marks: &[u8], source: &Text) -> Option<usize>
     requires { marks.now ≡ marks_of (groups_seen groups.now) }
     ensures { IsFound source.now groups.now result }
 {
+    if groups.is_empty() {
+        return None;
+    }
     let mark = mark_of(source.as_str().as_bytes());
     let mut from = 0;
     'places: while let Some(step) = memchr(mark, &marks[from..]) {
