@@ -12,3 +12,4 @@ pub mod FollowLemmas
 pub mod FaultLemmas
 pub mod AdoptLemmas
 mod PartsLemmas
+pub mod AuditLemmas

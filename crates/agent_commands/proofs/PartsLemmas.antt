@@ -4,7 +4,7 @@ use Rattle.std.proofs.lemmas.Slice.Eq.{bytes_eq-Decides}
 use Rattle.std.specs.declared.alloc.Global.{Global}
 use Rattle.command_words.specs.Answers.{IsNoCommand}
 use Rattle.command_words.specs.Words.{texts}
-use Rattle.command_words.specs.declared.command.Command.TheVariants.{Once, Follow, Adopt, Committed}
+use Rattle.command_words.specs.declared.command.Command.TheVariants.{Once, Follow, Adopt, Audit, Committed}
 use Rattle.out_segments.specs.Segments.{Segments, segments}
 use Rattle.outside.specs.StreamMeaning.{SourceMeaning}
 use Rattle.agent_commands.specs.AgentEnds.{AgentEnds, Course, course}
@@ -39,13 +39,16 @@ is_a_command (first ∷ []) over none = absurd (cc)
 is_a_command (first ∷ command ∷ []) over none =
     let is = both (bytes_eq first (codes "segments")) (is_parts_command command) over in
     let alone : (word : List ℕ) → command ≡ word → command ∷ [] ≡ word ∷ [] = λ word same. ap (λ (w : List ℕ). w ∷ []) same in
-    elim (either ((bytes_eq command (codes "once") || bytes_eq command (codes "follow")) || bytes_eq command (codes "adopt")) (bytes_eq command (codes "committed")) is) [
-      | inl writes ↦ elim (either (bytes_eq command (codes "once") || bytes_eq command (codes "follow")) (bytes_eq command (codes "adopt")) writes) [
-        | inl polls ↦ elim (either (bytes_eq command (codes "once")) (bytes_eq command (codes "follow")) polls) [
-          | inl once ↦ none Once (alone (codes "once") ((bytes_eq-Decides command (codes "once")).0 once))
-          | inr follow ↦ none Follow (alone (codes "follow") ((bytes_eq-Decides command (codes "follow")).0 follow))
+    elim (either (((bytes_eq command (codes "once") || bytes_eq command (codes "follow")) || bytes_eq command (codes "adopt")) || bytes_eq command (codes "audit")) (bytes_eq command (codes "committed")) is) [
+      | inl others ↦ elim (either ((bytes_eq command (codes "once") || bytes_eq command (codes "follow")) || bytes_eq command (codes "adopt")) (bytes_eq command (codes "audit")) others) [
+        | inl writes ↦ elim (either (bytes_eq command (codes "once") || bytes_eq command (codes "follow")) (bytes_eq command (codes "adopt")) writes) [
+          | inl polls ↦ elim (either (bytes_eq command (codes "once")) (bytes_eq command (codes "follow")) polls) [
+            | inl once ↦ none Once (alone (codes "once") ((bytes_eq-Decides command (codes "once")).0 once))
+            | inr follow ↦ none Follow (alone (codes "follow") ((bytes_eq-Decides command (codes "follow")).0 follow))
+          ]
+          | inr adopt ↦ none Adopt (alone (codes "adopt") ((bytes_eq-Decides command (codes "adopt")).0 adopt))
         ]
-        | inr adopt ↦ none Adopt (alone (codes "adopt") ((bytes_eq-Decides command (codes "adopt")).0 adopt))
+        | inr audit ↦ none Audit (alone (codes "audit") ((bytes_eq-Decides command (codes "audit")).0 audit))
       ]
       | inr committed ↦ none Committed (alone (codes "committed") ((bytes_eq-Decides command (codes "committed")).0 committed))
     ]

@@ -9,8 +9,12 @@ use Rattle.outside.specs.Count.{HasOneCause, Rose}
 use Rattle.outside.specs.DiskMeaning.{DiskMeaning}
 use Rattle.outside.specs.Images.{Images}
 use Rattle.outside.specs.StreamMeaning.{SinkMeaning}
+use Rattle.outside.specs.TreeMeaning.{TreeMeaning}
 use Rattle.outside.specs.declared.disk.DiskFile.{DiskFile}
 use Rattle.outside.specs.declared.fault.Failed.{Failed}
+use Rattle.folder_audit.specs.Cause.{HasAuditCause}
+use Rattle.folder_audit.specs.declared.fault.AuditFault.{AuditFault}
+use Rattle.folder_audit.specs.declared.fault.AuditFault.TheVariants as auditing
 use Rattle.poll_core.specs.AdoptCause.{HasAdoptCause}
 use Rattle.poll_core.specs.OpenCause.{HasOpenCause}
 use Rattle.poll_core.specs.PollCause.{HasPollCause}
@@ -23,10 +27,12 @@ use Rattle.poll_core.specs.declared.poll_fault.PollFault.TheVariants as polling
 use Rattle.poll_core.specs.declared.session.Session.{Session}
 use Rattle.agent_commands.specs.Adopt as adopt
 use Rattle.agent_commands.specs.Adopt.{AdoptEnds}
+use Rattle.agent_commands.specs.Audit as audit
+use Rattle.agent_commands.specs.Audit.{AuditEnds, Audits}
 use Rattle.agent_commands.specs.Committed as committed
 use Rattle.agent_commands.specs.Committed.{CommittedEnds}
 use Rattle.agent_commands.specs.Control.{max_control}
-use Rattle.agent_commands.specs.Faults.{adopting_fault, opening_fault, polling_fault, reading_fault}
+use Rattle.agent_commands.specs.Faults.{adopting_fault, auditing_fault, opening_fault, polling_fault, reading_fault}
 use Rattle.agent_commands.specs.Follow as follow
 use Rattle.agent_commands.specs.Follow.{FollowEnds, Follows, Progress, StopsAt}
 use Rattle.agent_commands.specs.Moment.{Moment, Meanings, moment}
@@ -39,7 +45,7 @@ use Rattle.agent_commands.specs.Turn.{IsTurnStatus, Stops}
 use Rattle.agent_commands.specs.declared.control.Request.{Request}
 use Rattle.agent_commands.specs.declared.control.Request.TheVariants.{Poll, Quit, End, Faulty, Exhausted}
 use Rattle.agent_commands.specs.declared.fault.Fault.{Fault}
-use Rattle.agent_commands.specs.declared.fault.Fault.TheVariants.{Usage, Settings, Build, CheckpointBad, SettingsChanged, OutputShort, Disk, Control, Memory, OutputFull, ControlLine, Worn, ControlLong, NothingKept, Eras, Fingerprint, KeptSettings, KeptBuild}
+use Rattle.agent_commands.specs.declared.fault.Fault.TheVariants.{Usage, Settings, Build, CheckpointBad, SettingsChanged, OutputShort, Disk, Control, Memory, OutputFull, ControlLine, Worn, ControlLong, NothingKept, Eras, Fingerprint, KeptSettings, KeptBuild, Differs, FlushOn, Large}
 
 -- ---- faults
 
@@ -63,6 +69,9 @@ some_fault Eras = (λ is. omega (arith, is), λ is. omega (arith, is))
 some_fault (Fingerprint _ _) = (λ is. omega (arith, is), λ is. omega (arith, is))
 some_fault (KeptSettings _) = (λ is. omega (arith, is), λ is. omega (arith, is))
 some_fault (KeptBuild _) = (λ is. omega (arith, is), λ is. omega (arith, is))
+some_fault (Differs _ _) = (λ is. omega (arith, is), λ is. omega (arith, is))
+some_fault FlushOn = (λ is. omega (arith, is), λ is. omega (arith, is))
+some_fault (Large _) = (λ is. omega (arith, is), λ is. omega (arith, is))
 
 -- the disk's count, by the status
 abbrev pub HasCount : ℕ → ℕ → ℕ → Type 0
@@ -105,6 +114,18 @@ adopting_count T adopting.Eras before after same = stood 17 before after (λ is.
 adopting_count T (adopting.OutputFull _) before after same = stood 11 before after (λ is. omega (arith, is)) same
 adopting_count T (adopting.Worn _) before after same = stood 13 before after (λ is. omega (arith, is)) same
 adopting_count T adopting.Memory before after same = stood 10 before after (λ is. omega (arith, is)) same
+
+pub auditing_count : (T : Type 0) (fault : AuditFault) (before after : ℕ) → HasAuditCause {T = T} (Err fault) before after → HasCount (status_of (auditing_fault fault)) before after
+auditing_count T auditing.Disk before after rose = (λ _. rose, λ other. absurd (other refl))
+auditing_count T auditing.NothingKept before after same = stood 16 before after (λ is. omega (arith, is)) same
+auditing_count T (auditing.CheckpointBad _) before after same = stood 4 before after (λ is. omega (arith, is)) same
+auditing_count T (auditing.KeptSettings _) before after same = stood 19 before after (λ is. omega (arith, is)) same
+auditing_count T (auditing.KeptBuild _) before after same = stood 19 before after (λ is. omega (arith, is)) same
+auditing_count T (auditing.OutputShort _ _) before after same = stood 6 before after (λ is. omega (arith, is)) same
+auditing_count T auditing.FlushOn before after same = stood 21 before after (λ is. omega (arith, is)) same
+auditing_count T (auditing.Large _) before after same = stood 22 before after (λ is. omega (arith, is)) same
+auditing_count T (auditing.Differs _ _) before after same = stood 20 before after (λ is. omega (arith, is)) same
+auditing_count T auditing.Memory before after same = stood 10 before after (λ is. omega (arith, is)) same
 
 -- ---- polls
 
@@ -284,3 +305,29 @@ module _ {D : Type 0} (images : Images DiskFile D) (disk disk_after : D) (report
   adopt_not_long _ (adopt.no_memory done) long = omega (arith, long)
   adopt_not_long _ (adopt.not_read status not) long = let high = (opening_status not.fault).2 in omega (arith, high, not.is, long)
   adopt_not_long _ (adopt.not_adopted status not) long = (adopting_status not.fault).1 (sym not.is ∙ long)
+
+-- an audit's fault is no fault of words, nor of a control input
+auditing_status : (fault : AuditFault) → (status_of (auditing_fault fault) ≡ 2 → ⊥) × (status_of (auditing_fault fault) ≡ 15 → ⊥)
+auditing_status auditing.Disk = (λ is. omega (arith, is), λ is. omega (arith, is))
+auditing_status auditing.NothingKept = (λ is. omega (arith, is), λ is. omega (arith, is))
+auditing_status (auditing.CheckpointBad _) = (λ is. omega (arith, is), λ is. omega (arith, is))
+auditing_status (auditing.KeptSettings _) = (λ is. omega (arith, is), λ is. omega (arith, is))
+auditing_status (auditing.KeptBuild _) = (λ is. omega (arith, is), λ is. omega (arith, is))
+auditing_status (auditing.OutputShort _ _) = (λ is. omega (arith, is), λ is. omega (arith, is))
+auditing_status auditing.FlushOn = (λ is. omega (arith, is), λ is. omega (arith, is))
+auditing_status (auditing.Large _) = (λ is. omega (arith, is), λ is. omega (arith, is))
+auditing_status (auditing.Differs _ _) = (λ is. omega (arith, is), λ is. omega (arith, is))
+auditing_status auditing.Memory = (λ is. omega (arith, is), λ is. omega (arith, is))
+
+module _ {T D K : Type 0} (trees : TreeMeaning T) (disks : DiskMeaning D) (reports : SinkMeaning K) (run : Audits T D K) where
+  pub audit_status : (status : ℕ) → AuditEnds trees disks reports run status → IsCommandStatus status
+  audit_status _ (audit.tells done) = (inl refl, λ two. omega (arith, two))
+  audit_status _ (audit.failed done) = untold_status 9 (inl refl)
+  audit_status _ (audit.no_memory done) = untold_status 10 (inr refl)
+  audit_status _ (audit.not_audited status not) = of_fault status (auditing_fault not.fault) not.is (λ two. (auditing_status not.fault).0 (sym not.is ∙ two))
+
+  pub audit_not_long : (status : ℕ) → AuditEnds trees disks reports run status → status ≡ 15 → ⊥
+  audit_not_long _ (audit.tells done) long = omega (arith, long)
+  audit_not_long _ (audit.failed done) long = omega (arith, long)
+  audit_not_long _ (audit.no_memory done) long = omega (arith, long)
+  audit_not_long _ (audit.not_audited status not) long = (auditing_status not.fault).1 (sym not.is ∙ long)

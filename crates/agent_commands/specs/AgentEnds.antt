@@ -1,13 +1,14 @@
--- How the program ends over any disk: what `once`, `follow`, `adopt` and `committed` do, with which status and why, and what stands.
+-- How the program ends over any disk: what `once`, `follow`, `adopt`, `audit` and `committed` do, with which status and why, and what stands.
 use Rattle.std.specs.Prelude.{◌≡◌, ◌≢◌, ℕ, List}
 use Rattle.command_words.specs.IsCommand.{IsCommand}
-use Rattle.command_words.specs.declared.command.Command.TheVariants.{Once, Follow, Adopt, Committed, Pipe}
+use Rattle.command_words.specs.declared.command.Command.TheVariants.{Once, Follow, Adopt, Audit, Committed, Pipe}
 use Rattle.outside.specs.Count.{Rose}
 use Rattle.outside.specs.Crash.{Passes}
 use Rattle.outside.specs.StreamMeaning.{SourceMeaning}
 use Rattle.outside.specs.World.{Told}
 use Rattle.slot_store.specs.OnlyRead.{OnlyRead}
 use Rattle.agent_commands.specs.Adopt.{AdoptEnds, AdoptPasses}
+use Rattle.agent_commands.specs.Audit.{AgreesWhereItStands, AuditEnds, audits}
 use Rattle.agent_commands.specs.Committed.{CommittedEnds}
 use Rattle.agent_commands.specs.Control.{max_control, TakesAtMost, TakesExactly}
 use Rattle.agent_commands.specs.Follow.{FollowEnds}
@@ -36,6 +37,9 @@ module _ {T D S K C : Type 0} (meanings : Meanings T D K C) (sources : SourceMea
     pub follow : IsCommand words Follow → FollowEnds meanings (sources.rest run.control) (sources.rest run.control_after) run.old run.new status
     pub adopt : IsCommand words Adopt → AdoptEnds meanings.disks.images run.old.disk run.new.disk (meanings.reports.written run.old.report) (meanings.reports.written run.new.report) status
     pub adopt_crash : IsCommand words Adopt → AdoptPasses meanings.disks.images run.old.disk run.new.disk
+    pub audit : IsCommand words Audit → AuditEnds meanings.trees meanings.disks meanings.reports (audits run.old.tree run.new.tree run.old.disk run.old.report run.new.report) status
+    pub audit_agrees : IsCommand words Audit → Told (AgreesWhereItStands meanings.disks.images run.old.disk status) (meanings.trees.world run.old.tree) (meanings.trees.world run.new.tree)
+    pub audit_only_read : IsCommand words Audit → OnlyRead meanings.disks run.old.disk run.new.disk
     pub committed : IsCommand words Committed → CommittedEnds meanings.disks meanings.reports run.old.disk run.old.report run.new.report status
     pub only_read : IsCommand words Committed → OnlyRead meanings.disks run.old.disk run.new.disk
     -- What stands for the files, stands: whatever others do to them meanwhile, and wherever the command is stopped.
@@ -51,5 +55,5 @@ module _ {T D S K C : Type 0} (meanings : Meanings T D K C) (sources : SourceMea
     pub control_taken : Told (TakesAtMost max_control) (sources.rest run.control) (sources.rest run.control_after)
     -- only what a command is for is touched
     pub control_untouched : (IsCommand words Follow → ⊥) → (IsCommand words Pipe → ⊥) → run.control_after ≡ run.control
-    pub tree_untouched : (IsCommand words Once → ⊥) → (IsCommand words Follow → ⊥) → run.new.tree ≡ run.old.tree
+    pub tree_untouched : (IsCommand words Once → ⊥) → (IsCommand words Follow → ⊥) → (IsCommand words Audit → ⊥) → run.new.tree ≡ run.old.tree
     pub clock_untouched : (IsCommand words Once → ⊥) → (IsCommand words Follow → ⊥) → (IsCommand words Pipe → ⊥) → run.new.clock ≡ run.old.clock

@@ -16,6 +16,8 @@ pub mod Once
 pub mod Follow
 pub mod Committed
 pub mod AdoptedLine
+pub mod AuditedLine
+pub mod Audit
 pub mod Adopt
 pub mod Pipe
 pub mod OverParts

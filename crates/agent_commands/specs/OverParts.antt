@@ -3,7 +3,7 @@ use Rattle.std.specs.Prelude.{ℕ, List, [], ◌∷◌, codes, Bool, false, ◌&
 use Rattle.std.specs.Str.{bytes_eq}
 
 abbrev pub is_parts_command : List ℕ → Bool
-is_parts_command word = ((bytes_eq word (codes "once") || bytes_eq word (codes "follow")) || bytes_eq word (codes "adopt")) || bytes_eq word (codes "committed")
+is_parts_command word = (((bytes_eq word (codes "once") || bytes_eq word (codes "follow")) || bytes_eq word (codes "adopt")) || bytes_eq word (codes "audit")) || bytes_eq word (codes "committed")
 
 -- `segments` and one of them
 abbrev pub is_over_parts : List (List ℕ) → Bool

@@ -2,7 +2,7 @@
 use Rattle.std.specs.Prelude.{◌≡◌, ◌⊎◌, ℕ, List, ◌++◌, codes, decimal}
 use Rattle.agent_commands.specs.Refusal.{settings_words, build_words}
 use Rattle.agent_commands.specs.declared.fault.Fault.{Fault}
-use Rattle.agent_commands.specs.declared.fault.Fault.TheVariants.{Usage, Settings, Build, CheckpointBad, SettingsChanged, OutputShort, Disk, Control, Memory, OutputFull, ControlLine, Worn, ControlLong, NothingKept, Eras, Fingerprint, KeptSettings, KeptBuild}
+use Rattle.agent_commands.specs.declared.fault.Fault.TheVariants.{Usage, Settings, Build, CheckpointBad, SettingsChanged, OutputShort, Disk, Control, Memory, OutputFull, ControlLine, Worn, ControlLong, NothingKept, Eras, Fingerprint, KeptSettings, KeptBuild, Differs, FlushOn, Large}
 
 abbrev pub status_of : Fault → ℕ
 status_of Usage = 2
@@ -23,6 +23,9 @@ status_of Eras = 17
 status_of (Fingerprint _ _) = 18
 status_of (KeptSettings _) = 19
 status_of (KeptBuild _) = 19
+status_of (Differs _ _) = 20
+status_of FlushOn = 21
+status_of (Large _) = 22
 
 -- the line that reports a fault
 abbrev pub fault_line : Fault → List ℕ
@@ -44,6 +47,9 @@ fault_line Eras = codes "fault 17 eras\n"
 fault_line (Fingerprint kept found) = codes "fault 18 fingerprint " ++ decimal kept ++ codes " " ++ decimal found ++ codes "\n"
 fault_line (KeptSettings fault) = codes "fault 19 kept " ++ settings_words fault ++ codes "\n"
 fault_line (KeptBuild fault) = codes "fault 19 kept " ++ build_words fault ++ codes "\n"
+fault_line (Differs file line) = codes "fault 20 differs " ++ decimal file ++ codes " " ++ decimal line ++ codes "\n"
+fault_line FlushOn = codes "fault 21 flush-on\n"
+fault_line (Large length) = codes "fault 22 large " ++ decimal length ++ codes "\n"
 
 -- The statuses that there are: success, a fault's, and 9 where the report failed.
 abbrev pub IsStatus : ℕ → Type 0

@@ -9,6 +9,7 @@ ghost use Rattle.outside.specs.Image.{Same};
 ghost use Rattle.outside.specs.World.{Told};
 ghost use Rattle.slot_store.specs.OnlyRead.{OnlyRead};
 ghost use Rattle.agent_commands.specs.Adopt.{AdoptEnds, AdoptPasses};
+ghost use Rattle.agent_commands.specs.Audit.{AgreesWhereItStands, AuditEnds, audits};
 ghost use Rattle.agent_commands.specs.Committed.{CommittedEnds};
 ghost use Rattle.agent_commands.specs.Control.{max_control, TakesAtMost, TakesExactly};
 ghost use Rattle.agent_commands.specs.DemoEnds.{DemoEnds};
@@ -22,6 +23,7 @@ ghost use Rattle.agent_commands.specs.Status.{IsStatus};
 ghost use Rattle.agent_commands.specs.Words.{IsNotRun, IsWordsFault};
 
 use crate::adopt::adopt;
+use crate::audit::audit;
 use crate::committed::committed;
 use crate::demo::show_demo;
 use crate::fault::Fault;
@@ -64,6 +66,14 @@ pub fn run_agent<T: Tree, D: Disk, S: Source, K: Sink, C: Clock>(
         → AdoptEnds D.meaning.images disk.old disk.new (K.meaning.written report.old) (K.meaning.written report.new) result }
     ensures adopt_crash { IsCommand (texts words.now) Command.Adopt → AdoptPasses D.meaning.images disk.old disk.new }
 
+    // Whether the lines that are kept are those that the files give, and nothing is written. Where what is kept stands for what the
+    // files had, no file differs.
+    ensures audit { IsCommand (texts words.now) Command.Audit
+        → AuditEnds T.meaning D.meaning K.meaning (audits tree.old tree.new disk.old report.old report.new) result }
+    ensures audit_agrees { IsCommand (texts words.now) Command.Audit
+        → Told (AgreesWhereItStands D.meaning.images disk.old result) (T.meaning.world tree.old) (T.meaning.world tree.new) }
+    ensures audit_only_read { IsCommand (texts words.now) Command.Audit → OnlyRead D.meaning disk.old disk.new }
+
     // How much of the output is kept, and nothing is written.
     ensures committed { IsCommand (texts words.now) Command.Committed → CommittedEnds D.meaning K.meaning disk.old report.old report.new result }
     ensures only_read { IsCommand (texts words.now) Command.Committed → OnlyRead D.meaning disk.old disk.new }
@@ -100,7 +110,7 @@ pub fn run_agent<T: Tree, D: Disk, S: Source, K: Sink, C: Clock>(
 
     // Only what a command is for is touched.
     ensures control_untouched { (IsCommand (texts words.now) Command.Follow → ⊥) → (IsCommand (texts words.now) Command.Pipe → ⊥) → control.new ≡ control.old }
-    ensures tree_untouched { (IsCommand (texts words.now) Command.Once → ⊥) → (IsCommand (texts words.now) Command.Follow → ⊥) → tree.new ≡ tree.old }
+    ensures tree_untouched { (IsCommand (texts words.now) Command.Once → ⊥) → (IsCommand (texts words.now) Command.Follow → ⊥) → (IsCommand (texts words.now) Command.Audit → ⊥) → tree.new ≡ tree.old }
     ensures clock_untouched { (IsCommand (texts words.now) Command.Once → ⊥) → (IsCommand (texts words.now) Command.Follow → ⊥) → (IsCommand (texts words.now) Command.Pipe → ⊥) → clock.new ≡ clock.old }
 {
     words_spell_one_command();
@@ -143,6 +153,10 @@ fn run<T: Tree, D: Disk, S: Source, K: Sink, C: Clock>(
     ensures adopt { command ≡ Command.Adopt
         → AdoptEnds D.meaning.images disk.old disk.new (K.meaning.written report.old) (K.meaning.written report.new) result }
     ensures adopt_crash { command ≡ Command.Adopt → AdoptPasses D.meaning.images disk.old disk.new }
+    ensures audit { command ≡ Command.Audit → AuditEnds T.meaning D.meaning K.meaning (audits tree.old tree.new disk.old report.old report.new) result }
+    ensures audit_agrees { command ≡ Command.Audit
+        → Told (AgreesWhereItStands D.meaning.images disk.old result) (T.meaning.world tree.old) (T.meaning.world tree.new) }
+    ensures audit_only_read { command ≡ Command.Audit → OnlyRead D.meaning disk.old disk.new }
     ensures committed { command ≡ Command.Committed → CommittedEnds D.meaning K.meaning disk.old report.old report.new result }
     ensures only_read { command ≡ Command.Committed → OnlyRead D.meaning disk.old disk.new }
     ensures pipe { command ≡ Command.Pipe
@@ -160,13 +174,14 @@ fn run<T: Tree, D: Disk, S: Source, K: Sink, C: Clock>(
     ensures control_long { result ≡ 15 → Told (TakesExactly max_control) (S.meaning.rest control.old) (S.meaning.rest control.new) }
     ensures control_taken { Told (TakesAtMost max_control) (S.meaning.rest control.old) (S.meaning.rest control.new) }
     ensures control_untouched { command ≢ Command.Follow → command ≢ Command.Pipe → control.new ≡ control.old }
-    ensures tree_untouched { command ≢ Command.Once → command ≢ Command.Follow → tree.new ≡ tree.old }
+    ensures tree_untouched { command ≢ Command.Once → command ≢ Command.Follow → command ≢ Command.Audit → tree.new ≡ tree.old }
     ensures clock_untouched { command ≢ Command.Once → command ≢ Command.Follow → command ≢ Command.Pipe → clock.new ≡ clock.old }
 {
     match command {
         Command::Once => once(alloc, tree, disk, report, clock),
         Command::Follow => follow(alloc, tree, disk, control, report, clock),
         Command::Adopt => adopt(alloc, disk, report),
+        Command::Audit => audit(alloc, tree, disk, report),
         Command::Committed => committed(alloc, disk, report),
         Command::Pipe => pipe(alloc, disk, control, report, clock),
         Command::Demo(rounds) => show_demo(alloc, rounds, report),

@@ -2,12 +2,13 @@
 ghost use Rattle.std.specs.Prelude.{◌≡◌};
 
 use checkpoint_journal::JournalFault;
+use folder_audit::AuditFault;
 use pipeline::BuildFault;
 use poll_core::{AdoptFault, OpenFault, PollFault};
 use settings_text::SettingsFault;
 
 /// Why a command ends with a status other than 0, as it is told. What a command calls has faults of its own, by which their causes are
-/// said: [`OpenFault`], [`PollFault`], [`JournalFault`] and [`AdoptFault`].
+/// said: [`OpenFault`], [`PollFault`], [`JournalFault`], [`AdoptFault`] and [`AuditFault`].
 #[derive(Debug, Drop)]
 pub enum Fault {
     /// The words are no command.
@@ -37,16 +38,22 @@ pub enum Fault {
     Worn,
     /// As many bytes of the control input were taken as may be, and the command hasn't ended.
     ControlLong,
-    /// Nothing is kept, so that nothing is to be adopted.
+    /// Nothing is kept, so that nothing is to be adopted or audited.
     NothingKept,
     /// As many settings were in force one after another as may be.
     Eras,
     /// Files are known by `kept` bytes, and were to be known by `found`.
     Fingerprint { kept: u32, found: u32 },
-    /// The last settings that are kept can't be read.
+    /// Settings that are kept can't be read: the last ones where others are to be adopted, the first such ones in an audit.
     KeptSettings(SettingsFault),
     /// What they ask for can't be built.
     KeptBuild(BuildFault),
+    /// The file with this id, and the number of the first of its lines that isn't what the file gives.
+    Differs { file: u64, line: u64 },
+    /// Some of the settings flush what waits, so that lines depend on when a file was looked at.
+    FlushOn,
+    /// So many bytes of the output are kept, more than an audit reads.
+    Large { length: u64 },
 }
 
 impl Fault {
@@ -73,6 +80,9 @@ impl Fault {
             Fault::Eras => 17,
             Fault::Fingerprint { .. } => 18,
             Fault::KeptSettings(_) | Fault::KeptBuild(_) => 19,
+            Fault::Differs { .. } => 20,
+            Fault::FlushOn => 21,
+            Fault::Large { .. } => 22,
         }
     }
 }
@@ -145,6 +155,27 @@ impl From<AdoptFault> for Fault {
             AdoptFault::OutputFull { length } => Fault::OutputFull { length },
             AdoptFault::Worn { .. } => Fault::Worn,
             AdoptFault::Memory => Fault::Memory,
+        }
+    }
+}
+
+impl From<AuditFault> for Fault {
+    ghost use Rattle.agent_commands.specs.Faults.{auditing_fault};
+
+    ghost from_gives = { λ fault made. made ≡ auditing_fault fault };
+
+    fn from(fault: AuditFault) -> Self {
+        match fault {
+            AuditFault::Disk => Fault::Disk,
+            AuditFault::NothingKept => Fault::NothingKept,
+            AuditFault::CheckpointBad { at } => Fault::CheckpointBad { at },
+            AuditFault::KeptSettings(refused) => Fault::KeptSettings(refused),
+            AuditFault::KeptBuild(refused) => Fault::KeptBuild(refused),
+            AuditFault::OutputShort { kept, found } => Fault::OutputShort { kept, found },
+            AuditFault::FlushOn => Fault::FlushOn,
+            AuditFault::Large { length } => Fault::Large { length },
+            AuditFault::Differs { file, line } => Fault::Differs { file, line },
+            AuditFault::Memory => Fault::Memory,
         }
     }
 }

@@ -8,6 +8,7 @@
 
 mod adopt;
 mod agent;
+mod audit;
 mod committed;
 mod control;
 mod demo;

@@ -3,6 +3,7 @@ ghost use Rattle.std.specs.Prelude.{◌≡◌, ◌++◌, codes, decimal, OnOk, I
 ghost use Rattle.outside.specs.Count.{HasCause};
 ghost use Rattle.outside.specs.World.{Told};
 ghost use Rattle.agent_commands.specs.AdoptedLine.{adopted_line};
+ghost use Rattle.agent_commands.specs.AuditedLine.{audited_line};
 ghost use Rattle.agent_commands.specs.Committed.{length_line};
 ghost use Rattle.agent_commands.specs.DemoLine.{demo_line};
 ghost use Rattle.agent_commands.specs.Refusal.{settings_words, build_words, cause_words, graph_words};
@@ -12,6 +13,7 @@ ghost use Rattle.agent_commands.specs.SummaryLine.{summary_line};
 
 use crate::fault::Fault;
 use demo_run::Demo;
+use folder_audit::Audited;
 use graph_core::GraphFault;
 use op_kinds::OpCause;
 use outside::{CallFault, Sink};
@@ -67,6 +69,9 @@ fn line_of(alloc: Global, fault: &Fault) -> Result<String, AllocError>
         }
         Fault::KeptSettings(refused) => kept_settings_line(alloc, refused),
         Fault::KeptBuild(refused) => kept_build_line(alloc, refused),
+        Fault::Differs { file, line } => format!(in alloc; "fault 20 differs {file} {line}\n"),
+        Fault::FlushOn => String::from_str(alloc, "fault 21 flush-on\n"),
+        Fault::Large { length } => format!(in alloc; "fault 22 large {length}\n"),
     }
 }
 
@@ -261,6 +266,33 @@ fn line_of_adopted(alloc: Global, adopted: &Adopted) -> Result<String, AllocErro
     push_field(&mut line, " lines=", adopted.lines)?;
     push_field(&mut line, " eras=", u64::from(adopted.eras))?;
     push_field(&mut line, " output=", adopted.output)?;
+    line.push_str("\n")?;
+    Ok(line)
+}
+
+/// Reports what an audit tells by its line.
+pub fn report_audited<K: Sink>(
+    alloc: Global,
+    audited: &Audited,
+    report: &mut K,
+) -> Result<(), CallFault>
+    ensures ok { OnOk result (Told (Appends (audited_line audited.now)) (K.meaning.written report.old) (K.meaning.written report.new)) }
+    ensures part { Told (GrowsByPart (audited_line audited.now)) (K.meaning.written report.old) (K.meaning.written report.new) }
+    ensures cause { HasCause result (K.meaning.faults report.old) (K.meaning.faults report.new) }
+{
+    let line = line_of_audited(alloc, audited)?;
+    report_line(alloc, line.as_str(), report)
+}
+
+// The line has its LF.
+#[tactic(auto, unfolding(crate::specs::AuditedLine::audited_line))]
+fn line_of_audited(alloc: Global, audited: &Audited) -> Result<String, AllocError>
+    ensures { IfOk result (λ line. string_bytes line ≡ audited_line audited.now) }
+{
+    let mut line = String::new(alloc);
+    push_field(&mut line, "audit rows=", u64::from(audited.rows))?;
+    push_field(&mut line, " absent=", u64::from(audited.absent))?;
+    push_field(&mut line, " lines=", audited.lines)?;
     line.push_str("\n")?;
     Ok(line)
 }

@@ -26,7 +26,7 @@ use std::marker::Brand;
 const PART_SIZE: u64 = 16_777_216;
 
 /// Runs the command that the words behind `segments` are, over an output in Parts of 16,777,216 bytes, and answers the exit
-/// status and the Parts. The commands are `once`, `follow`, `adopt` and `committed`.
+/// status and the Parts. The commands are `once`, `follow`, `adopt`, `audit` and `committed`.
 ///
 /// The other arguments are those of [`run_agent`], of which this is a run over the Parts, joined.
 pub fn run_segmented<T: Tree, P: Parts, S: Source, K: Sink, C: Clock>(
@@ -71,7 +71,7 @@ fn are_over_parts(words: &[String]) -> bool
 fn is_parts_command(word: &str) -> bool
     ensures { result ≡ is_parts_command word.now }
 {
-    word == "once" || word == "follow" || word == "adopt" || word == "committed"
+    word == "once" || word == "follow" || word == "adopt" || word == "audit" || word == "committed"
 }
 
 // The run, since the moment that `M` remembers.

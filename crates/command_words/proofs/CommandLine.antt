@@ -77,6 +77,10 @@ pub adopt_enters : (rest : List Text) → Enters (codes "adopt") (plain_leaf (co
 unfolding walked
 adopt_enters rest = enters (codes "adopt") (plain_leaf (codes "adopt")) rest refl refl refl
 
+pub audit_enters : (rest : List Text) → Enters (codes "audit") (plain_leaf (codes "audit")) rest
+unfolding walked
+audit_enters rest = enters (codes "audit") (plain_leaf (codes "audit")) rest refl refl refl
+
 pub committed_enters : (rest : List Text) → Enters (codes "committed") (plain_leaf (codes "committed")) rest
 unfolding walked
 committed_enters rest = enters (codes "committed") (plain_leaf (codes "committed")) rest refl refl refl

@@ -1,5 +1,5 @@
 -- Which commands words spell.
-use Rattle.std.proofs.Common.{◌≡◌, ◌≤◌, ℕ, List, [], Option, Some, None, true, false, refl, ap, sym, ◌∙◌, arith, get_or, true≢false}
+use Rattle.std.proofs.Common.{◌≡◌, ◌≤◌, ◌+◌, ℕ, List, [], Option, Some, None, true, false, refl, ap, sym, ◌∙◌, arith, get_or, true≢false}
 use Rattle.std.specs.List.{list_any}
 use Rattle.std.specs.Str.Parse.{starts_with_minus}
 use Rattle.std.specs.Fmt.{decimal}
@@ -8,24 +8,26 @@ use Rattle.std.proofs.lemmas.Bool.{ne_eqb}
 use Rattle.command_words.specs.IsCommand.{IsCommand}
 use Rattle.command_words.specs.Answers.{Answers, IsNoCommand}
 use Rattle.command_words.specs.declared.command.Command.{Command}
-use Rattle.command_words.specs.declared.command.Command.TheVariants.{Once, Follow, Adopt, Committed, Pipe, Demo}
+use Rattle.command_words.specs.declared.command.Command.TheVariants.{Once, Follow, Adopt, Audit, Committed, Pipe, Demo}
 
--- the first letter of the first word, which tells the commands apart
+-- the sum of the first two letters of the first word, which tells the commands apart
 abbrev pub letter : List (List ℕ) → ℕ
-letter words = get_or (get_or words 0 []) 0 0
+letter words = get_or (get_or words 0 []) 0 0 + get_or (get_or words 0 []) 1 0
 
 abbrev pub letter_of : Command → ℕ
-letter_of Once = 111
-letter_of Follow = 102
-letter_of Adopt = 97
-letter_of Committed = 99
-letter_of Pipe = 112
-letter_of (Demo rounds) = 100
+letter_of Once = 221
+letter_of Follow = 213
+letter_of Adopt = 197
+letter_of Audit = 214
+letter_of Committed = 210
+letter_of Pipe = 217
+letter_of (Demo rounds) = 201
 
 pub letter_is : (words : List (List ℕ)) (command : Command) → IsCommand words command → letter words ≡ letter_of command
 letter_is words Once spelled = ap letter spelled
 letter_is words Follow spelled = ap letter spelled
 letter_is words Adopt spelled = ap letter spelled
+letter_is words Audit spelled = ap letter spelled
 letter_is words Committed spelled = ap letter spelled
 letter_is words Pipe spelled = ap letter spelled
 letter_is words (Demo rounds) spelled = ap letter spelled.2
@@ -41,36 +43,49 @@ one_command words a b p q = go a b p q (sym (letter_is words a p) ∙ letter_is 
     go Once Once p q same = refl
     go Once Follow p q same = absurd (omega (arith, same))
     go Once Adopt p q same = absurd (omega (arith, same))
+    go Once Audit p q same = absurd (omega (arith, same))
     go Once Committed p q same = absurd (omega (arith, same))
     go Once Pipe p q same = absurd (omega (arith, same))
     go Once (Demo n) p q same = absurd (omega (arith, same))
     go Follow Once p q same = absurd (omega (arith, same))
     go Follow Follow p q same = refl
     go Follow Adopt p q same = absurd (omega (arith, same))
+    go Follow Audit p q same = absurd (omega (arith, same))
     go Follow Committed p q same = absurd (omega (arith, same))
     go Follow Pipe p q same = absurd (omega (arith, same))
     go Follow (Demo n) p q same = absurd (omega (arith, same))
     go Adopt Once p q same = absurd (omega (arith, same))
     go Adopt Follow p q same = absurd (omega (arith, same))
     go Adopt Adopt p q same = refl
+    go Adopt Audit p q same = absurd (omega (arith, same))
     go Adopt Committed p q same = absurd (omega (arith, same))
     go Adopt Pipe p q same = absurd (omega (arith, same))
     go Adopt (Demo n) p q same = absurd (omega (arith, same))
+    go Audit Once p q same = absurd (omega (arith, same))
+    go Audit Follow p q same = absurd (omega (arith, same))
+    go Audit Adopt p q same = absurd (omega (arith, same))
+    go Audit Audit p q same = refl
+    go Audit Committed p q same = absurd (omega (arith, same))
+    go Audit Pipe p q same = absurd (omega (arith, same))
+    go Audit (Demo n) p q same = absurd (omega (arith, same))
     go Committed Once p q same = absurd (omega (arith, same))
     go Committed Follow p q same = absurd (omega (arith, same))
     go Committed Adopt p q same = absurd (omega (arith, same))
+    go Committed Audit p q same = absurd (omega (arith, same))
     go Committed Committed p q same = refl
     go Committed Pipe p q same = absurd (omega (arith, same))
     go Committed (Demo n) p q same = absurd (omega (arith, same))
     go Pipe Once p q same = absurd (omega (arith, same))
     go Pipe Follow p q same = absurd (omega (arith, same))
     go Pipe Adopt p q same = absurd (omega (arith, same))
+    go Pipe Audit p q same = absurd (omega (arith, same))
     go Pipe Committed p q same = absurd (omega (arith, same))
     go Pipe Pipe p q same = refl
     go Pipe (Demo n) p q same = absurd (omega (arith, same))
     go (Demo m) Once p q same = absurd (omega (arith, same))
     go (Demo m) Follow p q same = absurd (omega (arith, same))
     go (Demo m) Adopt p q same = absurd (omega (arith, same))
+    go (Demo m) Audit p q same = absurd (omega (arith, same))
     go (Demo m) Committed p q same = absurd (omega (arith, same))
     go (Demo m) Pipe p q same = absurd (omega (arith, same))
     go (Demo m) (Demo n) p q same =
@@ -93,6 +108,7 @@ plain_words : (words : List (List ℕ)) (command : Command) → IsCommand words 
 plain_words words Once spelled = rw spelled refl
 plain_words words Follow spelled = rw spelled refl
 plain_words words Adopt spelled = rw spelled refl
+plain_words words Audit spelled = rw spelled refl
 plain_words words Committed spelled = rw spelled refl
 plain_words words Pipe spelled = rw spelled refl
 plain_words words (Demo rounds) spelled = rw (spelled.2, plain_decimal rounds spelled.0 spelled.1) refl

@@ -22,4 +22,5 @@ program = with_subcommand
     (with_subcommand
     (with_subcommand
     (with_subcommand
-    (with_subcommand bare_program (new_shape (codes "once"))) (new_shape (codes "follow"))) (new_shape (codes "adopt"))) (new_shape (codes "committed"))) (new_shape (codes "pipe"))) demo.top
+    (with_subcommand
+    (with_subcommand bare_program (new_shape (codes "once"))) (new_shape (codes "follow"))) (new_shape (codes "adopt"))) (new_shape (codes "audit"))) (new_shape (codes "committed"))) (new_shape (codes "pipe"))) demo.top

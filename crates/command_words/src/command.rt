@@ -12,6 +12,8 @@ pub enum Command {
     Follow,
     /// `adopt`: lets the settings file follow the settings that are kept.
     Adopt,
+    /// `audit`: tells whether the lines that are kept are those that the files give.
+    Audit,
     /// `committed`: tells how much of the output is kept.
     Committed,
     /// `pipe`: prints the lines of the control input.

@@ -19,6 +19,7 @@ pub fn program<'a>(alloc: Global) -> Result<Command<'a>, AllocError>
         .subcommand(Command::new(alloc, "once"))?
         .subcommand(Command::new(alloc, "follow"))?
         .subcommand(Command::new(alloc, "adopt"))?
+        .subcommand(Command::new(alloc, "audit"))?
         .subcommand(Command::new(alloc, "committed"))?
         .subcommand(Command::new(alloc, "pipe"))?
         .subcommand(demo)

@@ -45,6 +45,7 @@ fn named(matches: &ArgMatches<'_>) -> Option<Command>
     ensures once { (rows : List Row) → subcommand_rows_of matches.now ≡ Some (codes "once", rows) → result ≡ Some Command.Once }
     ensures follow { (rows : List Row) → subcommand_rows_of matches.now ≡ Some (codes "follow", rows) → result ≡ Some Command.Follow }
     ensures adopt { (rows : List Row) → subcommand_rows_of matches.now ≡ Some (codes "adopt", rows) → result ≡ Some Command.Adopt }
+    ensures audit { (rows : List Row) → subcommand_rows_of matches.now ≡ Some (codes "audit", rows) → result ≡ Some Command.Audit }
     ensures committed { (rows : List Row) → subcommand_rows_of matches.now ≡ Some (codes "committed", rows) → result ≡ Some Command.Committed }
     ensures pipe { (rows : List Row) → subcommand_rows_of matches.now ≡ Some (codes "pipe", rows) → result ≡ Some Command.Pipe }
     ensures demo { (rows : List Row) (text : List ℕ) → subcommand_rows_of matches.now ≡ Some (codes "demo", rows)
@@ -55,6 +56,7 @@ fn named(matches: &ArgMatches<'_>) -> Option<Command>
         "once" => Some(Command::Once),
         "follow" => Some(Command::Follow),
         "adopt" => Some(Command::Adopt),
+        "audit" => Some(Command::Audit),
         "committed" => Some(Command::Committed),
         "pipe" => Some(Command::Pipe),
         "demo" => Some(Command::Demo(rounds_of(given.get_str(ROUNDS)?)?)),

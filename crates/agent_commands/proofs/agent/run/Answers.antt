@@ -1,8 +1,9 @@
 use Rattle.agent_commands.specs.Moment.{meanings}
 use Rattle.outside.proofs.Passing.{passes_none}
+use Rattle.agent_commands.proofs.AuditLemmas.{read_stands_later}
 use Rattle.agent_commands.proofs.DemoLemmas.{demo_status, demo_not_long}
 use Rattle.agent_commands.proofs.StandLemmas.{all_stands, same_stands}
-use Rattle.agent_commands.proofs.StatusLemmas.{adopt_not_long, adopt_status, committed_status, follow_status, once_not_long, once_status, pipe_status}
+use Rattle.agent_commands.proofs.StatusLemmas.{adopt_not_long, adopt_status, audit_not_long, audit_status, committed_status, follow_status, once_not_long, once_status, pipe_status}
 use Rattle.agent_commands.proofs.agent.run.Goals as goal
 
 -- ---- once
@@ -37,6 +38,20 @@ returns-in-Adopt-clause-control_long g c = λ is. absurd (adopt_not_long g.D.Dis
 
 pub returns-in-Adopt-clause-standing : goal.returns-in-Adopt-clause-standing
 returns-in-Adopt-clause-standing g c = all_stands g.D.Disk.meaning.images c.args.disk.now c.adopt.new.disk (g.T.Tree.meaning.world c.args.tree.now) c.adopt.ensures.standing
+
+-- ---- audit
+
+pub returns-in-Audit-clause-answers : goal.returns-in-Audit-clause-answers
+returns-in-Audit-clause-answers g c = (audit_status g.T.Tree.meaning g.D.Disk.meaning g.K.Sink.meaning _ _ c.audit.ensures.ends).0
+
+pub returns-in-Audit-clause-no_usage : goal.returns-in-Audit-clause-no_usage
+returns-in-Audit-clause-no_usage g c = (audit_status g.T.Tree.meaning g.D.Disk.meaning g.K.Sink.meaning _ _ c.audit.ensures.ends).1
+
+pub returns-in-Audit-clause-control_long : goal.returns-in-Audit-clause-control_long
+returns-in-Audit-clause-control_long g c = λ is. absurd (audit_not_long g.T.Tree.meaning g.D.Disk.meaning g.K.Sink.meaning _ _ c.audit.ensures.ends is)
+
+pub returns-in-Audit-clause-standing : goal.returns-in-Audit-clause-standing
+returns-in-Audit-clause-standing g c = read_stands_later g.D.Disk.meaning.images c.args.disk.now c.audit.new.disk (g.T.Tree.meaning.world c.args.tree.now) (g.T.Tree.meaning.world c.audit.new.tree) c.audit.ensures.later (λ from image early left. g.met.D.Disk.counts_now c.args.disk.now from image early left) c.audit.ensures.only_read.crash
 
 -- ---- committed
 

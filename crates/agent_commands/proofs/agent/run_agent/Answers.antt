@@ -1,13 +1,16 @@
 use Rattle.std.proofs.Common.{◌∙◌, ap, arith, refl}
-use Rattle.command_words.specs.declared.command.Command.TheVariants.{Once, Follow, Adopt, Committed, Pipe, Demo}
+use Rattle.command_words.specs.declared.command.Command.TheVariants.{Once, Follow, Adopt, Audit, Committed, Pipe, Demo}
 use Rattle.checkpoint_journal.specs.declared.fault.JournalFault.TheVariants as journal
+use Rattle.folder_audit.specs.declared.fault.AuditFault.TheVariants as auditing
 use Rattle.outside.proofs.Passing.{passes_none, passes_weaker}
 use Rattle.poll_core.specs.declared.fault.OpenFault.TheVariants as opening
 use Rattle.agent_commands.proofs.AdoptLemmas.{same_adopts}
+use Rattle.agent_commands.proofs.AuditLemmas.{agrees_unread}
 use Rattle.agent_commands.proofs.DemoLemmas.{wants_memory}
 use Rattle.agent_commands.proofs.GrowLemmas.{grows_more, grows_same}
 use Rattle.agent_commands.proofs.StandLemmas.{same_stands}
 use Rattle.agent_commands.specs.Adopt as adopt
+use Rattle.agent_commands.specs.Audit.{not_audited}
 use Rattle.agent_commands.specs.Committed.{unread}
 use Rattle.agent_commands.specs.DemoEnds.{unplayed}
 use Rattle.agent_commands.specs.Follow as follow
@@ -64,6 +67,16 @@ returns-in-Err-clause-adopt g c = λ is.
 
 pub returns-in-Err-clause-adopt_crash : goal.returns-in-Err-clause-adopt_crash
 returns-in-Err-clause-adopt_crash g c = λ _. same_adopts g.D.Disk.meaning.images c.args.disk.now c.args.disk.now (passes_none c.args.disk.now)
+
+pub returns-in-Err-clause-audit : goal.returns-in-Err-clause-audit
+returns-in-Err-clause-audit g c = λ is.
+    let memory = wants_memory _ c.in-Err.fault Audit c.in-Err.ensures.fault is in
+    not_audited _ (record { fault = auditing.Memory; is = c.refuse.ensures.status ∙ ap status_of memory; refused = λ _. tt; differs = λ file line same. (let never : auditing.Memory ≡ auditing.Differs file line = same in absurd (cc)); told = rw memory at c.refuse.ensures.told })
+
+pub returns-in-Err-clause-audit_agrees : goal.returns-in-Err-clause-audit_agrees
+returns-in-Err-clause-audit_agrees g c = λ is.
+    let memory = wants_memory _ c.in-Err.fault Audit c.in-Err.ensures.fault is in
+    agrees_unread g.D.Disk.meaning.images c.args.disk.now c.refuse.result (g.T.Tree.meaning.world c.args.tree.now) (c.refuse.ensures.status ∙ ap status_of memory)
 
 pub returns-in-Err-clause-committed : goal.returns-in-Err-clause-committed
 returns-in-Err-clause-committed g c = λ is.

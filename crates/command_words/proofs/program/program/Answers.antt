@@ -16,6 +16,7 @@ returns c =
     let once = one_more _ _ _ _ _ (c.in_ok-subcommand.ensures.shape c.new-3.ensures.local) c.bare_program.ensures c.new-3.ensures.app in
     let follow = one_more _ _ _ _ _ (c.in_ok-subcommand-2.ensures.shape c.new-4.ensures.local) once c.new-4.ensures.app in
     let adopt = one_more _ _ _ _ _ (c.in_ok-subcommand-3.ensures.shape c.new-5.ensures.local) follow c.new-5.ensures.app in
-    let committed = one_more _ _ _ _ _ (c.in_ok-subcommand-4.ensures.shape c.new-6.ensures.local) adopt c.new-6.ensures.app in
-    let pipe = one_more _ _ _ _ _ (c.in_ok-subcommand-5.ensures.shape c.new-7.ensures.local) committed c.new-7.ensures.app in
-    IfOk-weaker c.subcommand-6.result _ _ (λ new added. one_more _ _ new _ _ (added.shape local) pipe demo_is) c.subcommand-6.ensures
+    let audit = one_more _ _ _ _ _ (c.in_ok-subcommand-4.ensures.shape c.new-6.ensures.local) adopt c.new-6.ensures.app in
+    let committed = one_more _ _ _ _ _ (c.in_ok-subcommand-5.ensures.shape c.new-7.ensures.local) audit c.new-7.ensures.app in
+    let pipe = one_more _ _ _ _ _ (c.in_ok-subcommand-6.ensures.shape c.new-8.ensures.local) committed c.new-8.ensures.app in
+    IfOk-weaker c.subcommand-7.result _ _ (λ new added. one_more _ _ new _ _ (added.shape local) pipe demo_is) c.subcommand-7.ensures

@@ -24,6 +24,7 @@ returns-in-Ok c =
       once = λ rows e. c.named.ensures.once rows (entered ∙ e);
       follow = λ rows e. c.named.ensures.follow rows (entered ∙ e);
       adopt = λ rows e. c.named.ensures.adopt rows (entered ∙ e);
+      audit = λ rows e. c.named.ensures.audit rows (entered ∙ e);
       committed = λ rows e. c.named.ensures.committed rows (entered ∙ e);
       pipe = λ rows e. c.named.ensures.pipe rows (entered ∙ e);
       demo = λ rows text e given. c.named.ensures.demo rows text (entered ∙ e) given;

@@ -1,0 +1,12 @@
+pub mod Agreeing
+pub mod Bounds
+pub mod Gathering
+pub mod Judging
+pub mod Keeping
+pub mod Moving
+pub mod Near
+pub mod Owning
+pub mod Piping
+pub mod Running
+pub mod Standing
+pub mod Taking

@@ -1,0 +1,11 @@
+pub mod CourseLemmas
+pub mod EraLemmas
+pub mod FindingLemmas
+pub mod HoldLemmas
+pub mod JudgeLemmas
+pub mod KeptLemmas
+pub mod MadeLemmas
+pub mod OpenLemmas
+pub mod ReadLemmas
+pub mod RowLemmas
+pub mod RuleLemmas

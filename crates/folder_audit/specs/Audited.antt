@@ -1,0 +1,47 @@
+-- What an audit answers.
+use Rattle.std.specs.Prelude.{ℕ, ◌≤◌, List, length, take}
+use Rattle.checkpoint_store.specs.Limits.{newest}
+use Rattle.checkpoint_store.specs.Rules.{IsCheckpoint}
+use Rattle.checkpoint_store.specs.declared.Checkpoint.{Checkpoint}
+use Rattle.folder_audit.specs.Findings.{AreFindings, AreFound}
+use Rattle.folder_audit.specs.KeptFiles.{AreFitRows}
+use Rattle.folder_audit.specs.Limits.{largest_kept}
+use Rattle.folder_audit.specs.Refusals.{Flush, IsWhole}
+use Rattle.folder_audit.specs.Tally.{IsLeastOther, IsTallied}
+use Rattle.folder_audit.specs.declared.audited.Audited.{Audited}
+use Rattle.folder_audit.specs.declared.findings.Finding.{Finding}
+use Rattle.outside.specs.Image.{Image}
+use Rattle.outside.specs.TreeMeaning.{TreeMeaning}
+use Rattle.outside.specs.World.{World, Told}
+use Rattle.outside.specs.declared.disk.DiskFile.{DiskFile}
+use Rattle.outside.specs.declared.disk.DiskFile.TheVariants.{Output}
+use Rattle.pipeline.specs.declared.Pipeline.{Pipeline}
+
+-- what was audited of an image, with what was found of each row
+pub record Course (image : Image DiskFile) : Type 0 where
+  pub checkpoint : Checkpoint
+  pub lawful : IsCheckpoint newest checkpoint
+  pub pipes : List Pipeline
+  pub last : Pipeline
+  pub whole : IsWhole image checkpoint pipes last
+  pub flush_off : Flush pipes → ⊥
+  pub small : checkpoint.output_length ≤ largest_kept
+  pub fit : AreFitRows (length pipes) checkpoint.rows
+  pub found : List Finding
+  pub are : AreFindings checkpoint.rows found
+
+-- all that was found holds
+abbrev pub Hold : {image : Image DiskFile} → Course image → World → World → Type 0
+Hold {image} course old new = AreFound course.pipes course.last (take course.checkpoint.output_length (image Output)) course.checkpoint.rows course.found old new
+
+-- No row differs, and so many are counted.
+pub record IsAudited {T : Type 0} (meaning : TreeMeaning T) (image : Image DiskFile) (audited : Audited) (old new : T) : Type 0 where
+  pub course : Course image
+  pub tallied : IsTallied course.checkpoint.rows course.found audited
+  pub hold : Told (Hold course) (meaning.world old) (meaning.world new)
+
+-- A row differs, and none with a lower id does.
+pub record IsDiffering {T : Type 0} (meaning : TreeMeaning T) (image : Image DiskFile) (id line : ℕ) (old new : T) : Type 0 where
+  pub course : Course image
+  pub least : IsLeastOther course.checkpoint.rows course.found id line
+  pub hold : Told (Hold course) (meaning.world old) (meaning.world new)

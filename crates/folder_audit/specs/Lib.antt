@@ -1,0 +1,13 @@
+pub mod Audited
+pub mod Cause
+pub mod Findings
+pub mod Judged
+pub mod KeptFiles
+pub mod KeptOf
+pub mod Limits
+pub mod Made
+pub mod Open
+pub mod ReadsRange
+pub mod Refusals
+pub mod Steps
+pub mod Tally

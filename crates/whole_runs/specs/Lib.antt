@@ -1,0 +1,4 @@
+pub mod Requests
+pub mod Serving
+pub mod TakesFirst
+pub mod Turns
