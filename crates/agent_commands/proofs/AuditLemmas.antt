@@ -1,5 +1,5 @@
 -- What an audit leaves, and that it agrees with what stands.
-use Rattle.std.proofs.Common.{◌≡◌, ℕ, List, Option, None, Some, IsTrue, take, length, refl, sym, subst, arith, inl, inr}
+use Rattle.std.proofs.Common.{◌≡◌, ◌≤◌, ℕ, List, Option, None, Some, IsTrue, take, length, refl, sym, subst, arith, inl, inr}
 use Rattle.std.proofs.lemmas.List.Elements.{All-weaker}
 use Rattle.checkpoint_journal.proofs.JournalLaws.{one_said}
 use Rattle.checkpoint_store.specs.declared.Checkpoint.{Checkpoint}

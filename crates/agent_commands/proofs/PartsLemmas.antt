@@ -1,5 +1,5 @@
 -- A run over an output in Parts, as a run of the program over the disk that they make.
-use Rattle.std.proofs.Common.{◌≡◌, ◌⊎◌, ◌∙◌, ℕ, List, [], ◌∷◌, Bool, true, false, ◌&&◌, ◌||◌, IsTrue, String, bytes_eq, codes, drop, ap, refl, subst, sym, inl, inr}
+use Rattle.std.proofs.Common.{◌≡◌, ◌⊎◌, ◌∙◌, ℕ, List, [], ◌∷◌, Bool, true, false, ◌&&◌, ◌||◌, IsTrue, String, bytes_eq, codes, drop, ap, refl, subst, inl, inr}
 use Rattle.std.proofs.lemmas.Slice.Eq.{bytes_eq-Decides}
 use Rattle.std.specs.declared.alloc.Global.{Global}
 use Rattle.command_words.specs.Answers.{IsNoCommand}
@@ -7,8 +7,8 @@ use Rattle.command_words.specs.Words.{texts}
 use Rattle.command_words.specs.declared.command.Command.TheVariants.{Once, Follow, Adopt, Audit, Committed}
 use Rattle.out_segments.specs.Segments.{Segments, segments}
 use Rattle.outside.specs.StreamMeaning.{SourceMeaning}
-use Rattle.agent_commands.specs.AgentEnds.{AgentEnds, Course, course}
-use Rattle.agent_commands.specs.Moment.{Moment, Meanings, moment}
+use Rattle.agent_commands.specs.AgentEnds.{AgentEnds, course}
+use Rattle.agent_commands.specs.Moment.{Meanings, moment}
 use Rattle.agent_commands.specs.OverParts.{IsOverParts, is_parts_command}
 
 pub made_segments : {P : Type 0} (files : Segments P) (parts given : P) (size wanted : ℕ) → files ≡ segments parts size → parts ≡ given → size ≡ wanted → files ≡ segments given wanted

@@ -324,7 +324,7 @@ module _ {T D K : Type 0} (trees : TreeMeaning T) (disks : DiskMeaning D) (repor
   audit_status _ (audit.tells done) = (inl refl, λ two. omega (arith, two))
   audit_status _ (audit.failed done) = untold_status 9 (inl refl)
   audit_status _ (audit.no_memory done) = untold_status 10 (inr refl)
-  audit_status _ (audit.not_audited status not) = of_fault status (auditing_fault not.fault) not.is (λ two. (auditing_status not.fault).0 (sym not.is ∙ two))
+  audit_status _ (audit.not_audited status not) = of_fault status (auditing_fault not.fault) not.is (auditing_status not.fault).0
 
   pub audit_not_long : (status : ℕ) → AuditEnds trees disks reports run status → status ≡ 15 → ⊥
   audit_not_long _ (audit.tells done) long = omega (arith, long)

@@ -1,7 +1,7 @@
 -- The command `audit`: whether the lines that are kept are those that the files give.
 use Rattle.std.specs.Prelude.{◌≡◌, ℕ, IsTrue}
 use Rattle.folder_audit.specs.Audited.{IsAudited, IsDiffering}
-use Rattle.folder_audit.specs.Refusals.{IsRefusal}
+use Rattle.folder_audit.specs.Refusals.{IsAuditRefusal}
 use Rattle.folder_audit.specs.declared.audited.Audited.{Audited}
 use Rattle.folder_audit.specs.declared.fault.AuditFault.{AuditFault}
 use Rattle.folder_audit.specs.declared.fault.AuditFault.TheVariants.{Differs}
@@ -50,7 +50,7 @@ module _ {T D K : Type 0} (trees : TreeMeaning T) (disks : DiskMeaning D) (repor
   pub record IsNotAudited (status : ℕ) : Type 0 where
     pub fault : AuditFault
     pub is : status ≡ status_of (auditing_fault fault)
-    pub refused : IsTrue (disks.images.tells run.disk) → IsRefusal (disks.images.seen run.disk) fault
+    pub refused : IsTrue (disks.images.tells run.disk) → IsAuditRefusal (disks.images.seen run.disk) fault
     pub differs : (file line : ℕ) → fault ≡ Differs file line → IsTrue (disks.images.tells run.disk)
         → IsDiffering trees (disks.images.seen run.disk) file line run.tree run.tree_after
     pub told : Told (GrowsByPart (fault_line (auditing_fault fault))) (reports.written run.report) (reports.written run.report_after)

@@ -1,4 +1,4 @@
-use Rattle.std.proofs.Common.{◌∙◌, ap, arith, refl}
+use Rattle.std.proofs.Common.{◌≡◌, ◌∙◌, ap, arith, refl}
 use Rattle.command_words.specs.declared.command.Command.TheVariants.{Once, Follow, Adopt, Audit, Committed, Pipe, Demo}
 use Rattle.checkpoint_journal.specs.declared.fault.JournalFault.TheVariants as journal
 use Rattle.folder_audit.specs.declared.fault.AuditFault.TheVariants as auditing
@@ -71,7 +71,7 @@ returns-in-Err-clause-adopt_crash g c = λ _. same_adopts g.D.Disk.meaning.image
 pub returns-in-Err-clause-audit : goal.returns-in-Err-clause-audit
 returns-in-Err-clause-audit g c = λ is.
     let memory = wants_memory _ c.in-Err.fault Audit c.in-Err.ensures.fault is in
-    not_audited _ (record { fault = auditing.Memory; is = c.refuse.ensures.status ∙ ap status_of memory; refused = λ _. tt; differs = λ file line same. (let never : auditing.Memory ≡ auditing.Differs file line = same in absurd (cc)); told = rw memory at c.refuse.ensures.told })
+    not_audited _ (record { fault = auditing.Memory; is = c.refuse.ensures.status ∙ ap status_of memory; refused = λ _. tt; differs = λ file line same. absurd (let never : auditing.Memory ≡ auditing.Differs file line = same in cc); told = rw memory at c.refuse.ensures.told })
 
 pub returns-in-Err-clause-audit_agrees : goal.returns-in-Err-clause-audit_agrees
 returns-in-Err-clause-audit_agrees g c = λ is.

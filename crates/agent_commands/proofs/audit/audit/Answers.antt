@@ -1,8 +1,8 @@
-use Rattle.std.proofs.Common.{◌≡◌, ℕ, refl, sym, ◌∙◌, ap, arith}
+use Rattle.std.proofs.Common.{ℕ, sym, ◌∙◌, ap}
+use Rattle.std.specs.Prelude.{Err}
 use Rattle.outside.proofs.Telling.{told_weaker}
-use Rattle.tree_walk.specs.Calls.{KeepsHandles}
 use Rattle.file_pass.specs.TreeTerms.{GoesLater}
-use Rattle.agent_commands.proofs.AuditLemmas.{agrees_by_fault, agrees_other}
+use Rattle.agent_commands.proofs.AuditLemmas.{agrees_by_fault}
 use Rattle.agent_commands.proofs.StatusLemmas.{auditing_count, some_fault}
 use Rattle.agent_commands.specs.Audit.{failed, no_memory, not_audited, tells}
 use Rattle.agent_commands.specs.Status.{status_of}
@@ -15,19 +15,19 @@ returns-in-Err-clause-ends g c = not_audited _ (record {
   fault = c.in-Err.fault;
   is = c.refuse.ensures.status ∙ ap status_of c.from.ensures;
   refused = c.in-Err.ensures.refused;
-  differs = λ file line same. c.in-Err.ensures.differs file line (ap _ same);
+  differs = λ file line same. c.in-Err.ensures.differs file line (ap Err same);
   told = rw c.from.ensures at c.refuse.ensures.told;
 })
 
 pub returns-in-Err-clause-agrees : goal.returns-in-Err-clause-agrees
 returns-in-Err-clause-agrees g c =
     let trees = g.T.Tree.meaning in
-    agrees_by_fault g.D.Disk.meaning.images c.no_row_that_stands_differs.ensures trees c.args.disk.now c.refuse.result c.in-Err.fault c.args.tree.now c.audit_folder.new.tree (c.refuse.ensures.status ∙ ap status_of c.from.ensures)
-    (told_weaker KeepsHandles GoesLater (trees.world c.args.tree.now) (trees.world c.audit_folder.new.tree) (λ x y k. k.later) c.audit_folder.ensures.tree.world)
-    (λ file line same. c.in-Err.ensures.differs file line (ap _ same))
+    agrees_by_fault g.D.Disk.meaning.images c.no_row_that_stands_differs.ensures trees c.args.disk.now c.refuse.result c.in-Err.fault c.args.tree.now c.audit.new.tree (c.refuse.ensures.status ∙ ap status_of c.from.ensures)
+    (told_weaker _ GoesLater (trees.world c.args.tree.now) (trees.world c.audit.new.tree) (λ x y k. k.later) c.audit.ensures.tree.world)
+    (λ file line same. c.in-Err.ensures.differs file line (ap Err same))
 
 pub returns-in-Err-clause-later : goal.returns-in-Err-clause-later
-returns-in-Err-clause-later g c = let trees = g.T.Tree.meaning in told_weaker KeepsHandles GoesLater (trees.world c.args.tree.now) (trees.world c.audit_folder.new.tree) (λ x y k. k.later) c.audit_folder.ensures.tree.world
+returns-in-Err-clause-later g c = let trees = g.T.Tree.meaning in told_weaker _ GoesLater (trees.world c.args.tree.now) (trees.world c.audit.new.tree) (λ x y k. k.later) c.audit.ensures.tree.world
 
 pub returns-in-Err-clause-disk_failed : goal.returns-in-Err-clause-disk_failed
 returns-in-Err-clause-disk_failed g c = λ is. (auditing_count ℕ c.in-Err.fault _ _ c.in-Err.ensures.cause).0 (sym (c.refuse.ensures.status ∙ ap status_of c.from.ensures) ∙ is)
@@ -49,5 +49,5 @@ returns-in-Ok-report_audited-clause-ends g c = tells (record { audited = c.in-Ok
 pub returns-in-Err-Failed-clause-ends : goal.returns-in-Err-Failed-clause-ends
 returns-in-Err-Failed-clause-ends g c = failed (record { audited = c.in-Ok.audited; has = c.in-Ok.ensures.audited; told = c.report_audited.ensures.part })
 
-pub returns-clause-ends : goal.returns-clause-ends
-returns-clause-ends g c = no_memory (record { audited = c.in-Ok.audited; has = c.in-Ok.ensures.audited; told = c.report_audited.ensures.part })
+pub returns-in-Err-Memory-clause-ends : goal.returns-in-Err-Memory-clause-ends
+returns-in-Err-Memory-clause-ends g c = no_memory (record { audited = c.in-Ok.audited; has = c.in-Ok.ensures.audited; told = c.report_audited.ensures.part })

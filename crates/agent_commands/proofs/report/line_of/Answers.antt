@@ -9,3 +9,6 @@ returns-in-OutputShort c = rw c.in-OutputShort.is (IfOk-weaker c.format-in-Outpu
 
 pub returns-in-Fingerprint : goal.returns-in-Fingerprint
 returns-in-Fingerprint c = rw c.in-Fingerprint.is (IfOk-weaker c.format-in-Fingerprint.result _ _ (λ line is. is ∙ ap (λ t. codes "fault 18 fingerprint " ++ t) (joined_tail (decimal c.in-Fingerprint.kept) (codes " ") (decimal c.in-Fingerprint.found) (codes "\n"))) c.format-in-Fingerprint.ensures.ok)
+
+pub returns-in-Differs : goal.returns-in-Differs
+returns-in-Differs c = rw c.in-Differs.is (IfOk-weaker c.format-in-Differs.result _ _ (λ line is. is ∙ ap (λ t. codes "fault 20 differs " ++ t) (joined_tail (decimal c.in-Differs.file) (codes " ") (decimal c.in-Differs.line) (codes "\n"))) c.format-in-Differs.ensures.ok)

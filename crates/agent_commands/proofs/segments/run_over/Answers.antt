@@ -1,4 +1,4 @@
-use Rattle.std.proofs.Common.{ℕ, ◌∙◌, ap, refl, sym}
+use Rattle.std.proofs.Common.{ℕ, ◌∙◌, ap, sym}
 use Rattle.command_words.specs.Words.{texts}
 use Rattle.out_segments.specs.Segments.{segments, segments_meaning}
 use Rattle.out_segments.specs.SegmentedMeaning.{parts_of, size_of}
