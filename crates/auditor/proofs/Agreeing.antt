@@ -14,7 +14,7 @@ use Rattle.standing.proofs.MarkLemmas.{numbered-append, untimed-append, untimed-
 use Rattle.standing.specs.Closed.{Made, entries_in, flags_in}
 use Rattle.standing.specs.Marks.{Mark, numbered, untimed}
 use Rattle.standing.specs.Times.{HaveTimes, IsNotBefore, NeverFall}
-use Rattle.auditor.specs.Compared.{mark_line, Continues, last_behind}
+use Rattle.auditor.specs.Inner.Compared.{mark_line, Continues, last_behind}
 use Rattle.auditor.specs.Verdicts.{Agree}
 
 -- ---- a line has one time

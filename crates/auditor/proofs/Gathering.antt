@@ -9,7 +9,7 @@ use Rattle.standing.specs.Closed.{Made}
 use Rattle.standing.specs.Rows.{Row}
 use Rattle.standing.specs.Rules.{Rules}
 use Rattle.auditor.specs.Asked.{asked_closed, asked_open, asked_from}
-use Rattle.auditor.specs.Whole.{IsWholeClosed, IsWholeOpen, AreWhole}
+use Rattle.auditor.specs.Inner.Whole.{IsWholeClosed, IsWholeOpen, AreWhole}
 
 -- ---- numbers never fall
 

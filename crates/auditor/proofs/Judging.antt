@@ -17,12 +17,12 @@ use Rattle.standing.specs.Rows.{Row}
 use Rattle.standing.specs.Rules.{Rules}
 use Rattle.standing.specs.Times.{HaveTimes, IsNotBefore, NeverFall, AreTimed}
 use Rattle.auditor.specs.Asked.{asked}
-use Rattle.auditor.specs.Compared.{mark_line}
+use Rattle.auditor.specs.Inner.Compared.{mark_line}
 use Rattle.auditor.specs.RowHolds.{RowHolds}
 use Rattle.auditor.specs.Verdicts.{Agree, IsFirstOther, IsSaid, IsVerdict}
 use Rattle.auditor.specs.declared.Verdict.{Verdict}
 use Rattle.auditor.specs.declared.Verdict.TheVariants.{Same, Differs}
-use Rattle.auditor.specs.Whole.{AreWhole}
+use Rattle.auditor.specs.Inner.Whole.{AreWhole}
 use Rattle.auditor.proofs.Standing.{AreRulesFrom, PartsAre, PartsFound, parts_are, parts_found}
 
 -- ---- the lines of a file are one list

@@ -19,7 +19,7 @@ use Rattle.standing.specs.Eras.{Eras, AreEras, last_era}
 use Rattle.standing.specs.Marks.{Mark, of_id, numbered, untimed}
 use Rattle.standing.specs.Rows.{Row, Checkpoint, IsRowAt}
 use Rattle.standing.specs.Stands.{LinesStand, CheckpointStands}
-use Rattle.auditor.specs.Compared.{mark_line}
+use Rattle.auditor.specs.Inner.Compared.{mark_line}
 use Rattle.auditor.specs.RowHolds.{AreErasFrom, RowHolds}
 use Rattle.auditor.proofs.Piping.{rules_from, last_line}
 

@@ -6,7 +6,7 @@ use Rattle.pipeline.specs.AsRules.{rules_of}
 use Rattle.pipeline.specs.declared.Pipeline.{Pipeline}
 use Rattle.standing.specs.Eras.{Eras, last_era}
 use Rattle.standing.specs.Rules.{Rules}
-use Rattle.auditor.specs.Compared.{mark_line}
+use Rattle.auditor.specs.Inner.Compared.{mark_line}
 use Rattle.auditor.specs.RowHolds.{AreErasFrom}
 use Rattle.auditor.proofs.Bounds.{UsesSome}
 use Rattle.auditor.proofs.Running.{tokens_use_some}

@@ -31,8 +31,8 @@ use Rattle.standing.specs.Rules.{Rules}
 use Rattle.standing.specs.Tokens.{texts, used_by}
 use Rattle.whole_runs.specs.Requests.{requests}
 use Rattle.auditor.specs.Asked.{cuts_before, tokens_between}
-use Rattle.auditor.specs.Taken.{cuts_taken, AreTaken}
-use Rattle.auditor.specs.Whole.{AreBetween, IsWholeClosed, IsWholeOpen}
+use Rattle.auditor.specs.Inner.Taken.{cuts_taken, AreTaken}
+use Rattle.auditor.specs.Inner.Whole.{AreBetween, IsWholeClosed, IsWholeOpen}
 use Rattle.auditor.specs.declared.tokens.Taken.{Taken}
 use Rattle.auditor.proofs.Bounds.{UsesSome, bound_here, bound_uses, bound_tokens}
 

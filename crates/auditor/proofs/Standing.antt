@@ -10,7 +10,7 @@ use Rattle.standing.specs.Rows.{Row}
 use Rattle.standing.specs.Rules.{Rules}
 use Rattle.standing.specs.Tokens.{UpTo}
 use Rattle.auditor.specs.Asked.{tokens_between, asked_closed, asked_from}
-use Rattle.auditor.specs.Whole.{IsWholeClosed, AreWhole}
+use Rattle.auditor.specs.Inner.Whole.{IsWholeClosed, AreWhole}
 use Rattle.auditor.proofs.Bounds.{UsesSome, bound_tokens}
 
 -- rules of a text

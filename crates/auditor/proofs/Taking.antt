@@ -12,7 +12,7 @@ use Rattle.pipeline.specs.NextToken.{IsFirstToken}
 use Rattle.pipeline.specs.Tokens.{first_cut_of}
 use Rattle.settings_text.specs.declared.settings.Settings.{Settings}
 use Rattle.auditor.specs.Asked.{cuts_before}
-use Rattle.auditor.specs.Taken.{IsFirstWithin, cuts_taken, AreTaken}
+use Rattle.auditor.specs.Inner.Taken.{IsFirstWithin, cuts_taken, AreTaken}
 use Rattle.auditor.specs.declared.tokens.Taken.{Taken}
 use Rattle.auditor.proofs.Bounds.{cut_fits, cut_passes}
 

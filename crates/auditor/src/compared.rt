@@ -1,6 +1,6 @@
 // What was gathered of a row against its kept lines.
 ghost use Rattle.std.specs.Prelude.{◌≡◌, ◌+◌, ◌≤◌, length, map, IfOk, MatchBool};
-ghost use Rattle.auditor.specs.Compared.{made_of, made_in, mark_line, IsNextTime, last_behind};
+ghost use Rattle.auditor.specs.Inner.Compared.{made_of, made_in, mark_line, IsNextTime, last_behind};
 ghost use Rattle.auditor.specs.Verdicts.{Agree};
 ghost use Rattle.standing.specs.Times.{IsNotBefore};
 

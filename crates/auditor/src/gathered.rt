@@ -1,9 +1,9 @@
 // All parts of a row.
 ghost use Rattle.std.specs.Prelude.{◌≡◌, ◌+◌, ◌<◌, ◌^◌, ℕ, List, [], ◌++◌, length, drop, map, IfOk, OnOk, MatchBool};
 ghost use Rattle.auditor.specs.Asked.{asked};
-ghost use Rattle.auditor.specs.Compared.{made_in};
+ghost use Rattle.auditor.specs.Inner.Compared.{made_in};
 ghost use Rattle.auditor.specs.KeepsOrder.{KeepsOrder};
-ghost use Rattle.auditor.specs.Whole.{AreWhole};
+ghost use Rattle.auditor.specs.Inner.Whole.{AreWhole};
 ghost use Rattle.pipeline.specs.AsRules.{rules_of};
 ghost use Rattle.standing.specs.Closed.{flagged};
 ghost use Rattle.standing.specs.Part.{first_point};

@@ -1,7 +1,7 @@
 // One part of a row.
 ghost use Rattle.std.specs.Prelude.{◌≡◌, ◌+◌, ◌-◌, ◌≤◌, ◌<◌, ◌^◌, ℕ, List, [], ◌++◌, length, drop, IfOk, MatchBool};
 ghost use Rattle.auditor.specs.Asked.{tokens_between};
-ghost use Rattle.auditor.specs.Whole.{AreBetween, IsWholeClosed, IsWholeOpen};
+ghost use Rattle.auditor.specs.Inner.Whole.{AreBetween, IsWholeClosed, IsWholeOpen};
 ghost use Rattle.checkpoint_store.specs.Rules.{NoneFalls, last_point};
 ghost use Rattle.graph_core.specs.Traces.{start_states, states_after, outputs};
 ghost use Rattle.op_kinds.specs.StateTexts.{state_text};

@@ -1,6 +1,6 @@
 // The tokens of a part.
 ghost use Rattle.std.specs.Prelude.{◌≡◌, ◌+◌, ◌<◌, ◌^◌, ℕ, List, ◌++◌, length, IfOk, OnOk};
-ghost use Rattle.auditor.specs.Taken.{IsNextWithin, AreTaken, cuts_taken};
+ghost use Rattle.auditor.specs.Inner.Taken.{IsNextWithin, AreTaken, cuts_taken};
 ghost use Rattle.field_paths.specs.MapOf.{members_seen};
 ghost use Rattle.pipeline.specs.Entries.{file_attributes, records_of, text_of};
 ghost use Rattle.pipeline.specs.Parts.{settings_of};

@@ -17,7 +17,7 @@ use Rattle.checkpoint_store.specs.Applied.{SpellsChange}
 use Rattle.checkpoint_store.specs.Decodes.{Decodes, Spells, SpellsNone}
 use Rattle.checkpoint_store.specs.declared.Checkpoint.{Checkpoint}
 use Rattle.checkpoint_journal.specs.JournalOf.{IsBadAt}
-use Rattle.checkpoint_journal.specs.Places.{FailsBehind, NoChangeAt, IsTold}
+use Rattle.checkpoint_journal.specs.Inner.Places.{FailsBehind, NoChangeAt, IsTold}
 use Rattle.checkpoint_journal.specs.Says.{AreChanges, one_change, FailsIn, in_first, in_later, Fails, in_record}
 use Rattle.checkpoint_journal.specs.declared.fault.JournalFault.{JournalFault}
 use Rattle.checkpoint_journal.specs.declared.fault.JournalFault.TheVariants as journal

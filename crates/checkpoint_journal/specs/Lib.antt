@@ -1,5 +1,5 @@
 pub mod Says
-pub mod Places
 pub mod JournalOf
 pub mod Written
 pub mod JournalCause
+pub mod Inner

@@ -5,7 +5,7 @@ ghost use Rattle.record_log.specs.LogOf.{log_size};
 ghost use Rattle.checkpoint_store.specs.Applied.{SpellsChange};
 ghost use Rattle.checkpoint_store.specs.Decodes.{Spells, SpellsNone};
 ghost use Rattle.checkpoint_store.specs.Rules.{IsVersion};
-ghost use Rattle.checkpoint_journal.specs.Places.{FailsBehind, NoChangeAt, IsTold};
+ghost use Rattle.checkpoint_journal.specs.Inner.Places.{FailsBehind, NoChangeAt, IsTold};
 ghost use Rattle.checkpoint_journal.specs.Says.{AreChanges, Says, Fails};
 
 use crate::fault::JournalFault;

@@ -6,7 +6,7 @@ use Rattle.std.proofs.Math.Seq.{take-append-add}
 use Rattle.std.specs.List.{after_first}
 use Rattle.std.specs.Prelude.{codes}
 use Rattle.json_text.specs.Leftmost.{Begins, IsLeftmostFault}
-use Rattle.container_parser.specs.Common.{IsCommon}
+use Rattle.container_parser.specs.Inner.Common.{IsCommon}
 use Rattle.container_parser.specs.CriLines.{Content, Said, IsContent, IsSaid, IsStream}
 use Rattle.container_parser.specs.Words.{is_space, Lacks}
 use Rattle.container_parser.proofs.Contents.{one_content}

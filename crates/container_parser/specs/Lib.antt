@@ -1,10 +1,10 @@
 pub mod Words
 pub mod Times
 pub mod Formats
-pub mod Common
 pub mod CriLines
 pub mod DockerLines
 pub mod Lines
 pub mod Pods
 pub mod Computed
 pub mod Told
+pub mod Inner

@@ -2,7 +2,7 @@
 ghost use Rattle.std.specs.Prelude.{◌≡◌, ◌++◌, ◌∷◌, ℕ, IfOk, IfErr};
 ghost use Rattle.json_text.specs.Leftmost.{IsLeftmostFault};
 ghost use Rattle.std.specs.List.{after_first};
-ghost use Rattle.container_parser.specs.Common.{IsCommon};
+ghost use Rattle.container_parser.specs.Inner.Common.{IsCommon};
 ghost use Rattle.container_parser.specs.CriLines.{IsStream, IsSaid};
 ghost use Rattle.container_parser.specs.Words.{is_space};
 

@@ -1,5 +1,5 @@
 pub mod Moves
 pub mod Script
 pub mod Steps
-pub mod Playing
 pub mod Shown
+pub mod Inner

@@ -1,7 +1,7 @@
 // The script, round by round.
 ghost use Rattle.std.specs.Prelude.{◌≡◌, ◌<◌, ◌≤◌, ◌+◌, ◌%◌, map, Some, IfOk, OnOk};
 ghost use Rattle.demo_run.specs.Moves.{move_of, poll, reopen, step, stop};
-ghost use Rattle.demo_run.specs.Playing.{IsPlaying};
+ghost use Rattle.demo_run.specs.Inner.Playing.{IsPlaying};
 ghost use Rattle.demo_run.specs.Script.{Played, line_of, log_name, log_of, played, rotated_name, script, with_file, with_line, with_move, with_other_name, with_round, with_stop};
 ghost use Rattle.mem_world.specs.WorldSteps.{event_of};
 

@@ -1,7 +1,7 @@
 -- How far a text goes along the words that are wanted.
 use Rattle.std.proofs.Common.{◌≡◌, ℕ, List, [], ◌∷◌, ◌∙◌, ap, sym, refl, subst, take, codes, max, Bool, true, false, not, cond, ◌⊎◌, inl, inr}
 use Rattle.expr_lang.specs.Begun.{takes, leaves, openings, joins, comparisons, constants, fixed_length_of}
-use Rattle.expr_lang.specs.BrokenWords.{is_text, is_int, is_path, text_length_of, int_length_of}
+use Rattle.expr_lang.specs.Inner.BrokenWords.{is_text, is_int, is_path, text_length_of, int_length_of}
 use Rattle.expr_lang.specs.declared.parser.Wanted.{Wanted}
 use Rattle.expr_lang.specs.declared.parser.Wanted.TheVariants as wanted
 use Rattle.expr_lang.specs.declared.token.Comparison.TheVariants.{Equal, NotEqual, Less, LessOrEqual, Greater, GreaterOrEqual, Contains, StartsWith, EndsWith, In}

@@ -6,7 +6,7 @@ use Rattle.expr_lang.specs.declared.token.Token.TheVariants as token
 use Rattle.expr_lang.specs.Grammar.{HavePatterns, leaf_of, constant_of}
 use Rattle.expr_lang.specs.Machine as m
 use Rattle.expr_lang.specs.Patterns.{is_pattern}
-use Rattle.expr_lang.specs.Reads.{Reads}
+use Rattle.expr_lang.specs.Inner.Reads.{Reads}
 use Rattle.expr_lang.specs.Row.{Placed, IsToken}
 use Rattle.expr_lang.specs.Tree.{Tree, constant, negation, matching}
 use Rattle.expr_lang.proofs.Reading.{Follows, reads_word}

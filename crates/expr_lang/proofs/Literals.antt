@@ -6,7 +6,7 @@ use Rattle.std.proofs.lemmas.Bool.{eqb-true, leb-true}
 use Rattle.std.proofs.lemmas.Bool.Decides.{nat_tests}
 use Rattle.std.proofs.lemmas.List.Sums.{take_while-cons}
 use Rattle.std.proofs.Math.Seq.{take-length}
-use Rattle.expr_lang.specs.BrokenWords.{is_text, is_int, quoted_length, text_length_of, fitting, int_length_of}
+use Rattle.expr_lang.specs.Inner.BrokenWords.{is_text, is_int, quoted_length, text_length_of, fitting, int_length_of}
 use Rattle.expr_lang.specs.declared.token.Token.{Token}
 use Rattle.expr_lang.specs.declared.token.Token.TheVariants as token
 use Rattle.expr_lang.specs.Longest.{common, IsSpelling, IsLongest}

@@ -1,7 +1,7 @@
 -- One turn of the loops that read numbers, paths and texts.
 use Rattle.std.proofs.Common.{◌≡◌, ℕ, ◌+◌, ◌-◌, ◌*◌, ◌<◌, ◌≤◌, Bool, true, false, cond, nat_eq, nat_le, List, [], ◌∷◌, ap, ◌∙◌, refl, length, drop, get_or, ◌⊎◌, inl, inr, add-one, arith, drop-cons}
 use Rattle.std.proofs.lemmas.List.{drop_all}
-use Rattle.expr_lang.specs.BrokenWords.{quoted_length, fitting}
+use Rattle.expr_lang.specs.Inner.BrokenWords.{quoted_length, fitting}
 use Rattle.expr_lang.specs.Longest.{common}
 use Rattle.expr_lang.specs.Words.{escaped}
 use Rattle.expr_lang.proofs.Longest.{common_none}

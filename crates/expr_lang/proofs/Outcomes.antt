@@ -13,7 +13,7 @@ use Rattle.expr_lang.specs.Grammar.{IsExpression, HavePatterns}
 use Rattle.expr_lang.specs.Longest.{common, IsLongest}
 use Rattle.expr_lang.specs.Machine as m
 use Rattle.expr_lang.specs.Outcome.{IsReadFault, IsNoExpression}
-use Rattle.expr_lang.specs.Reads.{Reads, IsParseFault, cut}
+use Rattle.expr_lang.specs.Inner.Reads.{Reads, IsParseFault, cut}
 use Rattle.expr_lang.specs.Row.{Placed, IsToken}
 use Rattle.expr_lang.specs.StepFault.{IsStepFault}
 use Rattle.expr_lang.specs.Tree.{Tree}

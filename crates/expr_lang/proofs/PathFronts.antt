@@ -10,7 +10,7 @@ use Rattle.field_paths.specs.declared.path.Root.{Root}
 use Rattle.field_paths.specs.declared.path.Root.TheVariants.{Body, Attributes, Resource}
 use Rattle.field_paths.specs.Place.{Place}
 use Rattle.field_paths.specs.PathText.{InARow, root_name, is_name_byte, is_quote as is_path_quote, is_escaped, WritesByte, WritesMember, IsPathText, BeginsPathText, IsFaultAt}
-use Rattle.expr_lang.specs.BrokenWords.{is_path}
+use Rattle.expr_lang.specs.Inner.BrokenWords.{is_path}
 use Rattle.expr_lang.specs.declared.lexer.Spot.{Spot}
 use Rattle.expr_lang.specs.declared.lexer.Spot.TheVariants as spot
 use Rattle.expr_lang.specs.declared.token.Token.{Token}

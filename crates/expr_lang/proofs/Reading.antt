@@ -13,7 +13,7 @@ use Rattle.expr_lang.proofs.Complete.{finishes}
 use Rattle.expr_lang.proofs.Lengths.{take_within}
 use Rattle.expr_lang.specs.Grammar.{IsExpression}
 use Rattle.expr_lang.specs.Machine as m
-use Rattle.expr_lang.specs.Reads.{Reads}
+use Rattle.expr_lang.specs.Inner.Reads.{Reads}
 use Rattle.expr_lang.specs.Row.{Placed, IsToken, IsRow, past_blanks}
 use Rattle.expr_lang.specs.Tree.{Tree}
 use Rattle.expr_lang.specs.Words.{is_blank}

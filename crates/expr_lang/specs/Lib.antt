@@ -1,10 +1,8 @@
 pub mod Begun
-pub mod BrokenWords
 pub mod Equality
 pub mod EvalOutcome
 pub mod Fault
 pub mod Grammar
-pub mod IsReadByDefault
 pub mod Kinds
 pub mod Meaning
 pub mod Longest
@@ -13,10 +11,10 @@ pub mod OperandOf
 pub mod Outcome
 pub mod PatternFault
 pub mod Patterns
-pub mod Reads
 pub mod Row
 pub mod StepFault
 pub mod TokenOf
 pub mod Tree
 pub mod TreeOf
 pub mod Words
+pub mod Inner

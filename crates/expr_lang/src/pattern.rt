@@ -1,7 +1,7 @@
 // Patterns of regular expressions, and what searches texts for them.
 ghost use Rattle.std.specs.Prelude.{◌≡◌, IfOk, IfSome};
 ghost use Rattle.regex.specs.Strings.{matcher_pattern, regex_pattern, regex_source};
-ghost use Rattle.expr_lang.specs.IsReadByDefault.{IsReadByDefault};
+ghost use Rattle.expr_lang.specs.Inner.IsReadByDefault.{IsReadByDefault};
 ghost use Rattle.expr_lang.specs.Patterns.{is_found};
 
 use crate::ExprReadFault;

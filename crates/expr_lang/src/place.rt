@@ -1,7 +1,7 @@
 // How far a text begins a word that can stand in its place.
 ghost use Rattle.std.specs.Prelude.{◌≡◌, ◌+◌, ◌≤◌, ◌<◌, ◌-◌, ◌*◌, ◌&&◌, true, false, cond, codes, drop, length, max, nat_le, if◌then◌else◌, Some, None, IfOk};
 ghost use Rattle.expr_lang.specs.Begun.{takes, takes_operand as is_for_operand, longest, leaves, openings, joins, comparisons as comparison_words, constants, roots, fixed_length_of};
-ghost use Rattle.expr_lang.specs.BrokenWords.{is_path, quoted_length as length_in_quotes, text_length_of, fitting, int_length_of};
+ghost use Rattle.expr_lang.specs.Inner.BrokenWords.{is_path, quoted_length as length_in_quotes, text_length_of, fitting, int_length_of};
 ghost use Rattle.expr_lang.specs.Longest.{common, IsSpelling, IsLongest};
 ghost use Rattle.expr_lang.specs.Words.{begins_path};
 

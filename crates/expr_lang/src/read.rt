@@ -1,7 +1,7 @@
 // Reading an expression out of its text.
 ghost use Rattle.std.specs.Prelude.{◌≡◌, IfOk, IfErr};
 ghost use Rattle.expr_lang.specs.Machine.{start};
-ghost use Rattle.expr_lang.specs.Reads.{Reads, IsParseFault, cut};
+ghost use Rattle.expr_lang.specs.Inner.Reads.{Reads, IsParseFault, cut};
 ghost use Rattle.expr_lang.specs.TreeOf.{tree};
 
 use crate::Expr;

@@ -15,7 +15,7 @@ use Rattle.entry_model.specs.Lawful.{KeysAscend}
 use Rattle.field_paths.specs.MapOf.{members_seen}
 use Rattle.field_paths.specs.Members.{member_at, with_member, without_member}
 use Rattle.field_paths.proofs.Entries.{member_at-seen, with_member-set, without_member-seen}
-use Rattle.field_ops.specs.Names.{without_members, AreDisjoint, AreNamedIn}
+use Rattle.field_ops.specs.Inner.Names.{without_members, AreDisjoint, AreNamedIn}
 use Rattle.field_ops.specs.Rows.{with_members}
 use Rattle.field_ops.proofs.Raised.{Put, one_put, stays_named, named_rest, named_first}
 

@@ -10,7 +10,7 @@ use Rattle.entry_model.specs.Datum.{Datum, null, Members, no_members, member}
 use Rattle.entry_model.specs.Lawful.{IsBehind, KeysAscend}
 use Rattle.field_paths.specs.Members.{member_at, with_member, without_member}
 use Rattle.field_paths.proofs.Members.{cmp, itself, same_or_not, member_there, member_elsewhere, put_twice, put_both, put_and_left}
-use Rattle.field_ops.specs.Names.{without_members, AreDisjoint, AreNamedIn}
+use Rattle.field_ops.specs.Inner.Names.{without_members, AreDisjoint, AreNamedIn}
 use Rattle.field_ops.specs.Rows.{with_members}
 
 -- ---- maps whose names ascend

@@ -1,6 +1,6 @@
 pub mod Faults
 pub mod Kept
-pub mod Names
 pub mod Outcome
 pub mod Roots
 pub mod Rows
+pub mod Inner

@@ -5,7 +5,7 @@ ghost use Rattle.entry_model.specs.Lawful.{KeysAscend};
 ghost use Rattle.entry_model.specs.LogRecord.{members_in};
 ghost use Rattle.field_paths.specs.MapOf.{members_seen, map_of};
 ghost use Rattle.field_paths.specs.Members.{member_at, with_member, without_member};
-ghost use Rattle.field_ops.specs.Names.{without_members, AreDisjoint, AreNamedIn};
+ghost use Rattle.field_ops.specs.Inner.Names.{without_members, AreDisjoint, AreNamedIn};
 ghost use Rattle.field_ops.specs.Outcome.{Outcome, where_found};
 ghost use Rattle.field_ops.specs.Rows.{with_members, raised_in, where_a_map};
 ghost use Rattle.field_ops.specs.declared.fault.FieldFault.TheVariants.{NotAMap, Memory};

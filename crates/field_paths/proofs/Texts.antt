@@ -8,7 +8,7 @@ use Rattle.std.specs.Str.{IsUtf8}
 use Rattle.std.specs.List.{list_all}
 use Rattle.field_paths.specs.declared.read.Phase.{Phase}
 use Rattle.field_paths.specs.declared.read.Phase.TheVariants as phase
-use Rattle.field_paths.specs.NameIsText.{NameIsText}
+use Rattle.field_paths.specs.Inner.NameIsText.{NameIsText}
 use Rattle.field_paths.specs.PathText.{InARow, root_name, is_name_byte, is_quote, WritesByte}
 use Rattle.field_paths.specs.Reader.{State, start, steps}
 use Rattle.field_paths.proofs.Seen.{SeenFrom, seen_all}

@@ -3,10 +3,10 @@ pub mod Change
 pub mod InOrder
 pub mod MapOf
 pub mod Members
-pub mod NameIsText
 pub mod PathText
 pub mod Place
 pub mod ReadFault
 pub mod Reader
 pub mod Relates
 pub mod ValueAt
+pub mod Inner

@@ -1,7 +1,7 @@
 // Reading a path out of its text.
 ghost use Rattle.std.specs.Prelude.{◌≡◌, IfOk, OnOk, IfErr, None, Some, cond};
 ghost use Rattle.std.specs.Str.{IsUtf8};
-ghost use Rattle.field_paths.specs.NameIsText.{NameIsText};
+ghost use Rattle.field_paths.specs.Inner.NameIsText.{NameIsText};
 ghost use Rattle.field_paths.specs.PathText.{IsPathText, is_name_byte as is_name, is_quote as is_quote_byte, is_escaped as is_escaped_byte, root_name};
 ghost use Rattle.field_paths.specs.ReadFault.{IsReadFault};
 ghost use Rattle.field_paths.specs.Reader.{state_of, step, begun, gone_on, opened, closed, entered, named, named_on, quoted, left, names_read};

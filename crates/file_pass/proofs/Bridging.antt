@@ -21,8 +21,8 @@ use Rattle.file_pass.specs.Flushed.{row_read, lines_read}
 use Rattle.file_pass.specs.Gain.{Gain, gain_of, one_if, with_taken}
 use Rattle.file_pass.specs.LookTaken.{IsGainOf, TakesLook, IsOpenAt, SeenTaken, look_at}
 use Rattle.file_pass.specs.Reads.{HasBytes, Reads, piece_of}
-use Rattle.file_pass.specs.RowTaken.{IsShorter, IsReadOn, RowTaken}
-use Rattle.file_pass.specs.Settled.{IsKnown, IsAdmitted, Settles, admitted}
+use Rattle.file_pass.specs.Inner.RowTaken.{IsShorter, IsReadOn, RowTaken}
+use Rattle.file_pass.specs.Inner.Settled.{IsKnown, IsAdmitted, Settles, admitted}
 use Rattle.file_pass.specs.Step.{Step, step}
 use Rattle.file_pass.specs.declared.ending.Ending.{Ending}
 use Rattle.file_pass.specs.declared.ending.Ending.TheVariants.{Whole, Failed, Shrunk}

@@ -18,7 +18,7 @@ use Rattle.file_pass.specs.Full.{Crosses, Overflow, line_of, lines_text}
 use Rattle.file_pass.specs.LookTaken.{look_at}
 use Rattle.file_pass.specs.Overflow.{RowFills, SeenFills}
 use Rattle.file_pass.specs.Seen.{progress_of}
-use Rattle.file_pass.specs.Settled.{IsKnown, Settles, admitted}
+use Rattle.file_pass.specs.Inner.Settled.{IsKnown, Settles, admitted}
 use Rattle.file_pass.specs.declared.ending.Ending.TheVariants.{Whole}
 use Rattle.file_pass.specs.declared.ending.OpenFile.{OpenFile}
 use Rattle.file_pass.specs.declared.ending.SeenFile.{SeenFile}

@@ -8,7 +8,7 @@ use Rattle.file_tracker.specs.Fronts.{begins, front_of}
 use Rattle.file_tracker.specs.Places.{place_of, with_front}
 use Rattle.file_tracker.specs.declared.row.Row.{Row}
 use Rattle.standing.proofs.PrefixLemmas.{begins-true}
-use Rattle.file_pass.specs.Settled.{IsKnown, Settles, admitted}
+use Rattle.file_pass.specs.Inner.Settled.{IsKnown, Settles, admitted}
 use Rattle.file_pass.specs.declared.ending.SeenFile.{SeenFile}
 use Rattle.file_pass.specs.declared.setup.Setup.{Setup}
 use Rattle.file_pass.proofs.Listing.{set_same}

@@ -10,7 +10,7 @@ use Rattle.file_tracker.specs.declared.row.Row.{Row}
 use Rattle.idle_flush.specs.declared.idle.Idle.{Idle}
 use Rattle.standing.specs.Rules.{Rules}
 use Rattle.file_pass.specs.Grown.{LosesNothing, Stays, HasGrown, IsNewOrGrown, IsSameButLook, FlagsGrowth}
-use Rattle.file_pass.specs.Looks.{idle_of, looks_in, IsLookedAt, FlagsLooks}
+use Rattle.file_pass.specs.Inner.Looks.{idle_of, looks_in, IsLookedAt, FlagsLooks}
 use Rattle.file_pass.specs.Unchanged.{HasChanged, IsNewOrChanged, KeepsUnchanged, FlagsChanges, HasNoFlag, HasFlagForEach}
 use Rattle.file_pass.specs.declared.taking.Taking.{Taking}
 use Rattle.file_pass.proofs.Listing.{get_set, set_twice, set_cases, set_others, push_cases, push_before, push_there}

@@ -27,7 +27,7 @@ use Rattle.file_pass.specs.LookTaken.{IsOpenAt, IsSeenAt, OpenTaken, SeenTaken, 
 use Rattle.file_pass.specs.Overflow.{OpenFills, SeenFills, PathFills}
 use Rattle.file_pass.specs.PathTaken.{PathTaken}
 use Rattle.file_pass.specs.Reads.{Reads, piece_at}
-use Rattle.file_pass.specs.Settled.{IsLeftOut}
+use Rattle.file_pass.specs.Inner.Settled.{IsLeftOut}
 use Rattle.file_pass.specs.Step.{Step, step}
 use Rattle.file_pass.specs.Turns.{looks_at, misses_path, finds_none}
 use Rattle.file_pass.specs.declared.ending.Ending.TheVariants.{Whole, Failed, Shrunk}

@@ -21,10 +21,10 @@ use Rattle.file_pass.specs.Full.{Crosses, lines_text, overflow}
 use Rattle.file_pass.specs.Gain.{failures}
 use Rattle.file_pass.specs.Grown.{LosesNothing, HasGrown}
 use Rattle.file_pass.specs.Moment.{Meanings, Moment, FeedingAt, RowsAt, feeding_at}
-use Rattle.file_pass.specs.Noted.{MayBeNoted, noted_row}
+use Rattle.file_pass.specs.Inner.Noted.{MayBeNoted, noted_row}
 use Rattle.file_pass.specs.Overflow.{RowFills}
 use Rattle.file_pass.specs.Reads.{Reads, piece_of}
-use Rattle.file_pass.specs.RowTaken.{RowTaken}
+use Rattle.file_pass.specs.Inner.RowTaken.{RowTaken}
 use Rattle.file_pass.specs.Sane.{IsSaneTaking}
 use Rattle.file_pass.specs.Taken.{Finds}
 use Rattle.file_pass.specs.TreeTerms.{HasEnding}

@@ -15,7 +15,7 @@ use Rattle.state_codec.specs.Rules.{IsShortText}
 use Rattle.file_pass.specs.Fed.{poll_of, rules_in}
 use Rattle.file_pass.specs.Full.{line_of, lines_text}
 use Rattle.file_pass.specs.Sane.{HasParts, IsSaneRow, FreshFits, AreSaneRows, IsSaneTaking}
-use Rattle.file_pass.specs.Settled.{IsKnown, IsAdmitted, Settles, admitted}
+use Rattle.file_pass.specs.Inner.Settled.{IsKnown, IsAdmitted, Settles, admitted}
 use Rattle.file_pass.specs.declared.ending.SeenFile.{SeenFile}
 use Rattle.file_pass.specs.declared.setup.Setup.{Setup}
 use Rattle.file_pass.proofs.Bridging.{start_within}

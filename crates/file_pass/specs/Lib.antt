@@ -13,13 +13,10 @@ pub mod Cost
 pub mod Sane
 pub mod Grown
 pub mod Unchanged
-pub mod Noted
-pub mod Looks
-pub mod Settled
 pub mod Taken
-pub mod RowTaken
 pub mod LookTaken
 pub mod Turns
 pub mod PathTaken
 pub mod AllTaken
 pub mod Overflow
+pub mod Inner

@@ -1,7 +1,7 @@
 // What was remembered of looks at files, against what is.
 ghost use Rattle.std.specs.Prelude.{◌≡◌, ◌≢◌, ◌⊎◌, ◌≤◌, length, map, false, true, IfOk};
 ghost use Rattle.file_pass.specs.Fed.{rules_in};
-ghost use Rattle.file_pass.specs.Looks.{FlagsLooks, idle_of, looks_in};
+ghost use Rattle.file_pass.specs.Inner.Looks.{FlagsLooks, idle_of, looks_in};
 
 use crate::setup::Setup;
 use file_tracker::{Row, Tracker};

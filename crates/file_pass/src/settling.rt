@@ -3,7 +3,7 @@ ghost use Rattle.std.specs.Prelude.{◌≡◌, ◌+◌, ◌<◌, ◌≤◌, ◌^
 ghost use Rattle.file_pass.specs.Fed.{rules_in};
 ghost use Rattle.file_pass.specs.Grown.{FlagsGrowth};
 ghost use Rattle.file_pass.specs.Sane.{FreshFits, IsSaneTaking};
-ghost use Rattle.file_pass.specs.Settled.{IsKnown, Settles, admitted};
+ghost use Rattle.file_pass.specs.Inner.Settled.{IsKnown, Settles, admitted};
 ghost use Rattle.file_pass.specs.Unchanged.{FlagsGrown};
 ghost use Rattle.file_tracker.specs.Limits.{row_limit};
 ghost use Rattle.file_tracker.specs.Places.{place_of};

@@ -21,7 +21,7 @@ use Rattle.folder_audit.specs.Audited.{Course, Hold, IsAudited, IsDiffering}
 use Rattle.folder_audit.specs.Findings.{AreFindings, AreFound, AreFoundAt, HasFound}
 use Rattle.folder_audit.specs.Judged.{IsFound, Judged, JudgedBytes, pipes_of}
 use Rattle.folder_audit.specs.KeptFiles.{AreFitRows, IsFit, texts_of}
-use Rattle.folder_audit.specs.KeptOf.{IsKept}
+use Rattle.folder_audit.specs.Inner.KeptOf.{IsKept}
 use Rattle.folder_audit.specs.Tally.{IsLeastOther, IsTallied}
 use Rattle.folder_audit.specs.declared.audited.Audited.{Audited}
 use Rattle.folder_audit.specs.declared.findings.Finding.{Finding}

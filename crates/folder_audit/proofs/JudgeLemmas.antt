@@ -29,7 +29,7 @@ use Rattle.tree_walk.specs.Calls.{KeepsHandles}
 use Rattle.folder_audit.specs.Judged.{IsReadAs, HasVerdict, JudgedBytes, TellsLines, pipes_of}
 use Rattle.folder_audit.specs.KeptFiles.{IsLast, texts_of}
 use Rattle.folder_audit.specs.Open.{BeginsAs, IsOpenAt, IsOpenFound, IsPlaced, IsRead, IsReadAt}
-use Rattle.folder_audit.specs.ReadsRange.{AreBytes, HasBytes}
+use Rattle.folder_audit.specs.Inner.ReadsRange.{AreBytes, HasBytes}
 use Rattle.folder_audit.specs.declared.findings.Finding.{Finding}
 use Rattle.folder_audit.specs.declared.findings.Finding.TheVariants.{Absent}
 use Rattle.folder_audit.specs.declared.judging.OpenFile.{OpenFile}

@@ -18,9 +18,9 @@ use Rattle.pipeline.specs.declared.Pipeline.{Pipeline}
 use Rattle.standing.specs.Rows.{KeepStates, Row}
 use Rattle.folder_audit.specs.Cause.{HasAuditCause, audit_journal}
 use Rattle.folder_audit.specs.KeptFiles.{AreFitRows, IsFit, IsLast, texts_of}
-use Rattle.folder_audit.specs.KeptOf.{IsKept}
+use Rattle.folder_audit.specs.Inner.KeptOf.{IsKept}
 use Rattle.folder_audit.specs.Refusals.{IsReady, IsRefusal, IsUnaudited, flush_on, foreign_state, kept_refused, large, no_reading, short_output}
-use Rattle.folder_audit.specs.Steps.{AreOperators, IsNoOutput, IsOutput, IsPastLimits, IsUnfit}
+use Rattle.folder_audit.specs.Inner.Steps.{AreOperators, IsNoOutput, IsOutput, IsPastLimits, IsUnfit}
 use Rattle.folder_audit.specs.declared.fault.AuditFault.{AuditFault}
 use Rattle.folder_audit.specs.declared.fault.AuditFault.TheVariants.{Disk, NothingKept, CheckpointBad, KeptSettings, KeptBuild, OutputShort, FlushOn, Large, Differs, Memory}
 use Rattle.folder_audit.specs.declared.kept.Kept.{Kept}

@@ -16,7 +16,7 @@ use Rattle.standing.proofs.MomentLemmas.{bytes_grow, later_none, later_then}
 use Rattle.standing.specs.Moments.{IsLater}
 use Rattle.tree_walk.specs.Calls.{KeepsHandles, Lasts}
 use Rattle.folder_audit.specs.Open.{GoesOn}
-use Rattle.folder_audit.specs.ReadsRange.{AreBytes, HasBytes, ReadsRange}
+use Rattle.folder_audit.specs.Inner.ReadsRange.{AreBytes, HasBytes, ReadsRange}
 use borrow.Rule.Slice.PartMut.{put_mid}
 
 -- ---- the tree goes on

@@ -3,11 +3,9 @@ pub mod Cause
 pub mod Findings
 pub mod Judged
 pub mod KeptFiles
-pub mod KeptOf
 pub mod Limits
 pub mod Made
 pub mod Open
-pub mod ReadsRange
 pub mod Refusals
-pub mod Steps
 pub mod Tally
+pub mod Inner

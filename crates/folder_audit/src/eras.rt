@@ -5,7 +5,7 @@ ghost use Rattle.checkpoint_store.specs.Rules.{IsCheckpoint};
 ghost use Rattle.folder_audit.specs.KeptFiles.{IsLast};
 ghost use Rattle.folder_audit.specs.Made.{ArePipesOf, IsMadeOf};
 ghost use Rattle.folder_audit.specs.Refusals.{Flush, IsFirstRefused, IsRefusedText};
-ghost use Rattle.folder_audit.specs.Steps.{AreOperators, IsUnfit};
+ghost use Rattle.folder_audit.specs.Inner.Steps.{AreOperators, IsUnfit};
 
 use crate::fault::AuditFault;
 use crate::rows::first_foreign;

@@ -5,10 +5,10 @@ ghost use Rattle.checkpoint_store.specs.Limits.{newest};
 ghost use Rattle.checkpoint_store.specs.Rules.{IsCheckpoint};
 ghost use Rattle.folder_audit.specs.Cause.{HasAuditCause};
 ghost use Rattle.folder_audit.specs.KeptFiles.{IsFit};
-ghost use Rattle.folder_audit.specs.KeptOf.{IsKept};
+ghost use Rattle.folder_audit.specs.Inner.KeptOf.{IsKept};
 ghost use Rattle.folder_audit.specs.Limits.{largest_kept};
 ghost use Rattle.folder_audit.specs.Refusals.{Flush, IsRefusal};
-ghost use Rattle.folder_audit.specs.Steps.{IsNoOutput, IsOutput, IsPastLimits, IsTooShort};
+ghost use Rattle.folder_audit.specs.Inner.Steps.{IsNoOutput, IsOutput, IsPastLimits, IsTooShort};
 ghost use Rattle.outside.specs.declared.disk.DiskFile.{DiskFile};
 ghost use Rattle.slot_store.specs.OnlyRead.{OnlyRead};
 

@@ -1,6 +1,6 @@
 // Reading an open file.
 ghost use Rattle.std.specs.Prelude.{◌≡◌, ◌+◌, ◌<◌, ◌^◌, length};
-ghost use Rattle.folder_audit.specs.ReadsRange.{ReadsRange};
+ghost use Rattle.folder_audit.specs.Inner.ReadsRange.{ReadsRange};
 
 use outside::{Failed, Handle, Tree};
 

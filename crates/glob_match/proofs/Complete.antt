@@ -14,7 +14,7 @@ use Rattle.glob_match.specs.declared.reader.Phase.TheVariants as phase
 use Rattle.glob_match.specs.CharacterSet.{spans_of}
 use Rattle.glob_match.specs.GlobText.{is_negation, is_class_character, is_special, is_plain_character, AreSigns, no_sign, sign, escaped_sign, IsClass, negated, listed, IsUnit, plain, escaped as escaped_unit, one, star, class, AreParts, last_part, next_part, in_part, AreComponents, last_component, next_component, single, any_of, IsGlobText}
 use Rattle.glob_match.specs.Pattern.{Pattern, is_component, component, components, last_components}
-use Rattle.glob_match.specs.Reader.{State, start, with_unit, begun_unit, slashed, in_name, in_part as read_in_part, classed, in_signs, in_opened, step, steps, pattern_read}
+use Rattle.glob_match.specs.Inner.Reader.{State, start, with_unit, begun_unit, slashed, in_name, in_part as read_in_part, classed, in_signs, in_opened, step, steps, pattern_read}
 use Rattle.glob_match.proofs.Sound.{run}
 
 -- a state in which a unit may follow

@@ -12,7 +12,7 @@ use Rattle.glob_match.specs.declared.reader.Phase.{Phase}
 use Rattle.glob_match.specs.declared.reader.Phase.TheVariants as phase
 use Rattle.glob_match.specs.GlobText.{AreSigns, IsUnit, AreParts, in_part, AreComponents, single, is_negation}
 use Rattle.glob_match.specs.Pattern.{Pattern, is_component, components as components_of}
-use Rattle.glob_match.specs.Reader.{State, with_unit, with_class, escaped}
+use Rattle.glob_match.specs.Inner.Reader.{State, with_unit, with_class, escaped}
 
 -- the text closes the component that is open, and brings those behind it
 pub record EndsName (is_absolute : Bool) (closed : List Component) (opened : List Piece) (text : List ℕ) (pattern : Pattern) : Type 0 where

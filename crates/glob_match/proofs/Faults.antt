@@ -14,7 +14,7 @@ use Rattle.glob_match.specs.declared.reader.Phase.TheVariants as phase
 use Rattle.glob_match.specs.GlobText.{IsGlobText}
 use Rattle.glob_match.specs.GlobFaults.{BeginsGlob, IsClosedAt, IsFaultAt}
 use Rattle.glob_match.specs.Pattern.{Pattern, is_component, is_dot, last_components}
-use Rattle.glob_match.specs.Reader.{State, start, with_unit, with_parts, with_class, with_sign, escaped, begun_unit, in_name, in_part, classed, in_signs, in_opened, step_from, step, steps, may_end, is_open, pattern_read}
+use Rattle.glob_match.specs.Inner.Reader.{State, start, with_unit, with_parts, with_class, with_sign, escaped, begun_unit, in_name, in_part, classed, in_signs, in_opened, step_from, step, steps, may_end, is_open, pattern_read}
 use Rattle.glob_match.proofs.Sound.{run, sound}
 use Rattle.glob_match.proofs.Complete.{complete}
 

@@ -11,8 +11,8 @@ use Rattle.glob_match.specs.declared.pattern.Unit.{Unit}
 use Rattle.glob_match.specs.declared.pattern.Unit.TheVariants.{Plain, Escaped, One, Star, Class}
 use Rattle.glob_match.specs.declared.pattern.Piece.TheVariants.{AnyOf}
 use Rattle.glob_match.specs.Fits.{InARow, FitsUnit, FitsUnits, FitsPiece}
-use Rattle.glob_match.specs.Leads.{Leads, IsMarked, between}
-use Rattle.glob_match.specs.TakesOne.{takes_one}
+use Rattle.glob_match.specs.Inner.Leads.{Leads, IsMarked, between}
+use Rattle.glob_match.specs.Inner.TakesOne.{takes_one}
 use Rattle.glob_match.proofs.Rows.{row_push, row_last, length-between, between-append, between-parts, between-same, between-one, between-all}
 
 -- only places are marked

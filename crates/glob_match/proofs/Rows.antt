@@ -4,7 +4,7 @@ use Rattle.std.proofs.Math.Seq.{take-append_seam, drop-append_seam, take-length,
 use Rattle.std.proofs.lemmas.Grind.{common_steps}
 use Rattle.std.proofs.lemmas.List.{append-nil, take-append-drop, length-take-le, drop-take}
 use Rattle.glob_match.specs.Fits.{InARow}
-use Rattle.glob_match.specs.Leads.{between}
+use Rattle.glob_match.specs.Inner.Leads.{between}
 
 module _ {A : Type 0} (Fits : A → List ℕ → Type 0) where
   pub row_push : (xs : List A) (x : A) (front back : List ℕ) → InARow Fits xs front → Fits x back → InARow Fits (xs ++ x ∷ []) (front ++ back)

@@ -10,8 +10,8 @@ use Rattle.glob_match.specs.declared.pattern.Unit.TheVariants.{Star}
 use Rattle.glob_match.specs.declared.pattern.Piece.{Piece}
 use Rattle.glob_match.specs.declared.pattern.Piece.TheVariants.{Single, AnyOf}
 use Rattle.glob_match.specs.Fits.{FitsPieces}
-use Rattle.glob_match.specs.FitsBoth.{FitsBoth, FitsFrom, FitsSome}
-use Rattle.glob_match.specs.TakesOne.{takes_one}
+use Rattle.glob_match.specs.Inner.FitsBoth.{FitsBoth, FitsFrom, FitsSome}
+use Rattle.glob_match.specs.Inner.TakesOne.{takes_one}
 use Rattle.glob_match.proofs.Marks.{one_fits, fits_one}
 
 pub long_unit : (unit : Unit) (units : List Unit) (pieces : List Piece) (text : List ℕ) → FitsBoth (unit ∷ units) pieces text ↔ FitsFrom unit units pieces text

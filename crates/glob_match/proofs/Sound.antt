@@ -16,7 +16,7 @@ use Rattle.glob_match.specs.declared.reader.Phase.TheVariants as phase
 use Rattle.glob_match.specs.CharacterSet.{spans_of}
 use Rattle.glob_match.specs.GlobText.{is_negation, is_class_character, is_plain_character, AreSigns, no_sign, sign, escaped_sign, IsClass, negated, listed, IsUnit, plain, escaped as escaped_unit, one, star, class, last_part, next_part, AreComponents, last_component, next_component, single, any_of, IsGlobText}
 use Rattle.glob_match.specs.Pattern.{Pattern, is_component, component, components, last_components}
-use Rattle.glob_match.specs.Reader.{State, start, with_unit, escaped, with_class, with_sign, with_part, with_parts, begun_unit, slashed, in_name, in_part as read_in_part, classed, in_signs, in_opened, step_from, step, steps, may_end, pattern_read}
+use Rattle.glob_match.specs.Inner.Reader.{State, start, with_unit, escaped, with_class, with_sign, with_part, with_parts, begun_unit, slashed, in_name, in_part as read_in_part, classed, in_signs, in_opened, step_from, step, steps, may_end, pattern_read}
 use Rattle.glob_match.proofs.Ends.{EndsName, EndsUnits, EndsSigns, EndsEscape, EndsOpened, AfterClass, EndsFrom, Ends, unit_in_name, unit_in_part, unit_more}
 
 -- whatever the step leads to, the goal follows from what brings that to its end

@@ -10,10 +10,10 @@ use Rattle.glob_match.specs.declared.pattern.Piece.{Piece}
 use Rattle.glob_match.specs.declared.pattern.Component.{Component}
 use Rattle.glob_match.specs.declared.pattern.Component.TheVariants.{Folders, Name}
 use Rattle.glob_match.specs.Fits.{FitsPieces}
-use Rattle.glob_match.specs.Front.{FitsUpTo, here, behind, IsFront, IsFoundFront, MayHold}
+use Rattle.glob_match.specs.Inner.Front.{FitsUpTo, here, behind, IsFront, IsFoundFront, MayHold}
 use Rattle.glob_match.specs.GlobMatch.{FitsNames, no_names, one_name, no_folder, one_folder}
 use Rattle.glob_match.specs.Path.{in_front, names}
-use Rattle.glob_match.specs.Walked.{names_left}
+use Rattle.glob_match.specs.Inner.Walked.{names_left}
 
 -- the first name and the others
 abbrev is_slash : ℕ → Bool

@@ -1,16 +1,11 @@
 pub mod CharacterSet
 pub mod Fits
-pub mod FitsBoth
 pub mod Folder
-pub mod Front
 pub mod GlobFaults
 pub mod GlobMatch
 pub mod GlobText
 pub mod Leading
-pub mod Leads
 pub mod Path
 pub mod Pattern
-pub mod Reader
 pub mod Start
-pub mod TakesOne
-pub mod Walked
+pub mod Inner

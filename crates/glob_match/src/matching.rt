@@ -2,8 +2,8 @@
 ghost use Rattle.std.specs.Prelude.{◌≡◌, ◌∷◌, ◌<◌, ◌↔◌, ⊤, IsTrue, length};
 ghost use Rattle.glob_match.specs.declared.pattern.Component.TheVariants.{Folders};
 ghost use Rattle.glob_match.specs.GlobMatch.{FitsNames, MatchesPath, ListsFolder, root};
-ghost use Rattle.glob_match.specs.Walked.{names_left};
-ghost use Rattle.glob_match.specs.Front.{IsFront, IsFoundFront, MayHold};
+ghost use Rattle.glob_match.specs.Inner.Walked.{names_left};
+ghost use Rattle.glob_match.specs.Inner.Front.{IsFront, IsFoundFront, MayHold};
 
 use crate::glob::Glob;
 use crate::name::fits_name;

@@ -3,8 +3,8 @@ ghost use Rattle.std.specs.Prelude.{◌≡◌, ◌+◌, ◌*◌, ◌≤◌, ◌<
 ghost use Rattle.std.specs.List.{list_any};
 ghost use Rattle.std.specs.Str.{chars};
 ghost use Rattle.glob_match.specs.Fits.{FitsPiece, FitsPieces, FitsUnit, FitsUnits};
-ghost use Rattle.glob_match.specs.Leads.{Leads, IsMarked};
-ghost use Rattle.glob_match.specs.TakesOne.{takes_one};
+ghost use Rattle.glob_match.specs.Inner.Leads.{Leads, IsMarked};
+ghost use Rattle.glob_match.specs.Inner.TakesOne.{takes_one};
 
 use crate::pattern::{Part, Piece, Unit};
 use crate::search::fits_long;

@@ -1,7 +1,7 @@
 // The names of a path, one by one.
 ghost use Rattle.std.specs.Prelude.{◌≡◌, ◌∷◌, ◌<◌, length};
 ghost use Rattle.glob_match.specs.Path.{is_name as is_a_name, is_path as is_a_path, names, is_absolute as begins_absolute, relative as without_slash};
-ghost use Rattle.glob_match.specs.Walked.{names_left};
+ghost use Rattle.glob_match.specs.Inner.Walked.{names_left};
 
 /// The first name of a path, and what is left behind it.
 pub(crate) fn split(path: &str) -> (&str, Option<&str>)

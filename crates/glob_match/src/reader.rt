@@ -3,7 +3,7 @@ ghost use Rattle.std.specs.Prelude.{◌≡◌, ◌∷◌, ◌++◌, ◌&&◌, []
 ghost use Rattle.glob_match.specs.declared.pattern.Piece.TheVariants.{Single};
 ghost use Rattle.glob_match.specs.declared.pattern.Unit.TheVariants.{Star};
 ghost use Rattle.glob_match.specs.Pattern.{component as component_of, is_component as is_proper, last_components, are_two_stars as are_stars, is_star as is_a_star, is_dot as is_a_dot};
-ghost use Rattle.glob_match.specs.Reader.{state_of, start, step, step_from, may_end as can_end, in_name, in_part, in_opened, in_signs, begun_unit, slashed, with_unit, with_sign, with_part, with_parts, classed, pattern_read, is_open as has_open};
+ghost use Rattle.glob_match.specs.Inner.Reader.{state_of, start, step, step_from, may_end as can_end, in_name, in_part, in_opened, in_signs, begun_unit, slashed, with_unit, with_sign, with_part, with_parts, classed, pattern_read, is_open as has_open};
 
 use crate::class::spans_of;
 use crate::glob::Glob;
@@ -46,7 +46,7 @@ pub struct Reader {
     pub(crate) signs: Vec<Sign>,
 }
 
-#[tactic(auto, unfolding(crate::specs::Reader::begun_unit, crate::specs::Reader::slashed, crate::specs::Reader::in_name, crate::specs::Reader::in_part, crate::specs::Reader::in_signs, crate::specs::Reader::classed, crate::specs::Reader::in_opened, crate::specs::Reader::pattern_read))]
+#[tactic(auto, unfolding(crate::specs::Inner::Reader::begun_unit, crate::specs::Inner::Reader::slashed, crate::specs::Inner::Reader::in_name, crate::specs::Inner::Reader::in_part, crate::specs::Inner::Reader::in_signs, crate::specs::Inner::Reader::classed, crate::specs::Inner::Reader::in_opened, crate::specs::Inner::Reader::pattern_read))]
 impl Reader {
     pub(crate) fn new(alloc: Global) -> Reader
         ensures { state_of result ≡ start }

@@ -2,7 +2,7 @@
 ghost use Rattle.std.specs.Prelude.{◌≡◌, ◌∷◌, [], ◌↔◌, IsTrue, MatchOption};
 ghost use Rattle.std.specs.Str.{chars};
 ghost use Rattle.glob_match.specs.declared.pattern.Unit.TheVariants.{Star};
-ghost use Rattle.glob_match.specs.FitsBoth.{FitsBoth, FitsFrom, FitsSome};
+ghost use Rattle.glob_match.specs.Inner.FitsBoth.{FitsBoth, FitsFrom, FitsSome};
 
 use crate::pattern::{Part, Piece, Unit};
 

@@ -9,9 +9,9 @@ use Rattle.graph_core.specs.declared.Target.{Target}
 use Rattle.graph_core.specs.declared.Target.TheVariants.{Node, Out}
 use Rattle.graph_core.specs.Wiring.{Edges, Has, targets_of, calls_node}
 use Rattle.graph_core.specs.Closing.{numbers_from, is_listed, ready_from, is_ready, next_ready_from, next_ready, listed_on, closing_order}
-use Rattle.graph_core.specs.Reach.{lists_of, is_past, add_targets, spread, routes_to, capped_sum, capped_counts}
+use Rattle.graph_core.specs.Inner.Reach.{lists_of, is_past, add_targets, spread, routes_to, capped_sum, capped_counts}
 use Rattle.graph_core.specs.Faults.{LeadsPast, route_count, routes_from_first, IsAccepted}
-use Rattle.graph_core.specs.Walk.{IsBuilt}
+use Rattle.graph_core.specs.Inner.Walk.{IsBuilt}
 use Rattle.graph_core.proofs.Traces.{targets_within}
 use Rattle.graph_core.proofs.Reaching.{target_within}
 use Rattle.graph_core.proofs.Ordering.{closing_first, closing_below}

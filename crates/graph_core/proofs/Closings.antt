@@ -11,7 +11,7 @@ use Rattle.graph_core.specs.Behavior.{Behavior}
 use Rattle.graph_core.specs.Wiring.{Edges, Has, edges_of}
 use Rattle.graph_core.specs.Closing.{closing_order, CallersFirst}
 use Rattle.graph_core.specs.Traces.{Network, start_states, closings}
-use Rattle.graph_core.specs.Walk.{stepped, sent, Walk, done, put_out, called}
+use Rattle.graph_core.specs.Inner.Walk.{stepped, sent, Walk, done, put_out, called}
 use Rattle.graph_core.proofs.Members.{Has-append_cases, Has-from_map}
 use Rattle.graph_core.proofs.Logs.{get_after_same, get_after_other}
 use Rattle.graph_core.proofs.Traces.{ext_slice_get}

@@ -12,7 +12,7 @@ use Rattle.graph_core.specs.declared.Target.TheVariants.{Node, Out}
 use Rattle.graph_core.specs.declared.NodeSpec.{NodeSpec}
 use Rattle.graph_core.specs.Wiring.{Wiring, Edges, Has, wiring_of, ports_of, edges_of, targets_of}
 use Rattle.graph_core.specs.Traces.{Network}
-use Rattle.graph_core.specs.Walk.{deliveries, owed, stepped, sent, Walk, done, put_out, called, IsBuilt, height, LeadsOn, IsOnlyTarget}
+use Rattle.graph_core.specs.Inner.Walk.{deliveries, owed, stepped, sent, Walk, done, put_out, called, IsBuilt, height, LeadsOn, IsOnlyTarget}
 use Rattle.graph_core.proofs.Members.{Has-append_cases, Has-from_map, Has-same}
 use Rattle.graph_core.proofs.Emissions.{ports_targets, Has-flat}
 use Rattle.graph_core.proofs.Walks.{walk_append}

@@ -7,7 +7,7 @@ use Rattle.graph_core.specs.declared.Target.{Target}
 use Rattle.graph_core.specs.declared.Target.TheVariants.{Node, Out}
 use Rattle.graph_core.specs.Wiring.{Has, ports_of, edges_of, targets_of, same_target}
 use Rattle.graph_core.specs.Traces.{Network, Call, is_before, said, next_state, state_after, calls_to, calls_of_emissions, calls_of_trace, calls_from}
-use Rattle.graph_core.specs.Walk.{stepped}
+use Rattle.graph_core.specs.Inner.Walk.{stepped}
 use Rattle.graph_core.proofs.Members.{Has-append_left, Has-append_right, Has-append_cases}
 use Rattle.graph_core.proofs.Addresses.{Apart-before, Apart-extend_left, Apart-extend_right, before_under}
 use Rattle.graph_core.specs.Runs.{IsAscending, IsRun}

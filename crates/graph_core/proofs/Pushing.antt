@@ -10,7 +10,7 @@ use Rattle.graph_core.specs.Wiring.{Edges, Has, wiring_of, edges_of, entry_of}
 use Rattle.graph_core.specs.Closing.{closing_order, CallersFirst}
 use Rattle.graph_core.specs.Runs.{IsRun}
 use Rattle.graph_core.specs.Traces.{Network, Call, numbered, trace, calls_to, calls_for, network_of, inputs, closings, start_states, outputs, states_after, Served}
-use Rattle.graph_core.specs.Walk.{Walk, done, put_out, IsBuilt}
+use Rattle.graph_core.specs.Inner.Walk.{Walk, done, put_out, IsBuilt}
 use Rattle.graph_core.proofs.Traces.{walk_gives, walk_log, requests_of_numbered, numbered_apart, run_traces}
 use Rattle.graph_core.proofs.Logs.{log_is_run}
 use Rattle.graph_core.specs.Faults.{route_count}

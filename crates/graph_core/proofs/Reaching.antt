@@ -7,7 +7,7 @@ use Rattle.graph_core.specs.declared.Target.{Target}
 use Rattle.graph_core.specs.declared.Target.TheVariants.{Node, Out}
 use Rattle.graph_core.specs.Wiring.{Edges, Has, targets_of}
 use Rattle.graph_core.specs.Closing.{is_listed}
-use Rattle.graph_core.specs.Reach.{add_target, add_targets, spread, reached}
+use Rattle.graph_core.specs.Inner.Reach.{add_target, add_targets, spread, reached}
 use Rattle.graph_core.specs.Faults.{Reaches, calls, onward, LeadsNowherePast}
 use Rattle.graph_core.proofs.Members.{Has-append_left, Has-append_right, Has-append_cases}
 use Rattle.graph_core.proofs.Pigeons.{Distinct, pigeons, Distinct-push}

@@ -9,8 +9,8 @@ use Rattle.graph_core.specs.Wiring.{Edges, Has, targets_of}
 use Rattle.std.specs.Prelude.{◌==◌}
 use Rattle.std.proofs.lemmas.Bool.{cases_lt, cond_both, cond-true, eq-eqb}
 use Rattle.graph_core.specs.Closing.{CallersFirst}
-use Rattle.graph_core.specs.Walk.{height}
-use Rattle.graph_core.specs.Reach.{routes_to, capped_sum, capped_counts}
+use Rattle.graph_core.specs.Inner.Walk.{height}
+use Rattle.graph_core.specs.Inner.Reach.{routes_to, capped_sum, capped_counts}
 use Rattle.graph_core.specs.Faults.{route_count}
 use Rattle.graph_core.proofs.Delivering.{height_falls, height_le}
 use Rattle.graph_core.proofs.Closings.{listed_or_left, left_not_listed}

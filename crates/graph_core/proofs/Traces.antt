@@ -9,7 +9,7 @@ use Rattle.graph_core.specs.declared.Target.TheVariants.{Node, Out}
 use Rattle.graph_core.specs.Wiring.{Edges, Has, ports_of, edges_of, targets_of, same_target}
 use Rattle.graph_core.specs.Closing.{closing_order, CallersFirst}
 use Rattle.graph_core.specs.Traces.{Network, Call, said, state_after, trace, calls_to, calls_of_targets, calls_of_emissions, calls_from, calls_through, calls_for, numbered, states_along, states_after, Served}
-use Rattle.graph_core.specs.Walk.{deliveries, owed, stepped, sent, Walk, done, put_out, called}
+use Rattle.graph_core.specs.Inner.Walk.{deliveries, owed, stepped, sent, Walk, done, put_out, called}
 use Rattle.graph_core.specs.Runs.{IsAscending, IsRun}
 use Rattle.graph_core.proofs.Members.{Has-append_left, Has-append_right, Has-append_cases, Has-filter, Has-from_filter, Has-same}
 use Rattle.graph_core.proofs.Emissions.{IsApartList}

@@ -10,7 +10,7 @@ use Rattle.graph_core.specs.declared.Target.TheVariants.{Node, Out}
 use Rattle.graph_core.specs.Wiring.{Edges, Has, ports_of, edges_of, targets_of}
 use Rattle.graph_core.specs.Closing.{closing_order, CallersFirst}
 use Rattle.graph_core.specs.Traces.{Network, said, next_state, calls_of_emissions, outputs, states_after}
-use Rattle.graph_core.specs.Walk.{deliveries, owed, stepped, sent, Walk, done, put_out, called}
+use Rattle.graph_core.specs.Inner.Walk.{deliveries, owed, stepped, sent, Walk, done, put_out, called}
 use Rattle.graph_core.proofs.Members.{Has-same, Has-from_map}
 use Rattle.graph_core.proofs.Emissions.{ports_targets, of_emissions}
 use Rattle.graph_core.proofs.Traces.{request_of, requests_of_emissions, walk_gives}

@@ -2,7 +2,6 @@ pub mod Behavior
 pub mod Wiring
 pub mod Closing
 pub mod Traces
-pub mod Walk
 pub mod Runs
-pub mod Reach
 pub mod Faults
+pub mod Inner

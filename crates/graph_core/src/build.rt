@@ -4,9 +4,9 @@ ghost use Rattle.std.specs.Prelude.{◌≡◌, slice_get, ℕ, ◌<◌, ◌≤�
 ghost use Rattle.graph_core.specs.declared.Target.TheVariants.{Node};
 ghost use Rattle.graph_core.specs.Wiring.{wiring_of, edges_of, targets_of, same_target, Has};
 ghost use Rattle.graph_core.specs.Closing.{closing_order, is_listed, is_ready, next_ready};
-ghost use Rattle.graph_core.specs.Reach.{lists_of, is_past, add_target, add_targets, reached, capped_sum, capped_counts};
+ghost use Rattle.graph_core.specs.Inner.Reach.{lists_of, is_past, add_target, add_targets, reached, capped_sum, capped_counts};
 ghost use Rattle.graph_core.specs.Faults.{IsLeast, LeadsPast, LeadsNowherePast, Reaches, HasNoCycle, routes_from_first, IsAccepted, IsCause};
-ghost use Rattle.graph_core.specs.Walk.{IsBuilt};
+ghost use Rattle.graph_core.specs.Inner.Walk.{IsBuilt};
 ghost use Rattle.std.specs.List.{flat_map, list_any};
 
 use super::{GraphFault, NodeSpec, Target};

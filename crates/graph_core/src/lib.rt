@@ -146,7 +146,7 @@ impl<O> Model for Graph<O> {
     ghost Value = { List (NodeSpec O) };
 
     ghost use Rattle.graph_core.specs.Wiring.{wiring_of, edges_of};
-    ghost use Rattle.graph_core.specs.Walk.{IsBuilt};
+    ghost use Rattle.graph_core.specs.Inner.Walk.{IsBuilt};
 
     ghost view = { λ graph. graph.nodes.items };
 

@@ -5,7 +5,7 @@ ghost use Rattle.graph_core.specs.declared.Target.TheVariants.{Node};
 ghost use Rattle.graph_core.specs.Wiring.{wiring_of, edges_of, ports_of, Has};
 ghost use Rattle.graph_core.specs.Closing.{closing_order, CallersFirst};
 ghost use Rattle.graph_core.specs.Traces.{network_of, inputs, closings};
-ghost use Rattle.graph_core.specs.Walk.{deliveries, owed, stepped, sent, Walk, LeadsOn, IsOnlyTarget};
+ghost use Rattle.graph_core.specs.Inner.Walk.{deliveries, owed, stepped, sent, Walk, LeadsOn, IsOnlyTarget};
 
 use super::{Graph, NodeSpec, Step, Target};
 use std::alloc::{AllocError, Global};

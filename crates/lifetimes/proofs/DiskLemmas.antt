@@ -5,7 +5,7 @@ use Rattle.std.proofs.lemmas.Bool.{and_parts}
 use Rattle.checkpoint_store.specs.declared.Checkpoint.{Checkpoint}
 use Rattle.lifetimes.proofs.ImageLemmas.{NumberedBy, numbered_by, left_reopened, left_later, Kept, kept_by_stays, kept_by_steps, closed_by_stays}
 use Rattle.lifetimes.specs.OneEra.{one_era}
-use Rattle.lifetimes.specs.Past.{Past, Failures, IsLeftAt, LeavesAt, IsDiskAt, IsOpened, IsWell, dropped, polled}
+use Rattle.lifetimes.specs.Inner.Past.{Past, Failures, IsLeftAt, LeavesAt, IsDiskAt, IsOpened, IsWell, dropped, polled}
 use Rattle.lifetimes.specs.Whole.{TakesWhole}
 use Rattle.mem_world.specs.DiskImages.{LeavesImage, LeftSince}
 use Rattle.mem_world.specs.DiskLaws.{left_now, left_only_now}

@@ -5,7 +5,7 @@ use Rattle.checkpoint_journal.specs.Written.{IsWorn}
 use Rattle.checkpoint_journal.specs.declared.journal.Journal.{Journal}
 use Rattle.checkpoint_store.specs.declared.Checkpoint.{Checkpoint}
 use Rattle.lifetimes.specs.OneEra.{IsSoundBy, one_era}
-use Rattle.lifetimes.specs.Past.{Past, IsLeftAt, IsOpened}
+use Rattle.lifetimes.specs.Inner.Past.{Past, IsLeftAt, IsOpened}
 use Rattle.lifetimes.specs.Whole.{TakesWhole}
 use Rattle.outside.specs.Image.{Image}
 use Rattle.outside.specs.World.{History}

@@ -8,8 +8,8 @@ use Rattle.lifetimes.proofs.TreeLemmas.{tree_begins, history_begins, tree_later,
 use Rattle.lifetimes.specs.Course.{Course, Comes, GoesBy, steps, plans, sets, fails_disk, fails_tree, opens, opens_failed, opens_stopped, polls_on, polls_full, polls_failed, polls_stopped}
 use Rattle.lifetimes.specs.Ended.{history_of}
 use Rattle.lifetimes.specs.Large.{Large}
-use Rattle.lifetimes.specs.Life.{past_of, stop_set, waits_of, IsLifeAt, course_of, AreFew, CameTo, Cant}
-use Rattle.lifetimes.specs.Past.{Past, Failures, Waits, LeavesAt, IsTreeAt, IsTreePolled, IsDiskAt, IsWell, IsReady, IsOpened, MayPoll, ReachesAll, GoesOn, Opens, CantOpenBy, dropped, polled}
+use Rattle.lifetimes.specs.Inner.Life.{past_of, stop_set, waits_of, IsLifeAt, course_of, AreFew, CameTo, Cant}
+use Rattle.lifetimes.specs.Inner.Past.{Past, Failures, Waits, LeavesAt, IsTreeAt, IsTreePolled, IsDiskAt, IsWell, IsReady, IsOpened, MayPoll, ReachesAll, GoesOn, Opens, CantOpenBy, dropped, polled}
 use Rattle.lifetimes.specs.Script.{Halt, Pending, pending, counts_of, stops_by, is_early}
 use Rattle.lifetimes.specs.Stopped.{IsStopped, halt_of}
 use Rattle.lifetimes.specs.declared.event.Event.{Event}

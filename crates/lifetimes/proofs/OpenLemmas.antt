@@ -5,9 +5,9 @@ use Rattle.checkpoint_store.specs.Limits.{output_limit}
 use Rattle.lifetimes.proofs.DiskLemmas.{leaves_reopened}
 use Rattle.lifetimes.proofs.EraLemmas.{rules_own, session_of_one, own_text}
 use Rattle.lifetimes.proofs.PollLemmas.{ready_same, rose_by_some}
-use Rattle.lifetimes.specs.Answered.{opened_of}
+use Rattle.lifetimes.specs.Inner.Answered.{opened_of}
 use Rattle.lifetimes.specs.OneEra.{IsSoundBy, one_era}
-use Rattle.lifetimes.specs.Past.{Past, CantOpenBy, Failures, IsDiskAt, IsOpened, IsReady, IsWell, LeavesAt, Opens}
+use Rattle.lifetimes.specs.Inner.Past.{Past, CantOpenBy, Failures, IsDiskAt, IsOpened, IsReady, IsWell, LeavesAt, Opens}
 use Rattle.lifetimes.specs.declared.fault.ScriptFault.{ScriptFault}
 use Rattle.mem_world.specs.DiskLaws.{leaves_shown}
 use Rattle.mem_world.specs.MemDisk.{disk_images, faults_of, history_of as log_of, seen_of}

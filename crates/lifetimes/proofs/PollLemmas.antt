@@ -21,9 +21,9 @@ use Rattle.lifetimes.specs.Large.{Large}
 use Rattle.lifetimes.specs.OneEra.{one_era}
 use Rattle.lifetimes.specs.Small.{AreWhole}
 use Rattle.lifetimes.proofs.DiskLemmas.{StepsBy, stands_after, leaves_polled, leaves_same}
-use Rattle.lifetimes.specs.Answered.{next_of}
+use Rattle.lifetimes.specs.Inner.Answered.{next_of}
 use Rattle.lifetimes.specs.Ended.{history_of}
-use Rattle.lifetimes.specs.Past.{Past, Failures, Waits, LeavesAt, IsDiskAt, IsWell, IsReady, IsOpened, IsTreeAt, IsTreePolled, MayPoll, GoesOn, dropped, polled}
+use Rattle.lifetimes.specs.Inner.Past.{Past, Failures, Waits, LeavesAt, IsDiskAt, IsWell, IsReady, IsOpened, IsTreeAt, IsTreePolled, MayPoll, GoesOn, dropped, polled}
 use Rattle.lifetimes.specs.Script.{Halt, is_early}
 use Rattle.lifetimes.specs.Stopped.{IsStopped}
 use Rattle.lifetimes.specs.Whole.{TakesWhole}

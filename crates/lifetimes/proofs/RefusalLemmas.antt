@@ -1,7 +1,7 @@
 -- Settings that are refused, before the disk is asked.
 use Rattle.std.proofs.Common.{ℕ, List, Err, refl}
 use Rattle.lifetimes.proofs.PollLemmas.{none_rose}
-use Rattle.lifetimes.specs.Past.{CantOpenBy}
+use Rattle.lifetimes.specs.Inner.Past.{CantOpenBy}
 use Rattle.lifetimes.specs.Refusal.{setup_fault}
 use Rattle.poll_core.specs.OpenCause.{HasOpenCause, IsOfContents}
 use Rattle.poll_core.specs.OpenFaults.{IsSettingsRefusal}

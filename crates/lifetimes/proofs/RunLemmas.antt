@@ -5,8 +5,8 @@ use Rattle.std.specs.declared.alloc.Global.{Global}
 use Rattle.std.proofs.lemmas.List.{reverse-append, length-reverse, take_more, take_all, length-take}
 use Rattle.lifetimes.specs.Course.{Course, Begins, Runs, begins, goes_on}
 use Rattle.lifetimes.specs.Ended.{history_of, IsEnding, FailsAt, IsScriptFault, CantPoll, CantOpen, CantStep}
-use Rattle.lifetimes.specs.Life.{IsLifeAt, course_of, CameTo, Cant, AreFew}
-use Rattle.lifetimes.specs.Past.{CantOpenBy}
+use Rattle.lifetimes.specs.Inner.Life.{IsLifeAt, course_of, CameTo, Cant, AreFew}
+use Rattle.lifetimes.specs.Inner.Past.{CantOpenBy}
 use Rattle.lifetimes.specs.declared.ending.Ending.{Ending}
 use Rattle.lifetimes.specs.declared.event.Event.{Event}
 use Rattle.lifetimes.specs.declared.fault.ScriptFault.{ScriptFault}

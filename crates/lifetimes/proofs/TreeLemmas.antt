@@ -2,7 +2,7 @@
 use Rattle.std.proofs.Common.{◌≡◌, ℕ, ◌+◌, ◌≤◌, List, [], ◌∷◌, ◌++◌, length, true, Some, refl, sym, ap, subst, ◌∙◌, arith}
 use Rattle.lifetimes.specs.Course.{GoesBy}
 use Rattle.lifetimes.specs.Ended.{history_of}
-use Rattle.lifetimes.specs.Past.{Failures, Waits, IsTreeAt, IsTreePolled, dropped}
+use Rattle.lifetimes.specs.Inner.Past.{Failures, Waits, IsTreeAt, IsTreePolled, dropped}
 use Rattle.file_pass.specs.TreeTerms.{GoesLater}
 use Rattle.mem_world.proofs.TreeTelling.{change_told, followed_told, plan_stays, told_stays}
 use Rattle.mem_world.specs.MemTree.{state_of, tree_meaning}

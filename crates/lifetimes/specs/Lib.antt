@@ -1,6 +1,5 @@
 pub mod OneEra
 pub mod Refusal
-pub mod Answered
 pub mod Script
 pub mod Stopped
 pub mod Large
@@ -8,5 +7,4 @@ pub mod Small
 pub mod Whole
 pub mod Course
 pub mod Ended
-pub mod Past
-pub mod Life
+pub mod Inner

@@ -1,6 +1,6 @@
 // A life of the agent, event by event.
 ghost use Rattle.std.specs.Prelude.{◌≡◌, ◌<◌, ℕ, List, [], ◌∷◌, length, Option, Some, None, IfOk, IfErr, IfSome, OnOk};
-ghost use Rattle.lifetimes.specs.Life.{AreFew, CameTo, Cant, IsLifeAt, IsReadyLife, course_of};
+ghost use Rattle.lifetimes.specs.Inner.Life.{AreFew, CameTo, Cant, IsLifeAt, IsReadyLife, course_of};
 ghost use Rattle.lifetimes.specs.declared.event.Event.{Event};
 ghost use Rattle.mem_world.specs.MemDisk.{seen_of};
 ghost use Rattle.outside.specs.declared.disk.DiskFile.{DiskFile};

@@ -1,7 +1,7 @@
 // Openings in a script.
 ghost use Rattle.std.specs.Prelude.{◌≡◌, ◌<◌, IfOk, IfErr, IfSome, OnOk};
-ghost use Rattle.lifetimes.specs.Answered.{opened_of};
-ghost use Rattle.lifetimes.specs.Past.{CantOpenBy, Failures, IsDiskAt, IsReady, Opens, Past, dropped};
+ghost use Rattle.lifetimes.specs.Inner.Answered.{opened_of};
+ghost use Rattle.lifetimes.specs.Inner.Past.{CantOpenBy, Failures, IsDiskAt, IsReady, Opens, Past, dropped};
 ghost use Rattle.lifetimes.specs.Stopped.{IsStopped, halt_of};
 ghost use Rattle.mem_world.specs.MemDisk.{disk_images};
 ghost use Rattle.outside.specs.Count.{last_count};

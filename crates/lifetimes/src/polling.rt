@@ -1,8 +1,8 @@
 // Polls in a script.
 ghost use Rattle.std.specs.Prelude.{◌≡◌, Some, false, IfOk, IfErr, IfSome, OnOk};
-ghost use Rattle.lifetimes.specs.Answered.{next_of};
+ghost use Rattle.lifetimes.specs.Inner.Answered.{next_of};
 ghost use Rattle.lifetimes.specs.Ended.{history_of};
-ghost use Rattle.lifetimes.specs.Past.{GoesOn, IsDiskAt, IsReady, IsTreeAt, IsTreePolled, MayPoll, Past, Waits, dropped, polled};
+ghost use Rattle.lifetimes.specs.Inner.Past.{GoesOn, IsDiskAt, IsReady, IsTreeAt, IsTreePolled, MayPoll, Past, Waits, dropped, polled};
 ghost use Rattle.lifetimes.specs.Script.{is_early};
 ghost use Rattle.lifetimes.specs.Stopped.{IsStopped, halt_of};
 ghost use Rattle.standing.specs.Rules.{Rules};

@@ -1,7 +1,7 @@
 // Whole lives, as scripts.
 ghost use Rattle.std.specs.Prelude.{◌≡◌, IfOk, IfErr, OnOk};
 ghost use Rattle.lifetimes.specs.Ended.{IsEnding, IsScriptFault};
-ghost use Rattle.lifetimes.specs.Past.{CantOpenBy};
+ghost use Rattle.lifetimes.specs.Inner.Past.{CantOpenBy};
 ghost use Rattle.poll_core.specs.MadeOf.{HasRules};
 ghost use Rattle.standing.specs.AreRules.{AreRules};
 ghost use Rattle.standing.specs.Rules.{Rules};

@@ -1,6 +1,6 @@
 // Stops, and what a crash makes of a disk.
 ghost use Rattle.std.specs.Prelude.{◌≡◌, OnOk};
-ghost use Rattle.lifetimes.specs.Past.{Failures, IsDiskAt, LeavesAt, Past, dropped};
+ghost use Rattle.lifetimes.specs.Inner.Past.{Failures, IsDiskAt, LeavesAt, Past, dropped};
 ghost use Rattle.mem_world.specs.DiskFiles.{tear_of};
 ghost use Rattle.out_segments.specs.CrashOutcome.{left_by};
 ghost use Rattle.mem_world.specs.DiskFiles.{calls_of};

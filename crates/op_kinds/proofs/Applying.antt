@@ -3,7 +3,7 @@ use Rattle.std.proofs.Common.{◌≡◌, ℕ, List, [], ◌∷◌, ◌++◌, Boo
 use Rattle.std.specs.Prelude.{if◌then◌else◌, option_map}
 use Rattle.std.proofs.lemmas.List.{append-nil}
 use Rattle.entry_model.specs.LogRecord.{LogRecord}
-use Rattle.op_kinds.specs.Applied.{Effect, Puts, IsApplied, effect}
+use Rattle.op_kinds.specs.Inner.Applied.{Effect, Puts, IsApplied, effect}
 use Rattle.op_kinds.specs.Kept.{Kept, open_groups, keeps_groups, fresh_kept}
 use Rattle.op_kinds.specs.Operator.{Act, Operator, conditional, router, Made, row, holds_groups, joined, with_groups, sending, done, guarded, holds, or_unchanged, on_one_port, has_groups, after}
 use Rattle.op_kinds.specs.declared.action.Applied.{Applied}

@@ -19,7 +19,7 @@ use Rattle.op_kinds.specs.Operator.{Act, Operator, conditional, router}
 use Rattle.op_kinds.specs.Parsers.{columns_of, delimiters_of, protocol_of}
 use Rattle.op_kinds.specs.Said.{by_pattern, as_json, as_record, as_pairs}
 use Rattle.op_kinds.specs.Readings.{Reading, path, member, expression, pattern, names, IsFaulty, own_readings, parser_readings, paths_if_any, condition_readings, readings, route_reading, IsLeastCause, AreRead}
-use Rattle.op_kinds.specs.WorkView.{IsWorkOf, operator_of}
+use Rattle.op_kinds.specs.Inner.WorkView.{IsWorkOf, operator_of}
 use Rattle.op_kinds.specs.declared.cause.OpCause.{OpCause}
 use Rattle.op_kinds.specs.declared.compiling.Work.{Work}
 use Rattle.op_kinds.specs.declared.compiling.Work.TheVariants.{Act as ActWork, Route}

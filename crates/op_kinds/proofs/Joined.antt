@@ -3,7 +3,7 @@ use Rattle.std.proofs.Common.{◌≡◌, ℕ, List, [], ◌++◌, Result, Ok, Er
 use Rattle.std.specs.Prelude.{option_map}
 use Rattle.entry_model.specs.LogRecord.{LogRecord, log_record}
 use Rattle.entry_model.specs.declared.entry.Entry.{Entry}
-use Rattle.op_kinds.specs.Applied.{IsApplied, effect}
+use Rattle.op_kinds.specs.Inner.Applied.{IsApplied, effect}
 use Rattle.op_kinds.specs.Grouping.{joined_in, if_taken}
 use Rattle.op_kinds.specs.Kept.{Kept, nothing, groups, open_groups, keeps_groups, fresh_kept}
 use Rattle.op_kinds.specs.Kept as holding

@@ -14,7 +14,7 @@ use Rattle.entry_model.specs.Lawful.{members_nesting, NestsWithin}
 use Rattle.entry_model.specs.LogRecord.{LogRecord}
 use Rattle.field_paths.specs.Members.{with_member}
 use Rattle.field_paths.specs.PathText.{IsPathText, root_name}
-use Rattle.op_kinds.specs.Applied.{Effect, IsApplied, effect}
+use Rattle.op_kinds.specs.Inner.Applied.{Effect, IsApplied, effect}
 use Rattle.op_kinds.specs.Containers.{whole_body, parts_joined, part_joined}
 use Rattle.op_kinds.specs.Grouping.{arrival, if_taken, joined_in}
 use Rattle.op_kinds.specs.Kept.{Kept}

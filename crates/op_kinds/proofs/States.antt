@@ -11,7 +11,7 @@ use Rattle.recombine.proofs.SpellingLemmas.{fair_groups, groups_reader}
 use Rattle.recombine.specs.Group.{Group}
 use Rattle.recombine.specs.Reading.{groups_at}
 use Rattle.recombine.specs.Restores.{IsPart, Restores}
-use Rattle.recombine.specs.Told.{IsRead, Finds}
+use Rattle.recombine.specs.Inner.Told.{IsRead, Finds}
 use Rattle.state_codec.proofs.Fair.{Fair, Local, Blame, fair_bind, fair_ok, err_is}
 use Rattle.state_codec.proofs.Numbers.{IsBytes, Takes, takes_both, bind_ok, ok_is, err_or_ok}
 use Rattle.state_codec.specs.Reading.{Reading, ◌>>=◌}

@@ -11,8 +11,6 @@ pub mod Ports
 pub mod Faults
 pub mod ParserView
 pub mod AnyOpView
-pub mod Applied
-pub mod WorkView
 pub mod PlaceCode
 pub mod TreeCode
 pub mod ParsingCode
@@ -24,3 +22,4 @@ pub mod Readings
 pub mod States
 pub mod Flat
 pub mod StateTexts
+pub mod Inner

@@ -2,7 +2,7 @@
 ghost use Rattle.std.specs.Prelude.{◌≡◌, ◌++◌, IfOk, OnOk, option_map};
 ghost use Rattle.entry_model.specs.LogRecord.{log_record};
 ghost use Rattle.op_kinds.specs.AnyOpView.{act_of, entries_by, fate_from};
-ghost use Rattle.op_kinds.specs.Applied.{IsApplied, effect};
+ghost use Rattle.op_kinds.specs.Inner.Applied.{IsApplied, effect};
 ghost use Rattle.op_kinds.specs.Operator as operator;
 ghost use Rattle.op_kinds.specs.Kept.{Kept, open_groups};
 ghost use Rattle.op_kinds.specs.Operator.{done, joined, with_groups, sending, closing, on_one_port, row};

@@ -6,7 +6,7 @@ ghost use Rattle.op_kinds.specs.Compilable.{IsCompilable};
 ghost use Rattle.op_kinds.specs.Compiled as compiled;
 ghost use Rattle.op_kinds.specs.Compiled.{IsCompiledTo};
 ghost use Rattle.op_kinds.specs.Readings.{Caused, Reading, condition_readings, own_readings, readings};
-ghost use Rattle.op_kinds.specs.WorkView.{IsWorkOf, operator_of};
+ghost use Rattle.op_kinds.specs.Inner.WorkView.{IsWorkOf, operator_of};
 
 use crate::action::Action;
 use crate::any_op::Form;

@@ -2,7 +2,7 @@
 ghost use Rattle.std.specs.Prelude.{◌≡◌, ◌++◌, IfOk, OnOk, option_map};
 ghost use Rattle.expr_lang.specs.TreeOf.{tree_of};
 ghost use Rattle.op_kinds.specs.AnyOpView.{act_of};
-ghost use Rattle.op_kinds.specs.Applied.{IsApplied, effect};
+ghost use Rattle.op_kinds.specs.Inner.Applied.{IsApplied, effect};
 ghost use Rattle.op_kinds.specs.Operator as operator;
 ghost use Rattle.op_kinds.specs.Operator.{on_one_port, or_unchanged};
 

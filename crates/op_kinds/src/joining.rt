@@ -1,7 +1,7 @@
 // Joining entries, as operators do that hold groups.
 ghost use Rattle.std.specs.Prelude.{◌≡◌, ◌++◌, OnOk, IfOk, option_map};
 ghost use Rattle.entry_model.specs.LogRecord.{log_record};
-ghost use Rattle.op_kinds.specs.Applied.{IsApplied, effect};
+ghost use Rattle.op_kinds.specs.Inner.Applied.{IsApplied, effect};
 ghost use Rattle.op_kinds.specs.Grouping.{arrival, joined_in};
 ghost use Rattle.op_kinds.specs.Kept as kept;
 ghost use Rattle.op_kinds.specs.Kept.{open_groups};

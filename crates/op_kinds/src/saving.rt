@@ -1,7 +1,7 @@
 // What operators keep, as bytes and back.
 ghost use Rattle.std.specs.Prelude.{◌≡◌, ◌≤◌, ◌++◌, length, OnOk, IfOk, IfErr};
 ghost use Rattle.op_kinds.specs.States.{states_spelling, HaveSpellings, Spell, IsRefused, kept_at};
-ghost use Rattle.recombine.specs.Told.{Finds};
+ghost use Rattle.recombine.specs.Inner.Told.{Finds};
 
 use crate::{AnyOp, OpState};
 use graph_core::NodeSpec;

@@ -5,8 +5,8 @@ use Rattle.outside.specs.Images.{Images}
 use Rattle.outside.specs.Crash.{Passes, IsDurable}
 use Rattle.outside.proofs.Passing.{passes_none, passes_by, passes_then, passes_after_same, passes_before_same}
 use Rattle.out_segments.specs.declared.parts.PartFile.{PartFile}
-use Rattle.out_segments.specs.AtOutput.{EachLeft}
-use Rattle.out_segments.specs.Keeping.{KeepsTerms, OnlyRead, Changes}
+use Rattle.out_segments.specs.Inner.AtOutput.{EachLeft}
+use Rattle.out_segments.specs.Inner.Keeping.{KeepsTerms, OnlyRead, Changes}
 use Rattle.out_segments.specs.PartsMeaning.{PartsMeaning}
 
 module _ {P : Type 0} {images : Images PartFile P} where

@@ -8,7 +8,7 @@ use Rattle.outside.proofs.Tearing.{at_file_idle}
 use Rattle.out_segments.specs.declared.parts.PartFile.{PartFile}
 use Rattle.out_segments.specs.declared.parts.PartFile.TheVariants.{Part}
 use Rattle.out_segments.specs.Joined.{output_of}
-use Rattle.out_segments.specs.AtOutput.{AtOutput, IsKept, IsShort, EmptiedTo, EmptiesBehind}
+use Rattle.out_segments.specs.Inner.AtOutput.{AtOutput, IsKept, IsShort, EmptiedTo, EmptiesBehind}
 use Rattle.out_segments.proofs.Outputs.{output_cut, output_kept, output_alike, at_output, at_output_from, part_alike, output_idle}
 
 -- a cut makes nothing longer

@@ -8,7 +8,7 @@ use Rattle.outside.specs.Content.{Gives}
 use Rattle.outside.specs.Image.{Image}
 use Rattle.out_segments.specs.declared.parts.PartFile.{PartFile}
 use Rattle.out_segments.specs.declared.parts.PartFile.TheVariants.{Part}
-use Rattle.out_segments.specs.AtOutput.{IsShort}
+use Rattle.out_segments.specs.Inner.AtOutput.{IsShort}
 use Rattle.out_segments.specs.Joined.{output_of, joined}
 use Rattle.out_segments.proofs.Joining.{first_here, long_here}
 use Rattle.out_segments.proofs.Outputs.{output_ends, output_rest, output_reached, output_most}

@@ -9,7 +9,7 @@ use Rattle.outside.proofs.Passing.{passes_weaker}
 use Rattle.out_segments.specs.declared.parts.PartFile.{PartFile}
 use Rattle.out_segments.specs.declared.parts.PartFile.TheVariants.{Settings, SlotA, SlotB, Part}
 use Rattle.out_segments.specs.declared.segmented.Segmented.{Segmented}
-use Rattle.out_segments.specs.AtOutput.{AtOutput, KeepsLengths}
+use Rattle.out_segments.specs.Inner.AtOutput.{AtOutput, KeepsLengths}
 use Rattle.out_segments.specs.Joined.{whole_file}
 use Rattle.out_segments.specs.Kept.{KeptSince, IsSince}
 use Rattle.out_segments.specs.SegmentedMeaning.{parts_of, size_of, segmented_images}

@@ -7,7 +7,7 @@ use Rattle.out_segments.specs.declared.parts.PartFile.TheVariants.{Settings, Slo
 use Rattle.out_segments.specs.declared.memory.contents.Contents.{Contents}
 use Rattle.out_segments.specs.declared.memory.log.Change.{Change}
 use Rattle.out_segments.specs.declared.memory.log.Entry.{Entry}
-use Rattle.out_segments.specs.IsStored.{IsStored}
+use Rattle.out_segments.specs.Inner.IsStored.{IsStored}
 use Rattle.out_segments.specs.MemContents.{bytes_of, parts_held, IsHeld}
 use Rattle.out_segments.specs.MemImages.{shown, itself}
 use Rattle.out_segments.specs.MemLog.{Log, calls_of, changed, content}

@@ -10,7 +10,7 @@ use Rattle.outside.specs.declared.disk.DiskFile.TheVariants as disk
 use Rattle.out_segments.specs.declared.parts.PartFile.{PartFile}
 use Rattle.out_segments.specs.declared.parts.PartFile.TheVariants.{Settings, SlotA, SlotB, Part}
 use Rattle.out_segments.specs.Joined.{joined, output_of, image_of}
-use Rattle.out_segments.specs.AtOutput.{AtOutput, IsKept, IsShort, HasRoom}
+use Rattle.out_segments.specs.Inner.AtOutput.{AtOutput, IsKept, IsShort, HasRoom}
 use Rattle.out_segments.proofs.Tears.{torn_behind, same_behind}
 use Rattle.out_segments.proofs.Joining.{split, joined_alike, joined_last, joined_long, joined_most, joined_short, begins_here, cut_here, torn_here, holds_here}
 

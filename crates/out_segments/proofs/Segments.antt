@@ -11,7 +11,7 @@ use Rattle.out_segments.specs.declared.segmented.Segmented.{Segmented}
 use Rattle.out_segments.specs.Joined.{image_of, whole_file}
 use Rattle.out_segments.specs.SegmentedMeaning.{parts_of, size_of, segmented_images}
 use Rattle.out_segments.proofs.Outputs.{output_alike, at_file}
-use Rattle.out_segments.specs.AtOutput.{AtOutput}
+use Rattle.out_segments.specs.Inner.AtOutput.{AtOutput}
 
 pub passes_joined : {P : Type 0} {g : _} {images : Images PartFile P} {change : Image PartFile → Image PartFile → Type 0} {whole : Image DiskFile → Image DiskFile → Type 0} (old new : Segmented P g) → size_of new ≡ size_of old → Passes images change (parts_of old) (parts_of new) → ((x y : Image PartFile) → change x y → whole (image_of (size_of old) x) (image_of (size_of old) y)) → Passes (segmented_images images) whole old new
 passes_joined {images = images} {change = change} {whole = whole} old new sized passes step =

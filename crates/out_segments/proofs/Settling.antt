@@ -6,10 +6,10 @@ use Rattle.outside.specs.Image.{Image}
 use Rattle.outside.specs.Images.{Images}
 use Rattle.out_segments.specs.declared.parts.PartFile.{PartFile}
 use Rattle.out_segments.specs.declared.parts.PartFile.TheVariants.{Part}
-use Rattle.out_segments.specs.AtOutput.{AtOutput}
-use Rattle.out_segments.specs.Keeping.{OnlyRead, Changes}
+use Rattle.out_segments.specs.Inner.AtOutput.{AtOutput}
+use Rattle.out_segments.specs.Inner.Keeping.{OnlyRead, Changes}
 use Rattle.out_segments.specs.PartsMeaning.{PartsMeaning}
-use Rattle.out_segments.specs.Settled.{AreSettled}
+use Rattle.out_segments.specs.Inner.Settled.{AreSettled}
 use Rattle.out_segments.proofs.Changing.{durable_read}
 
 module _ {P : Type 0} (images : Images PartFile P) (parts : P) (size : ℕ) where

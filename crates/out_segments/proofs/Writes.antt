@@ -7,7 +7,7 @@ use Rattle.outside.specs.Image.{Image, AtFile, Torn, Holds}
 use Rattle.outside.proofs.Tearing.{torn_idle}
 use Rattle.out_segments.specs.declared.parts.PartFile.{PartFile}
 use Rattle.out_segments.specs.declared.parts.PartFile.TheVariants.{Part}
-use Rattle.out_segments.specs.AtOutput.{AtOutput, IsKept, HasRoom}
+use Rattle.out_segments.specs.Inner.AtOutput.{AtOutput, IsKept, HasRoom}
 use Rattle.out_segments.specs.Joined.{IsPartSize, output_of}
 use Rattle.out_segments.proofs.Tears.{torn_wider, torn_then, holds_then}
 use Rattle.out_segments.proofs.Outputs.{output_torn, output_holds, at_output, at_output_from, at_output_then, at_output_weaker}

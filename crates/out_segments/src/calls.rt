@@ -3,7 +3,7 @@ ghost use Rattle.std.specs.Prelude.{◌≡◌, ◌≤◌, ◌<◌, ◌+◌, ◌^
 ghost use Rattle.outside.specs.Count.{HasCause};
 ghost use Rattle.outside.specs.Crash.{IsDurable};
 ghost use Rattle.outside.specs.Image.{AtFile, Torn, Holds, MayCut, IsCut, IsWithin};
-ghost use Rattle.out_segments.specs.Keeping.{OnlyRead, Changes};
+ghost use Rattle.out_segments.specs.Inner.Keeping.{OnlyRead, Changes};
 ghost use Rattle.out_segments.specs.declared.parts.PartFile.TheVariants.{Part};
 
 use crate::parts::{PartFile, Parts};

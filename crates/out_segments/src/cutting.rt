@@ -2,9 +2,9 @@
 ghost use Rattle.std.specs.Prelude.{◌≡◌, ◌≤◌, ◌<◌, ◌*◌, ◌/◌, ◌+◌, ◌^◌, [], ℕ, false, length, IsTrue, IfOk, OnOk};
 ghost use Rattle.outside.specs.Count.{HasCause};
 ghost use Rattle.outside.specs.Image.{AtFile, MayCut, IsCut, IsWithin};
-ghost use Rattle.out_segments.specs.AtOutput.{AtOutput, IsKept, IsShort, EachLeft, EmptiesBehind};
+ghost use Rattle.out_segments.specs.Inner.AtOutput.{AtOutput, IsKept, IsShort, EachLeft, EmptiesBehind};
 ghost use Rattle.out_segments.specs.Joined.{IsPartSize, output_of};
-ghost use Rattle.out_segments.specs.Keeping.{Changes};
+ghost use Rattle.out_segments.specs.Inner.Keeping.{Changes};
 ghost use Rattle.out_segments.specs.declared.parts.PartFile.TheVariants.{Part};
 
 use crate::calls::{cut_part, length_of, sync_part};

@@ -3,8 +3,8 @@ ghost use Rattle.std.specs.Prelude.{◌≡◌, ◌≤◌, length, IsTrue, IfOk};
 ghost use Rattle.outside.specs.Content.{Gives};
 ghost use Rattle.outside.specs.Count.{HasOneCause};
 ghost use Rattle.out_segments.specs.Joined.{IsPartSize, output_of};
-ghost use Rattle.out_segments.specs.Keeping.{OnlyRead};
-ghost use Rattle.out_segments.specs.Settled.{AreSettled};
+ghost use Rattle.out_segments.specs.Inner.Keeping.{OnlyRead};
+ghost use Rattle.out_segments.specs.Inner.Settled.{AreSettled};
 
 use crate::ending::{part_of, reaches};
 use crate::parts::{PartFile, Parts};

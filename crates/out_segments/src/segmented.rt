@@ -5,9 +5,9 @@ ghost use Rattle.outside.specs.Content.{Gives};
 ghost use Rattle.outside.specs.Image.{AtFile, Torn, Holds, MayCut, IsCut, IsWithin, Same};
 ghost use Rattle.outside.specs.Crash.{Passes, IsDurable};
 ghost use Rattle.std.proofs.Props.{props};
-ghost use Rattle.out_segments.specs.AtOutput.{EmptiesBehind, KeepsLengths};
+ghost use Rattle.out_segments.specs.Inner.AtOutput.{EmptiesBehind, KeepsLengths};
 ghost use Rattle.out_segments.specs.Joined.{IsPartSize, whole_file};
-ghost use Rattle.out_segments.specs.Settled.{AreSettled};
+ghost use Rattle.out_segments.specs.Inner.Settled.{AreSettled};
 
 use crate::cutting::cut_output;
 use crate::ending::output_length;
@@ -77,7 +77,7 @@ fn settled_before(settled: u32, size: u64, offset: u64) -> u32
 impl<P: Parts> Disk for Segmented<P> {
     ghost use Rattle.out_segments.specs.SegmentedMeaning.{segmented_meaning, parts_of, size_of};
     ghost use Rattle.outside.specs.DiskCalls.{last_end, done_after, written_after};
-    ghost use Rattle.out_segments.specs.SegmentedLaws.{told_joined, shown_joined, now_joined, only_joined};
+    ghost use Rattle.out_segments.specs.Inner.SegmentedLaws.{told_joined, shown_joined, now_joined, only_joined};
 
     ghost meaning = { segmented_meaning P.meaning };
 

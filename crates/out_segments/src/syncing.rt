@@ -1,10 +1,10 @@
 // The sync of the output.
 ghost use Rattle.std.specs.Prelude.{◌≡◌, OnOk, IfOk};
 ghost use Rattle.outside.specs.Count.{HasCause};
-ghost use Rattle.out_segments.specs.AtOutput.{EachLeft};
+ghost use Rattle.out_segments.specs.Inner.AtOutput.{EachLeft};
 ghost use Rattle.out_segments.specs.Joined.{IsPartSize, output_of};
-ghost use Rattle.out_segments.specs.Keeping.{OnlyRead};
-ghost use Rattle.out_segments.specs.Settled.{AreSettled};
+ghost use Rattle.out_segments.specs.Inner.Keeping.{OnlyRead};
+ghost use Rattle.out_segments.specs.Inner.Settled.{AreSettled};
 
 use crate::calls::{length_of, sync_part};
 use crate::parts::Parts;

@@ -2,9 +2,9 @@
 ghost use Rattle.std.specs.Prelude.{◌≡◌, ◌≤◌, ◌<◌, ◌*◌, ◌/◌, ◌+◌, ◌%◌, ◌^◌, length, IsTrue, OnOk};
 ghost use Rattle.outside.specs.Count.{HasCause};
 ghost use Rattle.outside.specs.Image.{Torn, Holds};
-ghost use Rattle.out_segments.specs.AtOutput.{AtOutput, IsKept, IsShort, IsEmpty, HasRoom, EachLeft};
+ghost use Rattle.out_segments.specs.Inner.AtOutput.{AtOutput, IsKept, IsShort, IsEmpty, HasRoom, EachLeft};
 ghost use Rattle.out_segments.specs.Joined.{IsPartSize, output_of};
-ghost use Rattle.out_segments.specs.Keeping.{Changes};
+ghost use Rattle.out_segments.specs.Inner.Keeping.{Changes};
 
 use crate::calls::{length_of, sync_part, write_within};
 use crate::cutting::empty_part;

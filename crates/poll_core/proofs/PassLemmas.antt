@@ -13,7 +13,7 @@ use Rattle.file_tracker.specs.declared.row.Row.{Row}
 use Rattle.file_tracker.specs.Limits.{row_limit}
 use Rattle.glob_match.specs.Pattern.{Pattern}
 use Rattle.outside.specs.TreeMeaning.{TreeMeaning}
-use Rattle.poll_core.specs.Begun.{IsBegun}
+use Rattle.poll_core.specs.Inner.Begun.{IsBegun}
 use Rattle.poll_core.specs.PollCause.{HasPollCause, pass_refusal}
 use Rattle.poll_core.specs.declared.poll_fault.PollFault.{PollFault}
 use Rattle.poll_core.specs.declared.poll_fault.PollFault.TheVariants as poll

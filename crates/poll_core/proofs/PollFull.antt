@@ -18,7 +18,7 @@ use Rattle.poll_core.proofs.PollLines.{first_past}
 use Rattle.poll_core.proofs.PollPass.{come_earlier}
 use Rattle.poll_core.proofs.PollRows.{begins}
 use Rattle.poll_core.specs.Overflows.{Overflows}
-use Rattle.poll_core.specs.Passed.{PassFills}
+use Rattle.poll_core.specs.Inner.Passed.{PassFills}
 use Rattle.poll_core.specs.SessionParts.{poll_of_session, rules_of_session, kept_of, limit_of}
 use Rattle.poll_core.specs.declared.session.Session.{Session}
 use Rattle.standing.specs.Look.{Look}

@@ -15,7 +15,7 @@ use Rattle.outside.specs.World.{History, World, names}
 use Rattle.outside.specs.declared.tree.Kind.TheVariants.{File, Folder}
 use Rattle.poll_core.proofs.GoneLemmas.{Texts, WasLost, gone_differ, gone_there, lost_few}
 use Rattle.poll_core.proofs.SessionLemmas.{checkpoint_with}
-use Rattle.poll_core.specs.Begun.{no_counts}
+use Rattle.poll_core.specs.Inner.Begun.{no_counts}
 use Rattle.poll_core.specs.Polled.{stretch_of}
 use Rattle.poll_core.specs.Summed.{IsDeep, IsSummaryOf, HasDeepFolder, sums_of}
 use Rattle.poll_core.specs.declared.summary.Summary.{Summary}

@@ -30,9 +30,9 @@ use Rattle.pipeline.specs.AsRules.{rules_of}
 use Rattle.poll_core.proofs.EraLemmas.{poll_with}
 use Rattle.poll_core.proofs.Flagged.{StandsAt, flagged_all, flagged_ascend, flagged_has, flagged_stand}
 use Rattle.poll_core.proofs.RowLemmas.{rows_in_order, all_fine}
-use Rattle.poll_core.specs.Begun.{IsBegun}
+use Rattle.poll_core.specs.Inner.Begun.{IsBegun}
 use Rattle.poll_core.specs.IsSession.{IsSession}
-use Rattle.poll_core.specs.Kept.{KeepsTime}
+use Rattle.poll_core.specs.Inner.Kept.{KeepsTime}
 use Rattle.poll_core.specs.Next.{IsSavable}
 use Rattle.poll_core.specs.Remembers.{EndsWithMemory}
 use Rattle.poll_core.specs.SessionParts.{checkpoint_of_session, is_first, journal_of_session, poll_of_session, rules_of_session, settings_of_session, stamp_at, stamp_of_session, kept_of, limit_of}

@@ -15,8 +15,8 @@ use Rattle.outside.specs.Count.{raised}
 use Rattle.outside.specs.Lawful.{IsLawful, TellsLawful}
 use Rattle.outside.specs.World.{World, Told}
 use Rattle.poll_core.proofs.PollPass.{Joined, are_deep, joined, no_deep_out, summed}
-use Rattle.poll_core.specs.Begun.{no_counts}
-use Rattle.poll_core.specs.Passed.{Passed}
+use Rattle.poll_core.specs.Inner.Begun.{no_counts}
+use Rattle.poll_core.specs.Inner.Passed.{Passed}
 use Rattle.poll_core.proofs.PollRows.{begins, next_of_session}
 use Rattle.poll_core.specs.Polled.{Counting, IsPass, IsSummed, RoseBy, advance, counting}
 use Rattle.poll_core.specs.SessionParts.{checkpoint_of_session, poll_of_session, rules_of_session, kept_of}

@@ -20,11 +20,11 @@ use Rattle.poll_core.proofs.PollDisk.{early_pass, fewer_then, left_stands, mid_d
 use Rattle.poll_core.proofs.PollLines.{no_lines, within_own}
 use Rattle.poll_core.proofs.PollRows.{IsSetUp, begins, change_of_session, keeping_in, next_of_session, next_differ, next_fits, next_lawful, next_named, next_savable, next_stand, next_states, none_flagged, same_rows}
 use Rattle.poll_core.proofs.PollTold.{IsTimed, is_pass, is_summed, lines_by, rose_by}
-use Rattle.poll_core.specs.Begun.{IsQuiet}
+use Rattle.poll_core.specs.Inner.Begun.{IsQuiet}
 use Rattle.poll_core.specs.IsSession.{IsSession, IsShort}
-use Rattle.poll_core.specs.Kept.{Keeps, KeepsTime, to_keep}
+use Rattle.poll_core.specs.Inner.Kept.{Keeps, KeepsTime, to_keep}
 use Rattle.poll_core.specs.Next.{Costs, DifferInOutput, IsSavable, KeepsMemory, Saves}
-use Rattle.poll_core.specs.Passed.{Passed}
+use Rattle.poll_core.specs.Inner.Passed.{Passed}
 use Rattle.poll_core.specs.Polled.{ChangesNothing, ComesAfter, HasCost, HasNextJournal, HasToKeep, LeavesAll, MayGain, Polled, Stays}
 use Rattle.poll_core.specs.SessionParts.{checkpoint_of_session, poll_of_session, rules_of_session, journal_of_session, kept_of, limit_of, stamp_at, stamp_of_session}
 use Rattle.poll_core.specs.StandsOn.{StandsOn}

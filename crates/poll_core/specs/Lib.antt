@@ -19,9 +19,6 @@ pub mod PollCause
 pub mod Summed
 pub mod Polled
 pub mod Overflows
-pub mod Begun
-pub mod Passed
-pub mod Kept
 pub mod LeavesTree
 pub mod Since
 pub mod AdoptCause
@@ -29,3 +26,4 @@ pub mod AdoptFaults
 pub mod Adopting
 pub mod Adoption
 pub mod Unmade
+pub mod Inner

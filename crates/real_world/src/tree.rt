@@ -1,7 +1,7 @@
 // The machine's folders and plain files.
 ghost use Rattle.std.specs.Prelude.{◌≤◌, IfOk};
 ghost use Rattle.std.specs.Io.{ReadsAtMost};
-ghost use Rattle.real_world.specs.Found.{IsFoundSize};
+ghost use Rattle.real_world.specs.Inner.Found.{IsFoundSize};
 
 use crate::{TRIES, counted, counted_call, is_missing};
 use entry_model::Text;

@@ -23,7 +23,7 @@ use Rattle.recombine.specs.Limits.{group_limit, batch_limit}
 use Rattle.recombine.specs.Group.{Group}
 use Rattle.recombine.specs.Reading.{such_that, number_within, source_at, group_at, groups_behind, groups_at}
 use Rattle.recombine.specs.Restores.{IsPart, IsDeadEnd, FailsAt, Restores}
-use Rattle.recombine.specs.Told.{IsRead, IsRefused, Finds}
+use Rattle.recombine.specs.Inner.Told.{IsRead, IsRefused, Finds}
 use Rattle.recombine.specs.Table.{IsAt, IsOpen, AreOpen, groups_seen}
 use Rattle.recombine.specs.declared.group.OpenGroup.{OpenGroup}
 use Rattle.recombine.specs.Rules.{KeepsRules, KeepRules, AreSpellable}

@@ -13,5 +13,5 @@ pub mod Table
 pub mod Spelling
 pub mod Rules
 pub mod Reading
-pub mod Told
 pub mod Restores
+pub mod Inner

@@ -6,7 +6,7 @@ ghost use Rattle.recombine.specs.Restores.{Restores};
 ghost use Rattle.recombine.specs.Rules.{AreSpellable, KeepsRules};
 ghost use Rattle.recombine.specs.Spelling.{group_spelling, groups_spelling};
 ghost use Rattle.recombine.specs.Table.{group_seen, IsOpen};
-ghost use Rattle.recombine.specs.Told.{Finds};
+ghost use Rattle.recombine.specs.Inner.Told.{Finds};
 
 use crate::group::OpenGroup;
 use crate::{BATCH_LIMIT, GROUP_LIMIT, Groups};

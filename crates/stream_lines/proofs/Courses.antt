@@ -7,7 +7,7 @@ use Rattle.outside.specs.Stream.{Takes}
 use Rattle.outside.specs.World.{Told}
 use Rattle.outside.proofs.Telling.{told_same, told_then}
 use Rattle.pipeline.specs.declared.Pipeline.{Pipeline}
-use Rattle.stream_lines.specs.HasTaken.{HasTaken, IsSane}
+use Rattle.stream_lines.specs.Inner.HasTaken.{HasTaken, IsSane}
 use Rattle.stream_lines.specs.Limits.{most_taken}
 use Rattle.stream_lines.specs.Prints.{Prints, PrintsAll, Tells}
 use Rattle.stream_lines.specs.StreamLines.{lines_of, open_lines, whole_lines}

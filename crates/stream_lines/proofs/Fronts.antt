@@ -7,7 +7,7 @@ use Rattle.std.proofs.lemmas.List.{append-nil, get_or_append_left, get_or-append
 use Rattle.otlp_json.specs.IsOneLine.{IsOneLine}
 use Rattle.standing.specs.Marks.{Mark}
 use Rattle.file_pass.specs.Full.{Crosses, line_of, lines_text}
-use Rattle.stream_lines.specs.WholeFront.{IsWholeFront}
+use Rattle.stream_lines.specs.Inner.WholeFront.{IsWholeFront}
 
 module _ (one_line : (mark : Mark) → IsOneLine (line_of mark)) where
   size_of : (mark : Mark) → length (line_of mark) ≡ length (one_line mark).content + 1

@@ -20,7 +20,7 @@ use Rattle.pipeline.specs.declared.state.FileState.{FileState}
 use Rattle.standing.specs.Marks.{Mark, numbered}
 use Rattle.standing.proofs.MarkLemmas.{numbered-append}
 use Rattle.file_pass.specs.Full.{lines_text}
-use Rattle.stream_lines.specs.HasTaken.{HasTaken}
+use Rattle.stream_lines.specs.Inner.HasTaken.{HasTaken}
 use Rattle.stream_lines.specs.StreamLines.{given_for, held_back, open_lines, open_records, stream_origin, stream_path, whole_lines}
 use Rattle.stream_lines.specs.declared.stream.Stream.{Stream}
 

@@ -6,7 +6,7 @@ ghost use Rattle.standing.specs.Marks.{Mark};
 ghost use Rattle.stream_lines.specs.Causes.{HasReportCause};
 ghost use Rattle.stream_lines.specs.Limits.{most_printed};
 ghost use Rattle.stream_lines.specs.Prints.{Prints, Tells};
-ghost use Rattle.stream_lines.specs.WholeFront.{IsWholeFront};
+ghost use Rattle.stream_lines.specs.Inner.WholeFront.{IsWholeFront};
 
 use crate::fault::StreamFault;
 use file_pass::past_limit;

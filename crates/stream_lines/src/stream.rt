@@ -3,7 +3,7 @@ ghost use Rattle.std.specs.Prelude.{◌≡◌, ℕ, ◌+◌, ◌≤◌, ◌^◌,
 ghost use Rattle.file_pass.specs.Full.{lines_text};
 ghost use Rattle.outside.specs.World.{Told};
 ghost use Rattle.stream_lines.specs.Causes.{HasReportCause, HasSourceCause};
-ghost use Rattle.stream_lines.specs.HasTaken.{HasTaken, IsSane};
+ghost use Rattle.stream_lines.specs.Inner.HasTaken.{HasTaken, IsSane};
 ghost use Rattle.stream_lines.specs.Prints.{Prints, Tells};
 ghost use Rattle.stream_lines.specs.StreamLines.{open_lines, whole_lines};
 ghost use Rattle.stream_lines.specs.Streams.{Streams};

@@ -5,7 +5,7 @@ use Rattle.std.proofs.lemmas.Slice.Eq.{bytes_eq-Decides}
 use lib.Utf8.{encode}
 use Rattle.std.specs.Bool.{Decides}
 use Rattle.std.specs.Str.Pattern.{HasCharAt}
-use Rattle.syslog_parser.specs.Reads.{PutsMessage}
+use Rattle.syslog_parser.specs.Inner.Reads.{PutsMessage}
 use Rattle.syslog_parser.specs.Rfc5424.{without_mark, IsEnd, no_message, a_message}
 use Rattle.syslog_parser.specs.Told.{Member, put_all, told_message}
 use Rattle.syslog_parser.proofs.Words.{if_true, if_false}

@@ -1,7 +1,7 @@
 -- What the bytes that end a word are not.
 use Rattle.std.proofs.Common.{◌≡◌, ℕ, ◌∙◌, ap, refl, Bool, true, false, not, ◌||◌, ◌==◌, eqb-true}
 use Rattle.syslog_parser.specs.Bytes.{is_printable, is_name_byte}
-use Rattle.syslog_parser.specs.Reads.{is_space, is_equals_sign, ends_id}
+use Rattle.syslog_parser.specs.Inner.Reads.{is_space, is_equals_sign, ends_id}
 
 -- a byte that passes is none of those that don't
 other_byte : (kind : ℕ → Bool) (byte k : ℕ) → kind k ≡ false → kind byte ≡ true → (byte == k) ≡ false

@@ -2,7 +2,7 @@
 use Rattle.std.proofs.Common.{◌≡◌, ℕ, suc, ◌-◌, ◌<◌, ◌≤◌, ◌⊎◌, inl, inr, List, [], ◌∷◌, ◌++◌, ◌∙◌, ap, sym, refl, Option, None, Some, Ok, Err, Bool, true, false, ◌&&◌, ◌==◌, cond, length, take, drop, get_or, nat_lt, take_while, append_assoc, arith}
 use Rattle.std.proofs.lemmas.List.{append-nil, drop_more, take-append-drop, length-drop}
 use Rattle.syslog_parser.specs.Bytes.{is_not_space, is_tag_byte, is_bracketed}
-use Rattle.syslog_parser.specs.Reads.{ends_tag, StopsInHost, StopsInTag}
+use Rattle.syslog_parser.specs.Inner.Reads.{ends_tag, StopsInHost, StopsInTag}
 use Rattle.syslog_parser.specs.Rfc3164.{without_space, IsProcess, no_process, a_process, Tail, IsTail}
 use Rattle.syslog_parser.specs.States3164.{Named, State, in_host, in_tag, in_process, wants_colon, behind_colon, in_message, is_begun, tag_end, step, value_at, tail_of, outcome}
 use Rattle.syslog_parser.specs.Words.{IsWord}

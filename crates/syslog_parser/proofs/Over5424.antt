@@ -4,7 +4,7 @@ use Rattle.std.proofs.lemmas.Bool.Decides.{nat_tests}
 use Rattle.std.proofs.lemmas.List.{append-nil}
 use Rattle.syslog_parser.specs.Bytes.{is_printable, is_name_byte, is_special, is_plain, is_not_space}
 use Rattle.syslog_parser.specs.Machines as machines
-use Rattle.syslog_parser.specs.Reads.{is_space, is_equals_sign, ends_id, HasNoWord, StopsInFields, here, later, BeginsWith}
+use Rattle.syslog_parser.specs.Inner.Reads.{is_space, is_equals_sign, ends_id, HasNoWord, StopsInFields, here, later, BeginsWith}
 use Rattle.syslog_parser.specs.Rfc5424.{Limited, Valued, AreFields, no_field, a_field, IsEnd, no_message, a_message, Tail, IsTail, without_mark}
 use Rattle.syslog_parser.specs.States5424.{Before, Within, State, in_field, wants_data, behind_none, wants_element, in_id, in_name, wants_quote, in_value, in_escape, behind_value, behind_element, in_message, fields_on, with_element, with_param, is_begun, param_step, step, value_at, tail_of, outcome, start}
 use Rattle.syslog_parser.specs.Structured.{IsName, IsContent, a_quote, a_plain, an_escape, a_backslash, Param, IsParam, a_param, AreParams, no_param, next_param, Element, IsElement, an_element, AreElements, last_element, next_element, IsData, no_data, some_data}

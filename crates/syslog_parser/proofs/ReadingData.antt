@@ -3,7 +3,7 @@ use Rattle.std.proofs.Common.{◌≡◌, ℕ, List, [], ◌∷◌, ◌++◌, ◌
 use Rattle.std.proofs.lemmas.List.{append-nil, map-append}
 use Rattle.entry_model.specs.Datum.{fields, members_of}
 use Rattle.syslog_parser.specs.Bytes.{is_name_byte, is_not_space}
-use Rattle.syslog_parser.specs.Reads.{BeginsWith, HasNoWord, ends_id, IsIdText, PutsParams, StopsInParams, PutsElement, StopsInElement, PutsElements, PutsData, StopsInData, PutsMessage, HasNoEnd, PutsTail}
+use Rattle.syslog_parser.specs.Inner.Reads.{BeginsWith, HasNoWord, ends_id, IsIdText, PutsParams, StopsInParams, PutsElement, StopsInElement, PutsElements, PutsData, StopsInData, PutsMessage, HasNoEnd, PutsTail}
 use Rattle.syslog_parser.specs.Rfc5424.{Valued}
 use Rattle.syslog_parser.specs.States5424.{Before, wants_data, wants_element, in_id, behind_element, step, value_at, outcome}
 use Rattle.syslog_parser.specs.Structured.{Element, IsElement, an_element, AreElements, last_element, next_element, IsData, no_data, some_data}

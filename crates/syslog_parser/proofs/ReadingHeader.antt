@@ -2,7 +2,7 @@
 use Rattle.std.proofs.Common.{◌≡◌, ℕ, ◌≤◌, List, [], ◌∷◌, ◌∙◌, ap, sym, refl, subst}
 use Rattle.syslog_parser.specs.declared.fault.Stop.{Stop}
 use Rattle.syslog_parser.specs.Bytes.{is_printable}
-use Rattle.syslog_parser.specs.Reads.{StopsWith, HasNoWord, is_space, StopsInFields, here, later, PutsField, PutsHeader}
+use Rattle.syslog_parser.specs.Inner.Reads.{StopsWith, HasNoWord, is_space, StopsInFields, here, later, PutsField, PutsHeader}
 use Rattle.syslog_parser.specs.Rfc5424.{Limited, Valued, header_fields, AreFields, no_field, a_field}
 use Rattle.syslog_parser.specs.Told.{Member, put_all, told_field, told_fields}
 use Rattle.syslog_parser.proofs.Putting.{put_all-append}

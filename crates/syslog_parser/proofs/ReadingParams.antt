@@ -2,7 +2,7 @@
 use Rattle.std.proofs.Common.{◌≡◌, ℕ, List, [], ◌∷◌, ◌++◌, ◌∙◌, ap, sym, refl, subst, Err, false, ◌&&◌, ◌==◌, length, get_or, nat_lt, map, append_assoc, arith}
 use Rattle.std.proofs.lemmas.List.{append-nil, map-append}
 use Rattle.syslog_parser.specs.Bytes.{is_name_byte}
-use Rattle.syslog_parser.specs.Reads.{HasNoWord, is_equals_sign, IsNameText, StopsInValue, PutsParam, StopsInParam, PutsParams, StopsInParams}
+use Rattle.syslog_parser.specs.Inner.Reads.{HasNoWord, is_equals_sign, IsNameText, StopsInValue, PutsParam, StopsInParam, PutsParams, StopsInParams}
 use Rattle.syslog_parser.specs.States5424.{Within, in_name, wants_quote, behind_value, step, value_at, outcome}
 use Rattle.syslog_parser.specs.Structured.{IsContent, Param, IsParam, a_param, AreParams, no_param, next_param}
 use Rattle.syslog_parser.specs.Told.{Member, put, put_all, told_param}

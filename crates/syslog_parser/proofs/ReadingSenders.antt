@@ -1,7 +1,7 @@
 -- Reading what stands behind the time of RFC 3164.
 use Rattle.std.proofs.Common.{◌≡◌, ℕ, ◌+◌, ◌-◌, ◌⊎◌, List, [], ◌∷◌, ◌++◌, ◌∙◌, ap, sym, subst, Option, None, Some, Bool, true, false, ◌&&◌, ◌||◌, ◌==◌, length, drop, get_or, nat_lt, take_while, arith, eqb-true}
 use Rattle.syslog_parser.specs.Bytes.{is_bracketed}
-use Rattle.syslog_parser.specs.Reads.{ends_tag, BeginsWith, IsHostText, StopsInHost, IsTagText, StopsInTag, StopsInProcess}
+use Rattle.syslog_parser.specs.Inner.Reads.{ends_tag, BeginsWith, IsHostText, StopsInHost, IsTagText, StopsInTag, StopsInProcess}
 use Rattle.syslog_parser.specs.Rfc3164.{without_space, IsProcess, no_process, a_process, IsTail}
 use Rattle.syslog_parser.specs.States3164.{in_host, in_tag, in_process, is_begun, outcome}
 use Rattle.syslog_parser.specs.Words.{IsWord}

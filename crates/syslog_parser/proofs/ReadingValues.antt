@@ -3,7 +3,7 @@ use Rattle.std.proofs.Common.{◌≡◌, ◌≢◌, ℕ, suc, ◌+◌, ◌-◌, 
 use Rattle.std.proofs.lemmas.List.{append-nil, drop_all, drop_more, take-append-drop, length-drop}
 use Rattle.std.specs.List.{list_all}
 use Rattle.syslog_parser.specs.Bytes.{is_special, is_plain}
-use Rattle.syslog_parser.specs.Reads.{Escapes, meant, itself, IsAtEnd, StopsInValue}
+use Rattle.syslog_parser.specs.Inner.Reads.{Escapes, meant, itself, IsAtEnd, StopsInValue}
 use Rattle.syslog_parser.specs.States5424.{Within, in_value, step, value_at, outcome}
 use Rattle.syslog_parser.specs.Structured.{IsContent, a_quote, a_plain, an_escape, a_backslash}
 use Rattle.syslog_parser.proofs.OtherBytes.{not_not}

@@ -4,7 +4,7 @@ use Rattle.std.proofs.lemmas.List.{append-nil, drop_more, take-append-drop, leng
 use Rattle.std.proofs.lemmas.List.Sums.{prefix_len-le-length, prefix_len_stops}
 use Rattle.std.specs.List.{list_all, prefix_len}
 use Rattle.syslog_parser.specs.Machines.{outcome}
-use Rattle.syslog_parser.specs.Reads.{HasNoWord}
+use Rattle.syslog_parser.specs.Inner.Reads.{HasNoWord}
 use Rattle.syslog_parser.proofs.Running.{outcome_goes, outcome_stops, outcome_unfinished}
 use Rattle.syslog_parser.proofs.Words.{both, all_taken_short}
 

@@ -2,7 +2,7 @@
 use Rattle.std.proofs.Common.{ℕ, Result, Ok, Err, OnOk}
 use Rattle.syslog_parser.specs.declared.fault.Stop.{Stop}
 use Rattle.syslog_parser.specs.declared.fault.Stop.TheVariants.{At, Memory}
-use Rattle.syslog_parser.specs.Reads.{StopsWith}
+use Rattle.syslog_parser.specs.Inner.Reads.{StopsWith}
 
 pub stops_so : (P Q : ℕ → Type 0) → ((left : ℕ) → P left → Q left) → (stop : Stop) → StopsWith P stop → StopsWith Q stop
 stops_so P Q f (At left) p = f left p

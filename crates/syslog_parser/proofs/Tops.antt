@@ -7,7 +7,7 @@ use Rattle.syslog_parser.specs.declared.fault.Stop.{Stop}
 use Rattle.syslog_parser.specs.declared.fault.Stop.TheVariants.{At, Memory}
 use Rattle.syslog_parser.specs.Faults.{Tells5424, Tells3164, HasNoTime, IsFault5424, HasNoTag}
 use Rattle.syslog_parser.specs.Priorities.{IsPriority}
-use Rattle.syslog_parser.specs.Reads.{StopsWith, StopsInFields, here, later, StopsInData, PutsTail, header_fault, structured_fault, StopsInHost, HasNoWord, is_space}
+use Rattle.syslog_parser.specs.Inner.Reads.{StopsWith, StopsInFields, here, later, StopsInData, PutsTail, header_fault, structured_fault, StopsInHost, HasNoWord, is_space}
 use Rattle.syslog_parser.specs.Rfc3164 as rfc3164
 use Rattle.syslog_parser.specs.Rfc5424 as rfc5424
 use Rattle.syslog_parser.specs.Rfc5424.{Limited, Valued, header_fields, AreFields, no_field, a_field}

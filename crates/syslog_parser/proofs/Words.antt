@@ -4,7 +4,7 @@ use Rattle.std.proofs.lemmas.List.{drop_more, take-append-drop, take-take}
 use Rattle.std.proofs.lemmas.List.Folds.{length-prefix_len, list_all-append}
 use Rattle.std.proofs.lemmas.List.Sums.{take_while-cons, prefix_len-le-length, prefix_len_passes, prefix_len_stops}
 use Rattle.std.specs.List.{list_all, prefix_len}
-use Rattle.syslog_parser.specs.Reads.{HasNoWord, BeginsWith}
+use Rattle.syslog_parser.specs.Inner.Reads.{HasNoWord, BeginsWith}
 use Rattle.syslog_parser.specs.Words.{IsWord, IsShortWord}
 
 pub if_true : {A : Type 0} (b : Bool) (m n : A) → b ≡ true → cond b m n ≡ m

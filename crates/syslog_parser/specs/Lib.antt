@@ -11,5 +11,4 @@ pub mod States5424
 pub mod States3164
 pub mod Told
 pub mod Faults
-pub mod Reads
-pub mod Senders
+pub mod Inner

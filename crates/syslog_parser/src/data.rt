@@ -2,7 +2,7 @@
 ghost use Rattle.std.specs.Prelude.{◌≡◌, IfOk, IfErr};
 ghost use Rattle.entry_model.specs.Seen.{seen};
 ghost use Rattle.syslog_parser.specs.Bytes.{is_name_byte};
-ghost use Rattle.syslog_parser.specs.Reads.{StopsWith, HasNoWord, ends_id, IsIdText, PutsElement, StopsInElement, PutsElements, PutsData, StopsInData};
+ghost use Rattle.syslog_parser.specs.Inner.Reads.{StopsWith, HasNoWord, ends_id, IsIdText, PutsElement, StopsInElement, PutsElements, PutsData, StopsInData};
 
 use crate::bytes::name_count;
 use crate::cuts::{cut, split, stands, stands_either};

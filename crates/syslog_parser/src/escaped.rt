@@ -1,6 +1,6 @@
 // Values of parameters (RFC 5424, section 6.3.3).
 ghost use Rattle.std.specs.Prelude.{◌≡◌, ◌≤◌, IfOk, IfErr, OnOk, length, string_bytes};
-ghost use Rattle.syslog_parser.specs.Reads.{StopsWith, StopsInValue, Escapes, IsAtEnd};
+ghost use Rattle.syslog_parser.specs.Inner.Reads.{StopsWith, StopsInValue, Escapes, IsAtEnd};
 ghost use Rattle.syslog_parser.specs.Structured.{IsContent};
 
 use crate::bytes::{is_special, plain_count};

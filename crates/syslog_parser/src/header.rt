@@ -2,7 +2,7 @@
 ghost use Rattle.std.specs.Prelude.{◌≡◌, IfOk, IfErr, codes};
 ghost use Rattle.entry_model.specs.Seen.{seen};
 ghost use Rattle.syslog_parser.specs.Bytes.{is_printable};
-ghost use Rattle.syslog_parser.specs.Reads.{StopsWith, HasNoWord, is_space, IsFieldText, StopsInFields, PutsField, PutsHeader};
+ghost use Rattle.syslog_parser.specs.Inner.Reads.{StopsWith, HasNoWord, is_space, IsFieldText, StopsInFields, PutsField, PutsHeader};
 ghost use Rattle.syslog_parser.specs.Rfc5424.{header_fields};
 
 use crate::bytes::printable_count;

@@ -1,7 +1,7 @@
 // The message itself (RFC 5424, section 6.4).
 ghost use Rattle.std.specs.Prelude.{◌≡◌, IfErr, OnOk};
 ghost use Rattle.entry_model.specs.Seen.{seen};
-ghost use Rattle.syslog_parser.specs.Reads.{StopsWith, PutsMessage, HasNoEnd};
+ghost use Rattle.syslog_parser.specs.Inner.Reads.{StopsWith, PutsMessage, HasNoEnd};
 ghost use Rattle.syslog_parser.specs.Rfc5424.{without_mark as text_without_mark};
 ghost use Rattle.syslog_parser.specs.Told.{put_all, told_message};
 

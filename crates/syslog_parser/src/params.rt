@@ -2,7 +2,7 @@
 ghost use Rattle.std.specs.Prelude.{◌≡◌, IfOk, IfErr};
 ghost use Rattle.entry_model.specs.Seen.{seen};
 ghost use Rattle.syslog_parser.specs.Bytes.{is_name_byte};
-ghost use Rattle.syslog_parser.specs.Reads.{StopsWith, HasNoWord, is_equals_sign, IsNameText, PutsParam, StopsInParam, PutsParams, StopsInParams};
+ghost use Rattle.syslog_parser.specs.Inner.Reads.{StopsWith, HasNoWord, is_equals_sign, IsNameText, PutsParam, StopsInParam, PutsParams, StopsInParams};
 
 use crate::bytes::name_count;
 use crate::cuts::{cut, stands};

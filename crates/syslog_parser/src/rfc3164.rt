@@ -2,7 +2,7 @@
 ghost use Rattle.std.specs.Prelude.{◌≡◌, IfOk, IfErr, OnOk, option_map};
 ghost use Rattle.entry_model.specs.Seen.{seen};
 ghost use Rattle.syslog_parser.specs.Faults.{Tells3164, IsFault3164};
-ghost use Rattle.syslog_parser.specs.Senders.{tail_of};
+ghost use Rattle.syslog_parser.specs.Inner.Senders.{tail_of};
 ghost use Rattle.syslog_parser.specs.Told.{meaning_of, put_all, told_process, told_sender};
 
 use crate::members::put_text;

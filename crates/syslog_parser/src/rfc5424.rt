@@ -2,7 +2,7 @@
 ghost use Rattle.std.specs.Prelude.{◌≡◌, ◌≤◌, IfOk, IfErr, OnOk};
 ghost use Rattle.entry_model.specs.Seen.{seen};
 ghost use Rattle.syslog_parser.specs.Faults.{Tells5424, IsFault5424};
-ghost use Rattle.syslog_parser.specs.Reads.{StopsWith, StopsInData, PutsTail, header_fault, structured_fault};
+ghost use Rattle.syslog_parser.specs.Inner.Reads.{StopsWith, StopsInData, PutsTail, header_fault, structured_fault};
 ghost use Rattle.syslog_parser.specs.Told.{meaning_of};
 
 use crate::data::put_data;

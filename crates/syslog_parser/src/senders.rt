@@ -1,8 +1,8 @@
 // What stands behind the time of RFC 3164 (section 4.1.2 and 4.1.3).
 ghost use Rattle.std.specs.Prelude.{◌≡◌, IfOk, IfErr, option_map};
-ghost use Rattle.syslog_parser.specs.Reads.{BeginsWith, IsHostText, StopsInHost, ends_tag, IsTagText, StopsInTag, StopsInProcess};
+ghost use Rattle.syslog_parser.specs.Inner.Reads.{BeginsWith, IsHostText, StopsInHost, ends_tag, IsTagText, StopsInTag, StopsInProcess};
 ghost use Rattle.syslog_parser.specs.Rfc3164.{IsProcess, IsTail, without_space as text_without_space};
-ghost use Rattle.syslog_parser.specs.Senders.{tail_of};
+ghost use Rattle.syslog_parser.specs.Inner.Senders.{tail_of};
 
 use crate::bytes::{bracketed_count, tag_count, unbroken_count};
 use crate::cuts::{cut, split, stands, stands_either};

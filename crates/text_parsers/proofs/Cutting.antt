@@ -13,7 +13,7 @@ use Rattle.std.specs.Char.{encode_utf8}
 use Rattle.std.specs.Str.{IsUtf8, IsCharBoundary, encode_utf8_all}
 use Rattle.text_parsers.specs.Blanks.{is_blank}
 use Rattle.text_parsers.specs.Cuts.{Delimiter, delimiter_len, begins_with, StandsAt, IsUncut, IsFirstCut}
-use Rattle.text_parsers.specs.Passed.{is_past, is_other}
+use Rattle.text_parsers.specs.Inner.Passed.{is_past, is_other}
 use Rattle.text_parsers.specs.Quotes.{is_quote, open_quote}
 
 pub uncut_at_end : (d : Delimiter) (text : List ℕ) (i : ℕ) → length text ≤ i → ((k : ℕ) → k < i → StandsAt d text k → ⊥) → IsUncut d text

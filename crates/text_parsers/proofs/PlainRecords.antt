@@ -10,7 +10,7 @@ use Rattle.csv.specs.declared.parser.State.TheVariants as st
 use Rattle.csv.specs.declared.parser.Action.{Action}
 use Rattle.csv.specs.declared.parser.Action.TheVariants as act
 use Rattle.text_parsers.specs.CsvRecords.{in_front, parts_of, config_with, records_of}
-use Rattle.text_parsers.specs.Plain.{is_plain}
+use Rattle.text_parsers.specs.Inner.Plain.{is_plain}
 
 -- one step that ends no record
 next_goes : (cfg : Config) (s after : State) (a : Action) (fields : List (List ℕ)) (field : List ℕ) (c : ℕ) (rest : List ℕ) → step cfg s c ≡ (after, a) → is_end a ≡ false

@@ -3,12 +3,11 @@ pub mod JsonObjects
 pub mod Blanks
 pub mod Quotes
 pub mod Cuts
-pub mod Passed
 pub mod Pieces
 pub mod Pairs
 pub mod CsvRecords
-pub mod Plain
 pub mod Split
 pub mod FirstRecord
 pub mod Groups
 pub mod ReadByDefault
+pub mod Inner

@@ -3,7 +3,7 @@ ghost use Rattle.std.specs.Prelude.{◌≡◌, ◌+◌, ◌≤◌, ◌<◌, [], 
 ghost use Rattle.std.specs.List.{prefix_len, starts_with};
 ghost use Rattle.std.specs.Str.{IsCharBoundary};
 ghost use Rattle.text_parsers.specs.Cuts.{begins_with, delimiter_len, IsFirstCut, IsUncut};
-ghost use Rattle.text_parsers.specs.Passed.{is_past, is_other};
+ghost use Rattle.text_parsers.specs.Inner.Passed.{is_past, is_other};
 ghost use Rattle.text_parsers.specs.Quotes.{is_quote};
 
 use crate::blanks::is_blank;

@@ -5,7 +5,7 @@ ghost use Rattle.csv.specs.Machine as machine;
 ghost use Rattle.csv.specs.Reading.{strip_bom};
 ghost use Rattle.csv.specs.Records.{fields_of, partial_of};
 ghost use Rattle.text_parsers.specs.CsvRecords.{config_with, records_of, parts_of};
-ghost use Rattle.text_parsers.specs.Plain.{is_plain as is_plain_byte};
+ghost use Rattle.text_parsers.specs.Inner.Plain.{is_plain as is_plain_byte};
 ghost use Rattle.text_parsers.specs.Split.{IsSplit};
 ghost use Rattle.text_parsers.specs.FirstRecord.{state_of, is_line_end as ends_line, is_other, IsStep, Takes, IsFirst, HasEnded};
 ghost use Rattle.text_parsers.specs.declared.fault.ParseFault.TheVariants.{Memory};

@@ -22,12 +22,12 @@ use Rattle.standing.proofs.MomentLemmas.{later_none}
 use Rattle.tree_walk.proofs.Lists.{contains_none, contains_one, contains_first, any_found, any_one, any_of_one, any_left, any_right, any_cases, gains_none, gains_one, gains_then, distinct_none, distinct_append, distinct_parts}
 use Rattle.tree_walk.proofs.Worlds.{later_moves, lists_none, lists_moves, lists_failed, lists_then, once_longer, always_shorter, folder_there}
 use Rattle.tree_walk.specs.Calls.{Counts, in_32_bits}
-use Rattle.tree_walk.specs.Entered.{IsChild, EntersIn, Enters}
-use Rattle.tree_walk.specs.Gained.{Gains, IsListed, TakesItems}
+use Rattle.tree_walk.specs.Inner.Entered.{IsChild, EntersIn, Enters}
+use Rattle.tree_walk.specs.Inner.Gained.{Gains, IsListed, TakesItems}
 use Rattle.standing.specs.Included.{IsIncluded}
 use Rattle.tree_walk.specs.Starts.{MayHold}
 use Rattle.tree_walk.specs.Times.{WasOnce, WasAlways}
-use Rattle.tree_walk.specs.FoundAt.{found_at}
+use Rattle.tree_walk.specs.Inner.FoundAt.{found_at}
 use Rattle.tree_walk.specs.Listings.{failures, listings}
 use Rattle.tree_walk.specs.Patterns.{patterns}
 use Rattle.tree_walk.specs.declared.findings.Findings.{Findings}

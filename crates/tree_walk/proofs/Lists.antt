@@ -11,7 +11,7 @@ use Rattle.std.proofs.lemmas.Map.Keys.{IsDistinct-from_sorted}
 use Rattle.std.proofs.lemmas.Map.Text.{is_eq-slice_cmp}
 use Rattle.std.specs.Cmp.Lexicographic.{slice_cmp}
 use Rattle.std.specs.Ordering.{nat_cmp, eq_by_cmp}
-use Rattle.tree_walk.specs.Gained.{Gains}
+use Rattle.tree_walk.specs.Inner.Gained.{Gains}
 use Rattle.tree_walk.specs.Walked.{Ascends}
 
 module _ {X : Type 0} where

@@ -17,10 +17,10 @@ use Rattle.outside.specs.declared.tree.Listed.{Listed}
 use Rattle.tree_walk.proofs.Lists.{contains_none, contains_one, contains_first, one_more, distinct_none, distinct_append, Apart, distinct_parts, distinct_of}
 use Rattle.tree_walk.proofs.Reaching.{start_met}
 use Rattle.tree_walk.specs.Depth.{depth, level_of}
-use Rattle.tree_walk.specs.Gained.{Gains, IsSorted}
+use Rattle.tree_walk.specs.Inner.Gained.{Gains, IsSorted}
 use Rattle.tree_walk.specs.ListsOnce.{ListsFolders, ListsOnce}
-use Rattle.tree_walk.specs.ListsSome.{ListsSome}
-use Rattle.tree_walk.specs.Reached.{ReachesIn, Reaches}
+use Rattle.tree_walk.specs.Inner.ListsSome.{ListsSome}
+use Rattle.tree_walk.specs.Inner.Reached.{ReachesIn, Reaches}
 use Rattle.tree_walk.specs.Starts.{IsStart, MayHold}
 use Rattle.tree_walk.specs.Listings.{failures}
 use Rattle.tree_walk.specs.Patterns.{patterns}

@@ -27,16 +27,16 @@ use Rattle.tree_walk.proofs.Lists.{contains_none, contains_first, contains_behin
 use Rattle.tree_walk.proofs.Worlds.{lawful_before, lists_none, lists_then, once_longer, always_shorter, folder_above}
 use Rattle.tree_walk.specs.Calls.{in_32_bits}
 use Rattle.tree_walk.specs.Depth.{depth, level_of}
-use Rattle.tree_walk.specs.Entered.{EntersIn, Enters, EntersLevel}
-use Rattle.tree_walk.specs.Finished.{IsFinished}
-use Rattle.tree_walk.specs.Gained.{Gains, IsSorted}
+use Rattle.tree_walk.specs.Inner.Entered.{EntersIn, Enters, EntersLevel}
+use Rattle.tree_walk.specs.Inner.Finished.{IsFinished}
+use Rattle.tree_walk.specs.Inner.Gained.{Gains, IsSorted}
 use Rattle.standing.specs.Included.{IsIncluded}
 use Rattle.tree_walk.specs.Starts.{IsStart, MayHold}
-use Rattle.tree_walk.specs.Reached.{ReachesIn, Reaches}
+use Rattle.tree_walk.specs.Inner.Reached.{ReachesIn, Reaches}
 use Rattle.tree_walk.specs.Times.{WasAlways}
 use Rattle.tree_walk.specs.Walked.{IsHidden, IsMet, FindsIn, Finds}
 use Rattle.tree_walk.specs.declared.findings.Findings.{Findings}
-use Rattle.tree_walk.specs.FoundAt.{found_at}
+use Rattle.tree_walk.specs.Inner.FoundAt.{found_at}
 use Rattle.tree_walk.specs.Listings.{failures, listings}
 use Rattle.tree_walk.specs.Patterns.{patterns}
 use Rattle.tree_walk.specs.declared.walk.Walk.{Walk}

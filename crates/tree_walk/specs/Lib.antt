@@ -2,13 +2,8 @@ pub mod Calls
 pub mod Depth
 pub mod Patterns
 pub mod Listings
-pub mod FoundAt
-pub mod Entered
-pub mod Finished
-pub mod Gained
 pub mod ListsOnce
-pub mod ListsSome
 pub mod Starts
-pub mod Reached
 pub mod Times
 pub mod Walked
+pub mod Inner

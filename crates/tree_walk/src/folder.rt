@@ -2,10 +2,10 @@
 ghost use Rattle.std.specs.Prelude.{◌≡◌, ◌∷◌, [], OnOk};
 ghost use Rattle.outside.specs.World.{Told};
 ghost use Rattle.tree_walk.specs.Calls.{Lasts};
-ghost use Rattle.tree_walk.specs.Entered.{Enters};
-ghost use Rattle.tree_walk.specs.FoundAt.{found_at};
-ghost use Rattle.tree_walk.specs.Gained.{TakesItems};
-ghost use Rattle.tree_walk.specs.ListsSome.{ListsSome};
+ghost use Rattle.tree_walk.specs.Inner.Entered.{Enters};
+ghost use Rattle.tree_walk.specs.Inner.FoundAt.{found_at};
+ghost use Rattle.tree_walk.specs.Inner.Gained.{TakesItems};
+ghost use Rattle.tree_walk.specs.Inner.ListsSome.{ListsSome};
 ghost use Rattle.tree_walk.specs.Patterns.{patterns};
 
 use crate::findings::Findings;

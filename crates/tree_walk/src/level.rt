@@ -5,9 +5,9 @@ ghost use Rattle.std.specs.Str.{bytes_eq};
 ghost use Rattle.outside.specs.World.{Told};
 ghost use Rattle.tree_walk.specs.Calls.{Lasts};
 ghost use Rattle.tree_walk.specs.Depth.{level_of};
-ghost use Rattle.tree_walk.specs.Entered.{Enters, EntersLevel};
-ghost use Rattle.tree_walk.specs.FoundAt.{found_at};
-ghost use Rattle.tree_walk.specs.ListsSome.{ListsSome};
+ghost use Rattle.tree_walk.specs.Inner.Entered.{Enters, EntersLevel};
+ghost use Rattle.tree_walk.specs.Inner.FoundAt.{found_at};
+ghost use Rattle.tree_walk.specs.Inner.ListsSome.{ListsSome};
 ghost use Rattle.tree_walk.specs.Patterns.{patterns};
 
 use crate::findings::Findings;

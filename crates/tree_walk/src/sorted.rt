@@ -1,6 +1,6 @@
 // Paths in order.
 ghost use Rattle.std.specs.Prelude.{IfOk};
-ghost use Rattle.tree_walk.specs.Gained.{IsSorted};
+ghost use Rattle.tree_walk.specs.Inner.Gained.{IsSorted};
 
 use entry_model::Text;
 use std::alloc::AllocError;

@@ -4,7 +4,7 @@ ghost use Rattle.glob_match.specs.Leading.{LeadsToMatches};
 ghost use Rattle.glob_match.specs.Pattern.{Pattern};
 ghost use Rattle.glob_match.specs.Start.{start};
 ghost use Rattle.tree_walk.specs.Depth.{level_of};
-ghost use Rattle.tree_walk.specs.Gained.{Gains};
+ghost use Rattle.tree_walk.specs.Inner.Gained.{Gains};
 
 use crate::path::depth;
 use crate::walk::MAX_DEPTH;

@@ -1,7 +1,7 @@
 // The walk for the files that patterns include.
 ghost use Rattle.std.specs.Prelude.{IfOk};
 ghost use Rattle.tree_walk.specs.Calls.{Lasts};
-ghost use Rattle.tree_walk.specs.Finished.{IsFinished};
+ghost use Rattle.tree_walk.specs.Inner.Finished.{IsFinished};
 ghost use Rattle.tree_walk.specs.ListsOnce.{ListsOnce};
 ghost use Rattle.tree_walk.specs.Walked.{Finds};
 

@@ -13,7 +13,7 @@ use Rattle.graph_core.specs.Traces.{Network, Call, calls_to, calls_of_targets, c
 use Rattle.graph_core.specs.Wiring.{wiring_of, edges_of, entry_of, same_target}
 use Rattle.graph_core.specs.declared.NodeSpec.{NodeSpec}
 use Rattle.whole_runs.specs.Requests.{Request, requests, closings_of}
-use Rattle.whole_runs.specs.Serving.{calls_not_to}
+use Rattle.whole_runs.specs.Inner.Serving.{calls_not_to}
 
 -- where the inputs of a graph go
 pub entry_none : {Op : Type 0} (nodes : List (NodeSpec Op)) → length nodes ≡ 0 → entry_of (wiring_of nodes) ≡ Out

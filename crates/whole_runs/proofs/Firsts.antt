@@ -3,7 +3,7 @@ use Rattle.std.proofs.Common.{◌≡◌, ◌⊎◌, inl, inr, ℕ, true, false, 
 use Rattle.std.proofs.lemmas.Bool.{cases_Bool, cond-true, cond-false}
 use Rattle.graph_core.specs.Traces.{Call, is_before, insert_call, by_address}
 use Rattle.graph_core.specs.Runs.{IsAscending}
-use Rattle.whole_runs.specs.TakesFirst.{ComesFirst}
+use Rattle.whole_runs.specs.Inner.TakesFirst.{ComesFirst}
 use Rattle.graph_core.proofs.Addresses.{before_irrefl, before_trans, before_total}
 use Rattle.graph_core.proofs.Members.{Has-append_cases}
 use Rattle.graph_core.proofs.Sorting.{from_by_address, by_address_ascends}

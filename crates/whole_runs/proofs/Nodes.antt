@@ -11,7 +11,7 @@ use Rattle.graph_core.specs.declared.Target.TheVariants.{Node}
 use Rattle.graph_core.specs.Traces.{Network, network_of, Call, state_after, by_address, calls_to, calls_of_trace, calls_from}
 use Rattle.graph_core.specs.Wiring.{ports_of}
 use Rattle.graph_core.proofs.Delivering.{ports_of_index}
-use Rattle.whole_runs.specs.Serving.{calls_not_to, taken_by, states_behind, calls_behind, states_in_order, calls_in_order}
+use Rattle.whole_runs.specs.Inner.Serving.{calls_not_to, taken_by, states_behind, calls_behind, states_in_order, calls_in_order}
 
 module _ {Op State Item : Type 0} (behavior : Op → Behavior State Item) (nodes : List (NodeSpec Op)) (v : ℕ) (node : NodeSpec Op) (states : List State) (state : State)
     (within : v < length nodes) (is_node : node ≡ get_or nodes v node) (many : length states ≡ length nodes) (is_state : state ≡ get_or states v state) where

@@ -16,7 +16,7 @@ use Rattle.graph_core.proofs.Logs.{made_target, same_target-is, get_set_same, ge
 use Rattle.graph_core.proofs.Traces.{ext_slice_get}
 use Rattle.graph_core.proofs.Walks.{CallersListed, CallersListed-more}
 use Rattle.whole_runs.proofs.Below.{order_below}
-use Rattle.whole_runs.specs.Serving.{calls_not_to, states_behind, calls_behind, states_in_order, calls_in_order}
+use Rattle.whole_runs.specs.Inner.Serving.{calls_not_to, states_behind, calls_behind, states_in_order, calls_in_order}
 
 same_targets : (t u to : Target) → same_target t to ≡ true → same_target u to ≡ true → t ≡ u
 same_targets t u to h k = sym (same_target-is t to h) ∙ same_target-is u to k

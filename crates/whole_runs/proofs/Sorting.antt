@@ -6,7 +6,7 @@ use Rattle.graph_core.specs.Runs.{IsAscending}
 use Rattle.graph_core.proofs.Addresses.{before_trans}
 use Rattle.graph_core.proofs.Sorting.{by_address_ascends}
 use Rattle.graph_core.proofs.Members.{Has-append_left, Has-append_right, Has-append_cases}
-use Rattle.whole_runs.specs.TakesFirst.{HasAddress}
+use Rattle.whole_runs.specs.Inner.TakesFirst.{HasAddress}
 use Rattle.whole_runs.proofs.Firsts.{parts_in_order}
 
 module _ {Item : Type 0} where

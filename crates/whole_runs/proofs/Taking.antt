@@ -11,8 +11,8 @@ use Rattle.graph_core.specs.Traces.{Call, is_before}
 use Rattle.graph_core.specs.Runs.{IsAscending}
 use Rattle.graph_core.proofs.Addresses.{before_lt, before_trans, before_total}
 use Rattle.graph_core.proofs.Delivering.{nil_from_drop}
-use Rattle.whole_runs.specs.TakesFirst.{ComesFirst, TakesFirst}
-use Rattle.whole_runs.specs.Turns.{IsFrontsTurn, IsBacksTurn, HaveOneFirst}
+use Rattle.whole_runs.specs.Inner.TakesFirst.{ComesFirst, TakesFirst}
+use Rattle.whole_runs.specs.Inner.Turns.{IsFrontsTurn, IsBacksTurn, HaveOneFirst}
 use Rattle.whole_runs.proofs.Firsts.{first_in_front, first_in_back, first_in_each}
 
 last_alone : (s t u : Bool) → s ≡ false → t ≡ true → (s || (t && u)) ≡ u

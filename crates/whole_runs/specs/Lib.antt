@@ -1,4 +1,2 @@
 pub mod Requests
-pub mod Serving
-pub mod TakesFirst
-pub mod Turns
+pub mod Inner

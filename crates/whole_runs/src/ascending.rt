@@ -2,8 +2,8 @@
 ghost use Rattle.std.specs.Prelude.{◌≡◌, ◌<◌, ◌≤◌, true, false, [], ◌++◌, length, IfOk, IfSome, IfNone};
 ghost use Rattle.graph_core.specs.Runs.{IsAscending};
 ghost use Rattle.graph_core.specs.Traces as traces;
-ghost use Rattle.whole_runs.specs.TakesFirst.{HasAddress, TakesFirst};
-ghost use Rattle.whole_runs.specs.Turns.{IsFrontsTurn, IsBacksTurn, HaveOneFirst, IsTurn};
+ghost use Rattle.whole_runs.specs.Inner.TakesFirst.{HasAddress, TakesFirst};
+ghost use Rattle.whole_runs.specs.Inner.Turns.{IsFrontsTurn, IsBacksTurn, HaveOneFirst, IsTurn};
 
 use crate::call::Call;
 use std::alloc::{AllocError, Global};

@@ -4,7 +4,7 @@ ghost use Rattle.graph_core.specs.Closing.{closing_order};
 ghost use Rattle.graph_core.specs.Traces.{network_of, calls_to, calls_from};
 ghost use Rattle.graph_core.specs.Wiring.{wiring_of, edges_of};
 ghost use Rattle.graph_core.specs.Wiring as wiring;
-ghost use Rattle.whole_runs.specs.Serving.{calls_not_to, taken_by, states_behind, calls_behind, states_in_order, calls_in_order};
+ghost use Rattle.whole_runs.specs.Inner.Serving.{calls_not_to, taken_by, states_behind, calls_behind, states_in_order, calls_in_order};
 
 use crate::ascending::sorted;
 use crate::call::Call;

@@ -3,7 +3,7 @@ use Rattle.std.proofs.lemmas.List.{length-map}
 use Rattle.pipeline.specs.AsRules.{rules_of}
 use Rattle.standing.specs.Closed.{Made}
 use Rattle.auditor.specs.Asked.{asked}
-use Rattle.auditor.specs.Compared.{mark_line, made_in, made_of}
+use Rattle.auditor.specs.Inner.Compared.{mark_line, made_in, made_of}
 use Rattle.auditor.specs.Verdicts.{Agree}
 use Rattle.auditor.proofs.Judging.{judged}
 use Rattle.auditor.proofs.Piping.{rules_from, last_line}

@@ -1,6 +1,6 @@
 // The type `container`.
 ghost use Rattle.std.specs.Prelude.{◌≡◌, IfOk, IfErr, option_map};
-ghost use Rattle.op_kinds.specs.Applied.{IsApplied, effect};
+ghost use Rattle.op_kinds.specs.Inner.Applied.{IsApplied, effect};
 ghost use Rattle.op_kinds.specs.Compiled as compiled;
 ghost use Rattle.op_kinds.specs.Containers as containers;
 ghost use Rattle.op_kinds.specs.Containers.{contained, parts_joined};

@@ -4,7 +4,7 @@ ghost use Rattle.entry_model.specs.LogRecord.{log_record};
 ghost use Rattle.expr_lang.specs.Grammar.{IsExpression};
 ghost use Rattle.expr_lang.specs.TreeOf.{tree_of};
 ghost use Rattle.field_paths.specs.PathText.{IsPathText};
-ghost use Rattle.op_kinds.specs.Applied.{IsApplied, effect};
+ghost use Rattle.op_kinds.specs.Inner.Applied.{IsApplied, effect};
 ghost use Rattle.op_kinds.specs.Compiled.{IsPathIfAny};
 ghost use Rattle.op_kinds.specs.Grouping as grouping;
 ghost use Rattle.op_kinds.specs.Grouping.{joined_by};

@@ -1,7 +1,7 @@
 // Files in memory, with the log of all that happened to them.
 ghost use Rattle.std.specs.Prelude.{◌≡◌, ◌≤◌, ℕ, ◌∷◌, [], ◌++◌, length, reverse, IfOk, OnOk, OnErr};
 ghost use Rattle.out_segments.specs.declared.parts.PartFile.TheVariants.{Part};
-ghost use Rattle.out_segments.specs.IsStored.{IsStored};
+ghost use Rattle.out_segments.specs.Inner.IsStored.{IsStored};
 ghost use Rattle.out_segments.specs.MemLog.{Leaves, calls_of};
 ghost use Rattle.out_segments.specs.MemImages.{shown, itself};
 ghost use Rattle.out_segments.specs.MemCount.{done_count, log_after};

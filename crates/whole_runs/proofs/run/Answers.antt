@@ -5,7 +5,7 @@ use Rattle.graph_core.specs.Traces.{network_of}
 use Rattle.graph_core.specs.Wiring.{wiring_of, edges_of}
 use Rattle.graph_core.proofs.Delivering.{length_edges}
 use Rattle.whole_runs.specs.Requests.{requests}
-use Rattle.whole_runs.specs.Serving.{states_in_order, calls_in_order}
+use Rattle.whole_runs.specs.Inner.Serving.{states_in_order, calls_in_order}
 use Rattle.whole_runs.proofs.Serving.{served}
 use Rattle.whole_runs.proofs.run.Goals as goal
 

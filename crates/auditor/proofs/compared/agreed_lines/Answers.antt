@@ -1,7 +1,7 @@
 use Rattle.std.proofs.Common.{ℕ, ◌<◌, [], get_or, length, map, List, arith, Bor}
 use Rattle.std.proofs.lemmas.List.{length-map}
 use Rattle.otlp_json.proofs.Observed.{observed_told}
-use Rattle.auditor.specs.Compared.{made_in, made_of}
+use Rattle.auditor.specs.Inner.Compared.{made_in, made_of}
 use Rattle.auditor.proofs.Agreeing.{none_agree, one_more, no_more, mapped_next, mapped_at}
 use Rattle.auditor.proofs.compared.agreed_lines.Goals as goal
 

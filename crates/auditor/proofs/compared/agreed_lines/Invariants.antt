@@ -1,5 +1,5 @@
 use Rattle.std.proofs.Common.{map}
-use Rattle.auditor.specs.Compared.{made_in}
+use Rattle.auditor.specs.Inner.Compared.{made_in}
 use Rattle.auditor.proofs.Agreeing.{AgreeTo}
 use Rattle.auditor.proofs.compared.agreed_lines.Given as goal
 

@@ -2,7 +2,7 @@ use Rattle.std.proofs.Common.{◌≡◌, subst, rules}
 use Rattle.kept_lines.specs.Made.{IsMade}
 use Rattle.otlp_json.specs.IsOf64Bits.{IsTime}
 use Rattle.standing.specs.Times.{IsNotBefore}
-use Rattle.auditor.specs.Compared.{made_of}
+use Rattle.auditor.specs.Inner.Compared.{made_of}
 use Rattle.auditor.proofs.Agreeing.{made_once}
 use Rattle.auditor.proofs.compared.next_time.Goals as goal
 

@@ -1,6 +1,6 @@
 use Rattle.std.proofs.Common.{◌≡◌, ◌++◌}
 use Rattle.standing.specs.Closed.{flagged}
-use Rattle.auditor.specs.Compared.{made_in}
+use Rattle.auditor.specs.Inner.Compared.{made_in}
 use Rattle.auditor.proofs.gathered.add.Given as goal
 
 abbrev pub invariant-loop-entry : goal.invariant-loop-entry

@@ -6,8 +6,8 @@ use Rattle.pipeline.specs.AsRules.{rules_of}
 use Rattle.standing.specs.Closed.{Made, flagged}
 use Rattle.standing.specs.Part.{first_point}
 use Rattle.auditor.specs.Asked.{asked_from}
-use Rattle.auditor.specs.Compared.{made_in}
-use Rattle.auditor.specs.Whole.{AreWhole}
+use Rattle.auditor.specs.Inner.Compared.{made_in}
+use Rattle.auditor.specs.Inner.Whole.{AreWhole}
 use Rattle.auditor.proofs.Gathering.{WholeSo, rise_within, first_of, only_one, none_left, asked_more, asked_last, whole_step, whole_last}
 use Rattle.auditor.proofs.gathered.gather.Goals as goal
 use Rattle.auditor.proofs.gathered.gather.Goals.{then-all_whole, else-all_whole, then-all_whole-2, else-all_whole-2}

@@ -3,8 +3,8 @@ use Rattle.checkpoint_store.specs.Rules.{Rise, last_point}
 use Rattle.pipeline.specs.AsRules.{rules_of}
 use Rattle.standing.specs.Part.{first_point}
 use Rattle.auditor.specs.Asked.{asked, asked_from}
-use Rattle.auditor.specs.Compared.{made_in}
-use Rattle.auditor.specs.Whole.{AreWhole}
+use Rattle.auditor.specs.Inner.Compared.{made_in}
+use Rattle.auditor.specs.Inner.Whole.{AreWhole}
 use Rattle.auditor.proofs.Gathering.{WholeSo}
 use Rattle.auditor.proofs.gathered.gather.Given as goal
 

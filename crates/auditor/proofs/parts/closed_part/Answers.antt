@@ -1,6 +1,6 @@
 use Rattle.std.proofs.Common.{◌-◌, arith}
 use Rattle.pipeline.specs.Parts.{settings_of}
-use Rattle.auditor.specs.Taken.{AreTaken, cuts_taken}
+use Rattle.auditor.specs.Inner.Taken.{AreTaken, cuts_taken}
 use Rattle.auditor.proofs.Running.{RunsGoOn, items_closed, whole_closed}
 use Rattle.auditor.proofs.parts.closed_part.Goals as goal
 

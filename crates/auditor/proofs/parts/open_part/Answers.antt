@@ -1,7 +1,7 @@
 use Rattle.std.proofs.Common.{◌-◌, arith}
 use Rattle.file_tracker.specs.declared.ends.End.{End}
 use Rattle.pipeline.specs.Parts.{settings_of}
-use Rattle.auditor.specs.Taken.{AreTaken, cuts_taken}
+use Rattle.auditor.specs.Inner.Taken.{AreTaken, cuts_taken}
 use Rattle.auditor.proofs.Running.{items_open, whole_open, whole_has_state}
 use Rattle.auditor.proofs.parts.open_part.Goals as goal
 

@@ -3,7 +3,7 @@ use Rattle.std.proofs.lemmas.Result.{err_from_is_err_and}
 use Rattle.std.specs.Prelude.{map}
 use Rattle.checkpoint_store.specs.Applied.{SpellsChange}
 use Rattle.checkpoint_journal.proofs.ReadingLemmas.{rest_is, changes_step, fails_step, fails_here, room_step, none_left}
-use Rattle.checkpoint_journal.specs.Places.{NoChangeAt}
+use Rattle.checkpoint_journal.specs.Inner.Places.{NoChangeAt}
 use Rattle.checkpoint_journal.specs.Says.{AreChanges, no_change}
 use Rattle.checkpoint_journal.proofs.reading.with_changes.Goals as goal
 

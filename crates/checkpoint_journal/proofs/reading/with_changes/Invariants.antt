@@ -2,7 +2,7 @@ use Rattle.std.proofs.Common.{◌≡◌, ℕ, ◌+◌, ◌≤◌, length, drop}
 use Rattle.std.specs.Prelude.{map, sum_by}
 use Rattle.slot_store.specs.Frame.{last_number}
 use Rattle.checkpoint_store.specs.declared.Checkpoint.{Checkpoint}
-use Rattle.checkpoint_journal.specs.Places.{FailsBehind}
+use Rattle.checkpoint_journal.specs.Inner.Places.{FailsBehind}
 use Rattle.checkpoint_journal.specs.Says.{AreChanges, FailsIn}
 use Rattle.checkpoint_journal.proofs.reading.with_changes.Given as goal
 

@@ -1,5 +1,5 @@
 use Rattle.std.specs.Prelude.{◌+◌, ◌-◌, ◌≤◌}
-use Rattle.demo_run.specs.Playing.{IsPlaying}
+use Rattle.demo_run.specs.Inner.Playing.{IsPlaying}
 use Rattle.demo_run.specs.Script.{played}
 use Rattle.demo_run.proofs.playing.script_of.Given as goal
 

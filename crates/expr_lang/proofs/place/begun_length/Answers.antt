@@ -1,7 +1,7 @@
 use Rattle.std.proofs.Common.{◌≡◌, ◌-◌, ◌∙◌, ap, length, take, drop, List, ℕ, max}
 use Rattle.std.proofs.lemmas.List.{take_rest}
 use Rattle.expr_lang.specs.Begun.{fixed_length_of}
-use Rattle.expr_lang.specs.BrokenWords.{text_length_of, int_length_of}
+use Rattle.expr_lang.specs.Inner.BrokenWords.{text_length_of, int_length_of}
 use Rattle.expr_lang.proofs.BegunWords.{operand_is, items_are, pattern_is, operators_are}
 use Rattle.expr_lang.proofs.place.begun_length.Goals as goal
 

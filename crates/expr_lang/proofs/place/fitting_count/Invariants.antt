@@ -1,5 +1,5 @@
 use Rattle.std.proofs.Common.{◌≡◌, ◌+◌, drop}
-use Rattle.expr_lang.specs.BrokenWords.{fitting}
+use Rattle.expr_lang.specs.Inner.BrokenWords.{fitting}
 use Rattle.expr_lang.proofs.place.fitting_count.Given as goal
 
 abbrev pub invariant-loop-index : goal.invariant-loop-index

@@ -1,7 +1,7 @@
 use Rattle.std.proofs.Common.{◌≡◌, ◌-◌, ◌∙◌, ap, sym, subst, ℕ, List, length, take, drop, true, false}
 use Rattle.std.proofs.lemmas.List.{take_rest}
 use Rattle.expr_lang.specs.Begun.{longest, roots}
-use Rattle.expr_lang.specs.BrokenWords.{is_path}
+use Rattle.expr_lang.specs.Inner.BrokenWords.{is_path}
 use Rattle.expr_lang.specs.Longest.{IsSpelling, IsLongest}
 use Rattle.expr_lang.specs.Words.{begins_path, is_root, is_word_byte, word}
 use Rattle.expr_lang.proofs.PathFronts.{roots_longest}

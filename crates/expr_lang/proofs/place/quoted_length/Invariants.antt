@@ -1,5 +1,5 @@
 use Rattle.std.proofs.Common.{◌≡◌, ◌+◌, drop, false}
-use Rattle.expr_lang.specs.BrokenWords.{quoted_length}
+use Rattle.expr_lang.specs.Inner.BrokenWords.{quoted_length}
 use Rattle.expr_lang.proofs.place.quoted_length.Given as goal
 
 abbrev pub invariant-loop-index : goal.invariant-loop-index

@@ -1,7 +1,7 @@
 use Rattle.std.proofs.Common.{◌≡◌, ℕ, List, true, ◌-◌, ◌∙◌, ap, sym, subst, take, drop, arith}
 use Rattle.field_paths.specs.PathText.{IsPathText, IsFaultAt}
 use Rattle.field_paths.specs.ReadFault.{IsReadFault}
-use Rattle.expr_lang.specs.BrokenWords.{is_path}
+use Rattle.expr_lang.specs.Inner.BrokenWords.{is_path}
 use Rattle.expr_lang.specs.declared.lexer.Spot.TheVariants as spot
 use Rattle.expr_lang.specs.Longest.{IsSpelling, IsLongest}
 use Rattle.expr_lang.specs.Row.{path_length}

@@ -1,5 +1,5 @@
 use Rattle.field_paths.specs.MapOf.{members_seen}
-use Rattle.field_ops.specs.Names.{AreDisjoint}
+use Rattle.field_ops.specs.Inner.Names.{AreDisjoint}
 use Rattle.field_ops.proofs.raising.are_disjoint.Given as goal
 
 abbrev pub invariant-loop-name : goal.invariant-loop-name

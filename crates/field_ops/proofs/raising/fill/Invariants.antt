@@ -1,6 +1,6 @@
 use Rattle.std.proofs.Common.{◌≡◌}
 use Rattle.field_paths.specs.MapOf.{members_seen}
-use Rattle.field_ops.specs.Names.{AreNamedIn}
+use Rattle.field_ops.specs.Inner.Names.{AreNamedIn}
 use Rattle.field_ops.specs.Rows.{with_members}
 use Rattle.field_ops.proofs.raising.fill.Given as goal
 

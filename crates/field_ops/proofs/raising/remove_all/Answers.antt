@@ -1,5 +1,5 @@
 use Rattle.field_paths.specs.MapOf.{members_seen}
-use Rattle.field_ops.specs.Names.{without_members}
+use Rattle.field_ops.specs.Inner.Names.{without_members}
 use Rattle.field_ops.proofs.Entered.{one_removed}
 use Rattle.field_ops.proofs.raising.remove_all.Goals as goal
 

@@ -1,6 +1,6 @@
 use Rattle.std.proofs.Common.{◌≡◌}
 use Rattle.field_paths.specs.MapOf.{members_seen}
-use Rattle.field_ops.specs.Names.{without_members}
+use Rattle.field_ops.specs.Inner.Names.{without_members}
 use Rattle.field_ops.proofs.raising.remove_all.Given as goal
 
 abbrev pub invariant-loop-name : goal.invariant-loop-name

@@ -1,7 +1,7 @@
 use Rattle.std.proofs.Common.{◌∙◌, ap, subst, ℕ, List}
 use Rattle.entry_model.specs.declared.value.Value.{Value}
 use Rattle.field_paths.specs.MapOf.{members_seen}
-use Rattle.field_ops.specs.Names.{without_members}
+use Rattle.field_ops.specs.Inner.Names.{without_members}
 use Rattle.field_ops.proofs.Raised.{Put, none_put, all_put, disjoint_left}
 use Rattle.field_ops.proofs.Entered.{one_reserved}
 use Rattle.field_ops.proofs.raising.reserve.Goals as goal

@@ -1,6 +1,6 @@
 use Rattle.std.proofs.Common.{◌∙◌, map, ap, arith}
 use Rattle.std.proofs.lemmas.List.{take_all}
-use Rattle.file_pass.specs.Looks.{idle_of}
+use Rattle.file_pass.specs.Inner.Looks.{idle_of}
 use Rattle.file_pass.proofs.Flagging.{looks_more}
 use Rattle.file_pass.proofs.looks.each_look.Goals as goal
 

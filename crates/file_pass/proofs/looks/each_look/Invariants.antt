@@ -1,5 +1,5 @@
 use Rattle.std.proofs.Common.{◌≡◌, ◌≤◌, ◌-◌, length, map, take}
-use Rattle.file_pass.specs.Looks.{idle_of}
+use Rattle.file_pass.specs.Inner.Looks.{idle_of}
 use Rattle.file_pass.proofs.looks.each_look.Given as goal
 
 -- the looks of the rows before this place

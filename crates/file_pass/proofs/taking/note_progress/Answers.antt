@@ -4,7 +4,7 @@ use Rattle.std.specs.Prelude.{slice_set}
 use Rattle.file_tracker.specs.declared.row.Row.{Row}
 use Rattle.file_pass.specs.Fed.{rules_in}
 use Rattle.file_pass.specs.Grown.{FlagsGrowth, HasGrown}
-use Rattle.file_pass.specs.Noted.{noted_row}
+use Rattle.file_pass.specs.Inner.Noted.{noted_row}
 use Rattle.file_pass.proofs.Listing.{set_same}
 use Rattle.file_pass.proofs.Flagging.{growth_none, growth_set}
 use Rattle.file_pass.proofs.taking.note_progress.Goals as goal

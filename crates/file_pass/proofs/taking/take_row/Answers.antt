@@ -5,7 +5,7 @@ use Rattle.standing.specs.AreRules.{AreRules}
 use Rattle.file_tracker.specs.declared.row.Row.{Row}
 use Rattle.file_pass.specs.Fed.{rules_in}
 use Rattle.file_pass.specs.Moment.{feeding_at, meanings, moment, rows_at}
-use Rattle.file_pass.specs.Noted.{noted_row}
+use Rattle.file_pass.specs.Inner.Noted.{noted_row}
 use Rattle.file_pass.specs.declared.ending.OpenFile.{OpenFile}
 use Rattle.file_pass.specs.declared.fault.PassFault.TheVariants.{OutputFull}
 use Rattle.file_pass.proofs.Flagging.{growth_none, growth_then, growth_look, looked_twice}

@@ -9,7 +9,7 @@ use Rattle.file_pass.specs.Gain.{gain_of, with_taken}
 use Rattle.file_pass.specs.LookTaken.{SeenTaken}
 use Rattle.file_pass.specs.Moment.{meanings, moment, rows_at}
 use Rattle.file_pass.specs.Overflow.{SeenFills}
-use Rattle.file_pass.specs.RowTaken.{RowTaken}
+use Rattle.file_pass.specs.Inner.RowTaken.{RowTaken}
 use Rattle.file_pass.specs.declared.fault.PassFault.TheVariants.{OutputFull}
 use Rattle.file_pass.proofs.Flagging.{growth_none, growth_then}
 use Rattle.file_pass.proofs.Bridging.{seen_taken}

@@ -3,7 +3,7 @@ use Rattle.std.specs.Prelude.{Ok}
 use Rattle.outside.proofs.Telling.{told_same, told_then, told_weaker}
 use Rattle.outside.specs.Reading.{Reads}
 use Rattle.slot_store.proofs.Filling.{length_filled}
-use Rattle.folder_audit.specs.ReadsRange.{AreBytes}
+use Rattle.folder_audit.specs.Inner.ReadsRange.{AreBytes}
 use Rattle.folder_audit.proofs.ReadLemmas.{SoFar, all_read, cut_short, goes_none, goes_then, none_so_far, read_goes, read_on}
 use Rattle.folder_audit.proofs.reading.read_range.Goals as goal
 

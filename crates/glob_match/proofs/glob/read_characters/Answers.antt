@@ -1,5 +1,5 @@
 use Rattle.std.proofs.Common.{◌≡◌, ◌+◌, ◌∙◌, ap, sym, refl, Bool, cond, Some, None, length, arith}
-use Rattle.glob_match.specs.Reader.{state_of}
+use Rattle.glob_match.specs.Inner.Reader.{state_of}
 use Rattle.glob_match.proofs.Faults.{steps_more, wrong_fault, unfinished_fault, whole_read, glob_read, last_closed_start, last_closed_here, last_closed_stays}
 use Rattle.glob_match.proofs.glob.read_characters.Goals as goal
 use Rattle.glob_match.proofs.glob.read_characters.Goals.{then-not-is_open, else-not-is_open}

@@ -1,5 +1,5 @@
 use Rattle.std.proofs.Common.{◌≡◌, Some, take}
-use Rattle.glob_match.specs.Reader.{state_of, steps, start}
+use Rattle.glob_match.specs.Inner.Reader.{state_of, steps, start}
 use Rattle.glob_match.proofs.Faults.{LastClosed}
 use Rattle.glob_match.proofs.glob.read_characters.Given as goal
 

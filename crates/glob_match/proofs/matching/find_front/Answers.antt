@@ -1,6 +1,6 @@
 use Rattle.std.proofs.Common.{◌∙◌, ap}
 use Rattle.glob_match.specs.declared.matching.Front.TheVariants as front
-use Rattle.glob_match.specs.Walked.{names_left}
+use Rattle.glob_match.specs.Inner.Walked.{names_left}
 use Rattle.glob_match.proofs.Walks.{found_front, below_more}
 use Rattle.glob_match.proofs.matching.find_front.Goals as goal
 

@@ -1,4 +1,4 @@
-use Rattle.glob_match.specs.Walked.{names_left}
+use Rattle.glob_match.specs.Inner.Walked.{names_left}
 use Rattle.glob_match.proofs.Walks.{up_to_here}
 use Rattle.glob_match.proofs.matching.fits.Goals as goal
 

@@ -1,7 +1,7 @@
 use Rattle.std.proofs.Common.{◌∷◌, ◌↔◌, length}
 use Rattle.glob_match.specs.declared.pattern.Component.TheVariants.{Folders}
 use Rattle.glob_match.specs.GlobMatch.{FitsNames}
-use Rattle.glob_match.specs.Walked.{names_left}
+use Rattle.glob_match.specs.Inner.Walked.{names_left}
 use Rattle.glob_match.proofs.matching.fits_below.Given as goal
 
 abbrev pub invariant-loop-others : goal.invariant-loop-others

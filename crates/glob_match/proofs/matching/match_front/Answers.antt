@@ -1,8 +1,8 @@
 use Rattle.std.proofs.Common.{◌∷◌, ◌∙◌, ap, sym}
 use Rattle.glob_match.specs.declared.pattern.Component.{Component}
-use Rattle.glob_match.specs.Front.{here}
+use Rattle.glob_match.specs.Inner.Front.{here}
 use Rattle.glob_match.specs.GlobMatch.{no_names}
-use Rattle.glob_match.specs.Walked.{names_left}
+use Rattle.glob_match.specs.Inner.Walked.{names_left}
 use Rattle.glob_match.proofs.Walks.{carries_more, fits_none, folders_if, no_components, some_name}
 use Rattle.glob_match.proofs.matching.match_front.Goals as goal
 

@@ -1,5 +1,5 @@
 use Rattle.std.proofs.Common.{length}
-use Rattle.glob_match.specs.Walked.{names_left}
+use Rattle.glob_match.specs.Inner.Walked.{names_left}
 use Rattle.glob_match.proofs.Walks.{Carries}
 use Rattle.glob_match.proofs.matching.match_front.Given as goal
 

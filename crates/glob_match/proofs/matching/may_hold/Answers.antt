@@ -1,7 +1,7 @@
 use Rattle.std.proofs.Common.{◌∷◌, ◌∙◌, ap}
 use Rattle.std.proofs.lemmas.Bool.{both_ways}
 use Rattle.glob_match.specs.declared.pattern.Component.{Component}
-use Rattle.glob_match.specs.Walked.{names_left}
+use Rattle.glob_match.specs.Inner.Walked.{names_left}
 use Rattle.glob_match.proofs.Walks.{folders_if, none_left_if, may_hold_more, may_hold_other, may_hold_folders, may_hold_all, some_names}
 use Rattle.glob_match.proofs.matching.may_hold.Goals as goal
 

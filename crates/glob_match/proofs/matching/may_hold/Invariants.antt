@@ -1,6 +1,6 @@
 use Rattle.std.proofs.Common.{◌↔◌, length}
-use Rattle.glob_match.specs.Front.{MayHold}
-use Rattle.glob_match.specs.Walked.{names_left}
+use Rattle.glob_match.specs.Inner.Front.{MayHold}
+use Rattle.glob_match.specs.Inner.Walked.{names_left}
 use Rattle.glob_match.proofs.matching.may_hold.Given as goal
 
 abbrev pub invariant-loop-left : goal.invariant-loop-left

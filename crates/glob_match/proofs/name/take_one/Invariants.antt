@@ -1,5 +1,5 @@
 use Rattle.std.proofs.Common.{◌≡◌, ℕ, ◌+◌, ◌<◌, ◌&&◌, false, get_or}
-use Rattle.glob_match.specs.TakesOne.{takes_one}
+use Rattle.glob_match.specs.Inner.TakesOne.{takes_one}
 use Rattle.glob_match.proofs.name.take_one.Given as goal
 
 abbrev pub invariant-loop-at : goal.invariant-loop-at

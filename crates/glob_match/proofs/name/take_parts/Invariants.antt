@@ -1,7 +1,7 @@
 use Rattle.std.proofs.Common.{◌≡◌, take}
 use Rattle.glob_match.specs.declared.pattern.Piece.TheVariants.{AnyOf}
 use Rattle.glob_match.specs.Fits.{FitsPiece}
-use Rattle.glob_match.specs.Leads.{Leads}
+use Rattle.glob_match.specs.Inner.Leads.{Leads}
 use Rattle.glob_match.proofs.name.take_parts.Given as goal
 
 abbrev pub invariant-loop-part : goal.invariant-loop-part

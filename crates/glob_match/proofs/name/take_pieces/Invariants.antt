@@ -1,6 +1,6 @@
 use Rattle.std.proofs.Common.{take}
 use Rattle.glob_match.specs.Fits.{FitsPieces}
-use Rattle.glob_match.specs.Leads.{Leads}
+use Rattle.glob_match.specs.Inner.Leads.{Leads}
 use Rattle.glob_match.proofs.name.take_pieces.Given as goal
 
 abbrev pub invariant-loop-piece : goal.invariant-loop-piece

@@ -1,6 +1,6 @@
 use Rattle.std.proofs.Common.{take}
 use Rattle.glob_match.specs.Fits.{FitsUnits}
-use Rattle.glob_match.specs.Leads.{Leads}
+use Rattle.glob_match.specs.Inner.Leads.{Leads}
 use Rattle.glob_match.proofs.name.take_units.Given as goal
 
 abbrev pub invariant-loop-unit : goal.invariant-loop-unit

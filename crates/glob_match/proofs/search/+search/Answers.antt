@@ -4,7 +4,7 @@ use Rattle.std.proofs.lemmas.Str.{chars_past_char}
 use Rattle.std.specs.Str.{chars, IsUtf8}
 use Rattle.std.specs.Str.Iter.{chars_rest}
 use Rattle.glob_match.specs.declared.pattern.Piece.{Piece}
-use Rattle.glob_match.specs.FitsBoth.{FitsBoth}
+use Rattle.glob_match.specs.Inner.FitsBoth.{FitsBoth}
 use Rattle.glob_match.proofs.Searching.{long_unit, long_none, long_single, long_any, star_more, star_end, one_more, some_more, size_below, no_bytes, nothing}
 use Rattle.glob_match.proofs.search.+search.Goals as goal
 

@@ -2,7 +2,7 @@ use Rattle.std.proofs.Common.{◌+◌, ◌*◌, length, take, ◌↔◌}
 use Rattle.std.specs.Str.{chars}
 use Rattle.std.specs.Str.Iter.{chars_rest}
 use Rattle.glob_match.specs.declared.pattern.Unit.TheVariants.{Star}
-use Rattle.glob_match.specs.FitsBoth.{FitsFrom, FitsSome}
+use Rattle.glob_match.specs.Inner.FitsBoth.{FitsFrom, FitsSome}
 use Rattle.glob_match.proofs.Searching.{sizes, weight}
 use Rattle.glob_match.proofs.search.+search.Given as goal
 

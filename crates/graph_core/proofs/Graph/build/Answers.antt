@@ -1,7 +1,7 @@
 use Rattle.std.proofs.Common.{◌≡◌, refl}
 use Rattle.std.proofs.lemmas.Result.{err_from_is_err_and}
 use Rattle.graph_core.specs.Wiring.{edges_of, wiring_of}
-use Rattle.graph_core.specs.Reach.{lists_of}
+use Rattle.graph_core.specs.Inner.Reach.{lists_of}
 use Rattle.graph_core.proofs.Graph.build.Goals as goal
 
 pub returns-in_err-order-clause-refused : goal.returns-in_err-order-clause-refused

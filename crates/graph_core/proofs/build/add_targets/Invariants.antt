@@ -1,5 +1,5 @@
 use Rattle.std.proofs.Common.{◌≡◌, drop}
-use Rattle.graph_core.specs.Reach.{add_targets}
+use Rattle.graph_core.specs.Inner.Reach.{add_targets}
 use Rattle.graph_core.proofs.build.add_targets.Given as goal
 
 abbrev pub invariant-loop-to : goal.invariant-loop-to

@@ -1,7 +1,7 @@
 use Rattle.std.proofs.Common.{◌≡◌, sym, length, ◌-◌}
 use Rattle.std.specs.Prelude.{Some, None}
 use Rattle.graph_core.specs.Closing.{closing_order, next_ready}
-use Rattle.graph_core.specs.Reach.{lists_of}
+use Rattle.graph_core.specs.Inner.Reach.{lists_of}
 use Rattle.graph_core.proofs.Checks.{order_more, order_none, order_end}
 use Rattle.graph_core.proofs.build.closing_order.Goals as goal
 use Rattle.graph_core.proofs.build.closing_order.Goals.{else-loop-step-test, then-loop-step-test+in_default}

@@ -1,6 +1,6 @@
 use Rattle.std.proofs.Common.{◌≡◌, take}
 use Rattle.graph_core.specs.Wiring.{wiring_of, edges_of}
-use Rattle.graph_core.specs.Reach.{lists_of}
+use Rattle.graph_core.specs.Inner.Reach.{lists_of}
 use Rattle.graph_core.proofs.build.edges_of_nodes.Given as goal
 
 abbrev pub invariant-loop-node : goal.invariant-loop-node

@@ -1,5 +1,5 @@
 use Rattle.std.proofs.Common.{◌≡◌, ◌∙◌, ap, sym, length, ℕ}
-use Rattle.graph_core.specs.Reach.{lists_of, capped_counts}
+use Rattle.graph_core.specs.Inner.Reach.{lists_of, capped_counts}
 use Rattle.graph_core.specs.Faults.{routes_from_first}
 use Rattle.graph_core.proofs.Checks.{length_lists, counted, many_routes}
 use Rattle.graph_core.proofs.build.has_too_many_routes.Goals as goal

@@ -1,7 +1,7 @@
 use Rattle.std.proofs.Common.{◌≡◌, sym, true, not, ◌||◌, length}
 use Rattle.graph_core.specs.Wiring.{calls_node}
 use Rattle.graph_core.specs.Closing.{is_listed, is_ready}
-use Rattle.graph_core.specs.Reach.{lists_of}
+use Rattle.graph_core.specs.Inner.Reach.{lists_of}
 use Rattle.graph_core.proofs.Checks.{target_lists, ready_more}
 use Rattle.graph_core.proofs.build.is_ready.Goals as goal
 

@@ -1,7 +1,7 @@
 use Rattle.std.proofs.Common.{◌≡◌, sym, true, false}
 use Rattle.std.proofs.lemmas.Bool.{both_ways}
 use Rattle.graph_core.specs.Closing.{is_listed}
-use Rattle.graph_core.specs.Reach.{lists_of, reached}
+use Rattle.graph_core.specs.Inner.Reach.{lists_of, reached}
 use Rattle.graph_core.specs.Faults.{Reaches}
 use Rattle.graph_core.proofs.Reaching.{listed_has, has_listed, complete, reached_sound}
 use Rattle.graph_core.proofs.Checks.{below_more}

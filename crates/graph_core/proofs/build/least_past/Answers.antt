@@ -1,7 +1,7 @@
 use Rattle.std.proofs.Common.{◌≡◌, sym, true, false, length, arith}
 use Rattle.std.specs.List.{list_any}
 use Rattle.graph_core.specs.Wiring.{targets_of}
-use Rattle.graph_core.specs.Reach.{lists_of, is_past}
+use Rattle.graph_core.specs.Inner.Reach.{lists_of, is_past}
 use Rattle.graph_core.specs.Faults.{LeadsPast}
 use Rattle.graph_core.proofs.Checks.{length_lists, target_lists, leads_past, leads_not, below_more, leads_within}
 use Rattle.graph_core.proofs.build.least_past.Goals as goal

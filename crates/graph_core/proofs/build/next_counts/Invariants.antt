@@ -1,5 +1,5 @@
 use Rattle.std.proofs.Common.{◌≡◌, map, take}
-use Rattle.graph_core.specs.Reach.{lists_of, capped_sum}
+use Rattle.graph_core.specs.Inner.Reach.{lists_of, capped_sum}
 use Rattle.graph_core.proofs.build.next_counts.Given as goal
 
 abbrev pub invariant-loop-targets : goal.invariant-loop-targets

@@ -1,6 +1,6 @@
 use Rattle.std.proofs.Common.{sym, length}
 use Rattle.graph_core.specs.Closing.{next_ready}
-use Rattle.graph_core.specs.Reach.{lists_of}
+use Rattle.graph_core.specs.Inner.Reach.{lists_of}
 use Rattle.graph_core.proofs.Checks.{next_more}
 use Rattle.graph_core.proofs.build.next_ready.Goals as goal
 

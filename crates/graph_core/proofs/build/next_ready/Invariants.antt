@@ -1,6 +1,6 @@
 use Rattle.std.proofs.Common.{◌≡◌, ◌-◌, length}
 use Rattle.graph_core.specs.Closing.{next_ready, next_ready_from}
-use Rattle.graph_core.specs.Reach.{lists_of}
+use Rattle.graph_core.specs.Inner.Reach.{lists_of}
 use Rattle.graph_core.proofs.build.next_ready.Given as goal
 
 abbrev pub invariant-loop-node : goal.invariant-loop-node

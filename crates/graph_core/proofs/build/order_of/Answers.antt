@@ -1,4 +1,4 @@
-use Rattle.graph_core.specs.Reach.{lists_of}
+use Rattle.graph_core.specs.Inner.Reach.{lists_of}
 use Rattle.graph_core.specs.Faults.{IsAccepted}
 use Rattle.graph_core.proofs.Checks.{accepted_built}
 use Rattle.graph_core.proofs.build.order_of.Goals as goal

@@ -1,6 +1,6 @@
 use Rattle.std.proofs.Common.{◌≡◌, sym, length, ◌-◌}
 use Rattle.std.specs.Prelude.{Some, None, slice_get}
-use Rattle.graph_core.specs.Reach.{lists_of, reached}
+use Rattle.graph_core.specs.Inner.Reach.{lists_of, reached}
 use Rattle.graph_core.proofs.Checks.{spread_more, spread_none, spread_end}
 use Rattle.graph_core.proofs.build.reached_from.Goals as goal
 use Rattle.graph_core.proofs.build.reached_from.Goals.{else-loop-place-test, then-loop-place-test+in_default}

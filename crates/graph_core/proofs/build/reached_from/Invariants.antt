@@ -1,5 +1,5 @@
 use Rattle.std.proofs.Common.{◌≡◌, ◌-◌, length}
-use Rattle.graph_core.specs.Reach.{lists_of, spread, reached}
+use Rattle.graph_core.specs.Inner.Reach.{lists_of, spread, reached}
 use Rattle.graph_core.proofs.build.reached_from.Given as goal
 
 abbrev pub invariant-loop-place : goal.invariant-loop-place

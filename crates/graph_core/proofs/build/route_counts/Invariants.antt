@@ -1,5 +1,5 @@
 use Rattle.std.proofs.Common.{◌≡◌}
-use Rattle.graph_core.specs.Reach.{lists_of, capped_counts}
+use Rattle.graph_core.specs.Inner.Reach.{lists_of, capped_counts}
 use Rattle.graph_core.proofs.build.route_counts.Given as goal
 
 abbrev pub invariant-loop-step : goal.invariant-loop-step

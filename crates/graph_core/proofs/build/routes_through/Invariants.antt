@@ -1,5 +1,5 @@
 use Rattle.std.proofs.Common.{◌≡◌, drop}
-use Rattle.graph_core.specs.Reach.{capped_sum}
+use Rattle.graph_core.specs.Inner.Reach.{capped_sum}
 use Rattle.graph_core.proofs.build.routes_through.Given as goal
 
 abbrev pub invariant-loop-to : goal.invariant-loop-to

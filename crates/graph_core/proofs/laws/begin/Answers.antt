@@ -1,6 +1,6 @@
 use Rattle.std.proofs.Common.{[]}
 use Rattle.graph_core.specs.Traces.{network_of}
-use Rattle.graph_core.specs.Walk.{done}
+use Rattle.graph_core.specs.Inner.Walk.{done}
 use Rattle.graph_core.proofs.Pushing.{seen_first, served}
 use Rattle.graph_core.proofs.laws.begin.Goals as goal
 

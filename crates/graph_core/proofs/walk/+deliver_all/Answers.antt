@@ -1,7 +1,7 @@
 use Rattle.std.proofs.Common.{rules, ◌≡◌, ◌<◌, length, refl, ◌∙◌}
 use Rattle.graph_core.specs.Wiring.{wiring_of, edges_of}
 use Rattle.graph_core.specs.Traces.{network_of}
-use Rattle.graph_core.specs.Walk.{done}
+use Rattle.graph_core.specs.Inner.Walk.{done}
 use Rattle.graph_core.proofs.Delivering.{first_leads, rest_leads, serve_out, serve_call, length_edges, nil_from_drop}
 use Rattle.graph_core.proofs.walk.+deliver_all.Goals as goal
 

@@ -3,7 +3,7 @@ use Rattle.std.specs.VecDeque.{deque_len}
 use Rattle.graph_core.specs.Wiring.{wiring_of, edges_of, Has}
 use Rattle.graph_core.specs.Closing.{closing_order}
 use Rattle.graph_core.specs.Traces.{network_of}
-use Rattle.graph_core.specs.Walk.{owed, Walk, height, LeadsOn}
+use Rattle.graph_core.specs.Inner.Walk.{owed, Walk, height, LeadsOn}
 use Rattle.graph_core.proofs.walk.+deliver_all.Given as goal
 
 abbrev pub decreases-deliver_all : goal.decreases-deliver_all

@@ -4,7 +4,7 @@ use Rattle.std.proofs.lemmas.Result.{IfOk-weaker}
 use Rattle.graph_core.specs.declared.Target.{Target}
 use Rattle.graph_core.specs.Wiring.{wiring_of, edges_of}
 use Rattle.graph_core.specs.Traces.{network_of}
-use Rattle.graph_core.specs.Walk.{LeadsOn}
+use Rattle.graph_core.specs.Inner.Walk.{LeadsOn}
 use Rattle.graph_core.proofs.Delivering.{length_edges, serve_one, serve_single, serve_last}
 use Rattle.graph_core.proofs.walk.call.Goals as goal
 

@@ -4,7 +4,7 @@ use Rattle.graph_core.specs.declared.Target.TheVariants.{Node}
 use Rattle.graph_core.specs.Wiring.{wiring_of, edges_of}
 use Rattle.graph_core.specs.Closing.{closing_order}
 use Rattle.graph_core.specs.Traces.{network_of}
-use Rattle.graph_core.specs.Walk.{Walk, height}
+use Rattle.graph_core.specs.Inner.Walk.{Walk, height}
 use Rattle.graph_core.proofs.walk.call.Given as goal
 
 -- what follows from the call at hand leads wherever what follows from the first one does

@@ -1,6 +1,6 @@
 use Rattle.std.proofs.Common.{◌≡◌, length}
 use Rattle.graph_core.specs.Traces.{network_of}
-use Rattle.graph_core.specs.Walk.{Walk}
+use Rattle.graph_core.specs.Inner.Walk.{Walk}
 use Rattle.graph_core.proofs.Pushing.{closings_from}
 use Rattle.graph_core.proofs.walk.close_all.Given as goal
 

@@ -1,5 +1,5 @@
 use Rattle.std.proofs.Common.{◌≡◌, map}
-use Rattle.graph_core.specs.Walk.{deliveries}
+use Rattle.graph_core.specs.Inner.Walk.{deliveries}
 use Rattle.graph_core.proofs.walk.deliveries_of.Given as goal
 
 abbrev pub invariant-loop-port : goal.invariant-loop-port

@@ -3,7 +3,7 @@ use Rattle.std.specs.Prelude.{IfOk, IfErr, IfSome}
 use Rattle.lifetimes.proofs.DiskLemmas.{leaves_reopened, leaves_same, passes_same}
 use Rattle.lifetimes.proofs.OpenLemmas.{opens_is, ready_opened, refused_open}
 use Rattle.lifetimes.proofs.PollLemmas.{few_failed, well_dropped, on_ok}
-use Rattle.lifetimes.specs.Past.{Past, CantOpenBy, Failures, IsDiskAt, IsReady, IsWell, Opens, dropped}
+use Rattle.lifetimes.specs.Inner.Past.{Past, CantOpenBy, Failures, IsDiskAt, IsReady, IsWell, Opens, dropped}
 use Rattle.lifetimes.specs.declared.fault.ScriptFault.{ScriptFault}
 use Rattle.mem_world.specs.MemDisk.{faults_of}
 use Rattle.outside.specs.Count.{last_count}

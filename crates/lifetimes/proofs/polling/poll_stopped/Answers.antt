@@ -2,7 +2,7 @@ use Rattle.std.proofs.Common.{Some}
 use Rattle.lifetimes.proofs.PollLemmas.{ready_same, disk_stopped, is_stopped, later_told, polled_later, since_told, telling_by}
 use Rattle.lifetimes.proofs.TreeLemmas.{tree_polled}
 use Rattle.lifetimes.specs.Ended.{history_of}
-use Rattle.lifetimes.specs.Past.{Waits, IsTreeAt, IsTreePolled, polled}
+use Rattle.lifetimes.specs.Inner.Past.{Waits, IsTreeAt, IsTreePolled, polled}
 use Rattle.lifetimes.specs.Script.{Halt, is_early}
 use Rattle.lifetimes.specs.Stopped.{halt_of}
 use Rattle.lifetimes.proofs.polling.poll_stopped.Goals as goal

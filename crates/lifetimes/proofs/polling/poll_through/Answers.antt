@@ -3,7 +3,7 @@ use Rattle.std.specs.Prelude.{IfOk, IfSome}
 use Rattle.lifetimes.proofs.PollLemmas.{Answers, few_failed, well_dropped, on_ok, ready_next, goes_on_next, disk_through, later_told, since_told, telling_by}
 use Rattle.lifetimes.proofs.TreeLemmas.{tree_polled}
 use Rattle.lifetimes.specs.Ended.{history_of}
-use Rattle.lifetimes.specs.Past.{Past, Failures, Waits, GoesOn, IsDiskAt, IsReady, IsTreeAt, IsTreePolled, IsWell, MayPoll, dropped, polled}
+use Rattle.lifetimes.specs.Inner.Past.{Past, Failures, Waits, GoesOn, IsDiskAt, IsReady, IsTreeAt, IsTreePolled, IsWell, MayPoll, dropped, polled}
 use Rattle.mem_world.specs.MemDisk.{faults_of}
 use Rattle.lifetimes.specs.declared.fault.ScriptFault.{ScriptFault}
 use Rattle.poll_core.specs.declared.session.Session.{Session}

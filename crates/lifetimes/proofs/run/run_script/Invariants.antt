@@ -1,5 +1,5 @@
 use Rattle.lifetimes.proofs.RunLemmas.{Run}
-use Rattle.lifetimes.specs.Life.{IsReadyLife}
+use Rattle.lifetimes.specs.Inner.Life.{IsReadyLife}
 use Rattle.lifetimes.proofs.run.run_script.Given as goal
 
 abbrev pub invariant-loop-at : goal.invariant-loop-at

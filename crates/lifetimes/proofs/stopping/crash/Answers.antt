@@ -1,6 +1,6 @@
 use Rattle.std.proofs.Common.{◌≡◌, sym, subst}
 use Rattle.lifetimes.proofs.DiskLemmas.{leaves_crashed}
-use Rattle.lifetimes.specs.Past.{LeavesAt}
+use Rattle.lifetimes.specs.Inner.Past.{LeavesAt}
 use Rattle.mem_world.specs.DiskFiles.{tear_of}
 use Rattle.out_segments.specs.CrashOutcome.{left_by}
 use Rattle.mem_world.specs.DiskFiles.{calls_of}

@@ -1,7 +1,7 @@
 use Rattle.std.proofs.Common.{ap, ◌∙◌}
 use Rattle.std.specs.Prelude.{option_map}
 use Rattle.entry_model.specs.LogRecord.{log_record}
-use Rattle.op_kinds.specs.Applied.{IsApplied, effect}
+use Rattle.op_kinds.specs.Inner.Applied.{IsApplied, effect}
 use Rattle.op_kinds.specs.Grouping.{arrival, joined_in}
 use Rattle.op_kinds.specs.Kept.{Kept, open_groups}
 use Rattle.op_kinds.specs.Kept as kept

@@ -3,7 +3,7 @@ use Rattle.std.proofs.lemmas.Result.{err_from_is_err_and}
 use Rattle.op_kinds.specs.Kept.{Kept}
 use Rattle.op_kinds.specs.States.{kept_at}
 use Rattle.op_kinds.proofs.States.{SoFar, first_so_far, next_so_far, pushed, one_refused, bytes_left, none_left}
-use Rattle.recombine.specs.Told.{IsRead, Finds}
+use Rattle.recombine.specs.Inner.Told.{IsRead, Finds}
 use Rattle.op_kinds.proofs.saving.restore_state.Goals as goal
 
 pub loop-node-init : goal.loop-node-init

@@ -2,7 +2,7 @@ use Rattle.std.proofs.Common.{Bool, true, Ok, sym, subst}
 use Rattle.op_kinds.specs.Kept.{Kept}
 use Rattle.op_kinds.specs.States.{kept_at}
 use Rattle.op_kinds.proofs.States.{restored_found}
-use Rattle.recombine.specs.Told.{IsRead, Finds}
+use Rattle.recombine.specs.Inner.Told.{IsRead, Finds}
 use Rattle.op_kinds.proofs.saving.restored.Goals as goal
 
 pub returns : goal.returns

@@ -1,6 +1,6 @@
 use Rattle.std.proofs.Common.{◌≡◌, ◌+◌, ◌*◌, IsTrue, arith, subst, sym, ap, ◌∙◌}
 use Rattle.outside.specs.Image.{Image, AtFile, IsCut}
-use Rattle.out_segments.specs.AtOutput.{AtOutput}
+use Rattle.out_segments.specs.Inner.AtOutput.{AtOutput}
 use Rattle.out_segments.specs.declared.parts.PartFile.{PartFile}
 use Rattle.out_segments.specs.declared.parts.PartFile.TheVariants.{Part}
 use Rattle.out_segments.proofs.Outputs.{output_begins}

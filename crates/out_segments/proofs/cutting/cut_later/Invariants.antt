@@ -1,6 +1,6 @@
 use Rattle.std.proofs.Common.{◌-◌, ◌≡◌, ◌≤◌, IsTrue}
-use Rattle.out_segments.specs.AtOutput.{AtOutput, IsKept, IsShort, EachLeft, EmptiedTo}
-use Rattle.out_segments.specs.Keeping.{Changes}
+use Rattle.out_segments.specs.Inner.AtOutput.{AtOutput, IsKept, IsShort, EachLeft, EmptiedTo}
+use Rattle.out_segments.specs.Inner.Keeping.{Changes}
 use Rattle.out_segments.proofs.cutting.cut_later.Given as goal
 
 abbrev pub invariant-loop-number : goal.invariant-loop-number

@@ -1,6 +1,6 @@
 use Rattle.std.proofs.Common.{◌-◌, ◌≡◌, ◌≤◌, ◌<◌, ℕ, length, IsTrue}
 use Rattle.out_segments.specs.declared.parts.PartFile.TheVariants.{Part}
-use Rattle.out_segments.specs.Keeping.{OnlyRead}
+use Rattle.out_segments.specs.Inner.Keeping.{OnlyRead}
 use Rattle.out_segments.proofs.ending.output_length.Given as goal
 
 abbrev pub invariant-loop-full : goal.invariant-loop-full

@@ -1,6 +1,6 @@
 use Rattle.std.proofs.Common.{◌-◌, ◌≡◌}
-use Rattle.out_segments.specs.Keeping.{OnlyRead}
-use Rattle.out_segments.specs.Settled.{AreSettled}
+use Rattle.out_segments.specs.Inner.Keeping.{OnlyRead}
+use Rattle.out_segments.specs.Inner.Settled.{AreSettled}
 use Rattle.out_segments.proofs.syncing.sync_output.Given as goal
 
 abbrev pub invariant-loop-place : goal.invariant-loop-place

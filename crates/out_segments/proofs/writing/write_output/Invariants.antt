@@ -1,7 +1,7 @@
 use Rattle.std.proofs.Common.{◌-◌, ◌≡◌, ◌≤◌, ◌/◌, length, take, IsTrue}
 use Rattle.outside.specs.Image.{Torn, Holds}
-use Rattle.out_segments.specs.AtOutput.{AtOutput}
-use Rattle.out_segments.specs.Keeping.{Changes}
+use Rattle.out_segments.specs.Inner.AtOutput.{AtOutput}
+use Rattle.out_segments.specs.Inner.Keeping.{Changes}
 use Rattle.out_segments.proofs.writing.write_output.Given as goal
 
 abbrev pub invariant-loop-written : goal.invariant-loop-written

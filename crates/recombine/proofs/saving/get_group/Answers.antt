@@ -9,7 +9,7 @@ use Rattle.state_codec.proofs.Readers.{text_reader, entry_reader}
 use Rattle.recombine.specs.declared.group.OpenGroup.{OpenGroup}
 use Rattle.recombine.specs.Reading.{group_at}
 use Rattle.recombine.specs.Table.{group_seen}
-use Rattle.recombine.specs.Told.{IsRead}
+use Rattle.recombine.specs.Inner.Told.{IsRead}
 use Rattle.recombine.proofs.SpellingLemmas.{reads_found, source_fails, entries_fail, text_fails, base_fails, group_found}
 use Rattle.recombine.proofs.saving.get_group.Goals as goal
 

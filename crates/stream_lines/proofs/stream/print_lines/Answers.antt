@@ -7,7 +7,7 @@ use Rattle.outside.specs.Stream.{Takes}
 use Rattle.outside.specs.World.{Told}
 use Rattle.standing.specs.Marks.{Mark}
 use Rattle.stream_lines.specs.Causes.{HasSourceCause}
-use Rattle.stream_lines.specs.HasTaken.{HasTaken, IsSane}
+use Rattle.stream_lines.specs.Inner.HasTaken.{HasTaken, IsSane}
 use Rattle.stream_lines.specs.Prints.{Prints, Tells}
 use Rattle.stream_lines.specs.StreamLines.{open_lines, whole_lines}
 use Rattle.stream_lines.specs.Streams.{Streams}

@@ -2,7 +2,7 @@ use Rattle.std.proofs.Common.{◌≡◌, ◌+◌, List, ℕ, length}
 use Rattle.std.specs.Prelude.{false}
 use Rattle.file_pass.specs.Full.{lines_text}
 use Rattle.outside.specs.World.{Told}
-use Rattle.stream_lines.specs.HasTaken.{HasTaken, IsSane}
+use Rattle.stream_lines.specs.Inner.HasTaken.{HasTaken, IsSane}
 use Rattle.stream_lines.specs.Limits.{most_taken}
 use Rattle.stream_lines.specs.Prints.{Prints}
 use Rattle.stream_lines.specs.StreamLines.{open_lines}

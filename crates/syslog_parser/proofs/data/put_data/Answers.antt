@@ -1,6 +1,6 @@
 use Rattle.std.proofs.Common.{◌∙◌, ap, sym}
 use Rattle.entry_model.specs.Seen.{seen}
-use Rattle.syslog_parser.specs.Reads.{StopsInElement, StopsInData}
+use Rattle.syslog_parser.specs.Inner.Reads.{StopsInElement, StopsInData}
 use Rattle.syslog_parser.proofs.ReadingData.{dash_read, data_fault, data_read}
 use Rattle.syslog_parser.proofs.Stops.{stops_so}
 use Rattle.syslog_parser.proofs.Words.{first_is}

@@ -1,7 +1,7 @@
 use Rattle.std.proofs.Common.{◌∙◌, ap, sym}
 use Rattle.entry_model.specs.Seen.{seen}
 use Rattle.syslog_parser.specs.Bytes.{is_name_byte}
-use Rattle.syslog_parser.specs.Reads.{HasNoWord, ends_id, StopsInParams, StopsInElement}
+use Rattle.syslog_parser.specs.Inner.Reads.{HasNoWord, ends_id, StopsInParams, StopsInElement}
 use Rattle.syslog_parser.proofs.ReadingData.{bracket_fault, id_fault, params_fault, element_read}
 use Rattle.syslog_parser.proofs.Stops.{stops_so}
 use Rattle.syslog_parser.proofs.Words.{first_is}

@@ -1,6 +1,6 @@
 use Rattle.std.proofs.Common.{rules, ◌∙◌, ◌+◌, sym, refl, drop}
 use Rattle.entry_model.specs.Seen.{seen}
-use Rattle.syslog_parser.specs.Reads.{StopsInElement}
+use Rattle.syslog_parser.specs.Inner.Reads.{StopsInElement}
 use Rattle.syslog_parser.proofs.Lengths.{element_less}
 use Rattle.syslog_parser.proofs.ReadingData.{no_elements_read, elements_fault, elements_more, elements_done}
 use Rattle.syslog_parser.proofs.Stops.{stops_so}

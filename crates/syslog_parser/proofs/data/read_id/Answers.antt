@@ -1,6 +1,6 @@
 use Rattle.std.proofs.Common.{ℕ, List, ◌≤◌, ◌-◌, ◌∙◌, ap, sym, refl, length, take_while, arith}
 use Rattle.syslog_parser.specs.Bytes.{is_name_byte}
-use Rattle.syslog_parser.specs.Reads.{ends_id}
+use Rattle.syslog_parser.specs.Inner.Reads.{ends_id}
 use Rattle.syslog_parser.proofs.OtherBytes.{name_no_end}
 use Rattle.syslog_parser.proofs.Words.{too_long, split_is, begins_at, run_short, either_inside, either_passes}
 use Rattle.syslog_parser.proofs.data.read_id.Goals as goal

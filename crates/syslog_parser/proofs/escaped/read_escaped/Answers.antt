@@ -1,6 +1,6 @@
 use Rattle.std.proofs.Common.{rules, ◌∙◌, List, ℕ, ap, sym, subst, length, take_while, string_bytes}
 use Rattle.syslog_parser.specs.Bytes.{is_plain}
-use Rattle.syslog_parser.specs.Reads.{IsAtEnd, StopsInValue}
+use Rattle.syslog_parser.specs.Inner.Reads.{IsAtEnd, StopsInValue}
 use Rattle.syslog_parser.specs.Structured.{IsContent}
 use Rattle.syslog_parser.proofs.ReadingValues.{nothing_read, open_here, bracket_here, inside, special_is_low, ends_here, escape_open_here, goes_on_here, next_less}
 use Rattle.syslog_parser.proofs.Stops.{stops_so}

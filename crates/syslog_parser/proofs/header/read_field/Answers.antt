@@ -1,6 +1,6 @@
 use Rattle.std.proofs.Common.{ℕ, List, ◌≤◌, ◌-◌, ◌∙◌, ap, sym, refl, length, take_while, arith}
 use Rattle.syslog_parser.specs.Bytes.{is_printable}
-use Rattle.syslog_parser.specs.Reads.{is_space}
+use Rattle.syslog_parser.specs.Inner.Reads.{is_space}
 use Rattle.syslog_parser.proofs.OtherBytes.{printable_no_space}
 use Rattle.syslog_parser.proofs.Words.{too_long, cut_is, run_short}
 use Rattle.syslog_parser.proofs.header.read_field.Goals as goal

@@ -1,6 +1,6 @@
 use Rattle.std.proofs.Common.{◌∙◌, sym}
 use Rattle.syslog_parser.specs.Bytes.{is_name_byte}
-use Rattle.syslog_parser.specs.Reads.{HasNoWord, is_equals_sign, StopsInValue, StopsInParam}
+use Rattle.syslog_parser.specs.Inner.Reads.{HasNoWord, is_equals_sign, StopsInValue, StopsInParam}
 use Rattle.syslog_parser.proofs.ReadingParams.{name_fault, quote_fault, value_fault, param_read}
 use Rattle.syslog_parser.proofs.Stops.{stops_so}
 use Rattle.syslog_parser.proofs.Words.{first_is}

@@ -1,6 +1,6 @@
 use Rattle.std.proofs.Common.{rules, ◌∙◌, sym}
 use Rattle.entry_model.specs.Seen.{seen}
-use Rattle.syslog_parser.specs.Reads.{StopsInParam, StopsInParams}
+use Rattle.syslog_parser.specs.Inner.Reads.{StopsInParam, StopsInParams}
 use Rattle.syslog_parser.proofs.Lengths.{param_less, less_behind}
 use Rattle.syslog_parser.proofs.ReadingParams.{no_params_read, params_done, params_fault_here, params_fault_in, params_more}
 use Rattle.syslog_parser.proofs.Stops.{stops_so}

@@ -1,6 +1,6 @@
 use Rattle.std.proofs.Common.{ℕ, List, ◌≤◌, ◌-◌, ◌∙◌, ap, sym, refl, length, take_while, arith}
 use Rattle.syslog_parser.specs.Bytes.{is_name_byte}
-use Rattle.syslog_parser.specs.Reads.{is_equals_sign}
+use Rattle.syslog_parser.specs.Inner.Reads.{is_equals_sign}
 use Rattle.syslog_parser.proofs.OtherBytes.{name_no_equals}
 use Rattle.syslog_parser.proofs.Words.{too_long, cut_is, run_short}
 use Rattle.syslog_parser.proofs.params.read_name.Goals as goal

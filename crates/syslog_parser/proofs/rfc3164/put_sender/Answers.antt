@@ -1,7 +1,7 @@
 use Rattle.std.proofs.Common.{◌≡◌, ◌∙◌, List, ℕ, ap, codes}
 use Rattle.entry_model.specs.Datum.{text}
 use Rattle.entry_model.specs.Seen.{seen}
-use Rattle.syslog_parser.specs.Senders.{tail_of}
+use Rattle.syslog_parser.specs.Inner.Senders.{tail_of}
 use Rattle.syslog_parser.specs.Told.{put, put_all, told_message, told_sender}
 use Rattle.syslog_parser.proofs.Stops.{on_ok}
 use Rattle.syslog_parser.proofs.Tops.{sender_told}

@@ -2,7 +2,7 @@ use Rattle.std.proofs.Common.{List, ℕ, ℤ, ap, subst}
 use Rattle.std.proofs.lemmas.Int.{to_z-of_z}
 use mir.Syntax.{w32}
 use Rattle.entry_model.specs.Seen.{seen}
-use Rattle.syslog_parser.specs.Senders.{tail_of}
+use Rattle.syslog_parser.specs.Inner.Senders.{tail_of}
 use Rattle.syslog_parser.specs.Stamps.{IsDate}
 use Rattle.syslog_parser.proofs.Tops.{sender_within, sender_faulty, tells_3164}
 use Rattle.syslog_parser.proofs.rfc3164.read_3164.Goals as goal

@@ -1,5 +1,5 @@
 use Rattle.entry_model.specs.Seen.{seen}
-use Rattle.syslog_parser.specs.Reads.{HasNoEnd, StopsInData}
+use Rattle.syslog_parser.specs.Inner.Reads.{HasNoEnd, StopsInData}
 use Rattle.syslog_parser.proofs.ReadingData.{tail_fault, tail_read}
 use Rattle.syslog_parser.proofs.Stops.{stops_so}
 use Rattle.syslog_parser.proofs.rfc5424.put_tail.Goals as goal

@@ -1,6 +1,6 @@
 use Rattle.std.proofs.Common.{◌∙◌, ◌-◌, ◌≤◌, List, ℕ, ap, sym, refl, inl, inr, length, take_while, arith}
 use Rattle.syslog_parser.specs.Bytes.{is_tag_byte}
-use Rattle.syslog_parser.specs.Reads.{ends_tag}
+use Rattle.syslog_parser.specs.Inner.Reads.{ends_tag}
 use Rattle.syslog_parser.proofs.Over3164.{tag_stops}
 use Rattle.syslog_parser.proofs.Words.{split_is, begins_at, run_word, either_inside, either_passes, either_low, neither_ends}
 use Rattle.syslog_parser.proofs.senders.read_tag.Goals as goal

@@ -1,6 +1,6 @@
 use Rattle.std.proofs.Common.{ℕ, List, ◌==◌, ◌∙◌, ap, sym, get_or}
 use Rattle.std.specs.List.{list_all}
-use Rattle.text_parsers.specs.Plain.{is_plain}
+use Rattle.text_parsers.specs.Inner.Plain.{is_plain}
 use Rattle.text_parsers.proofs.PlainRecords.{plain_record, not_empty}
 use Rattle.text_parsers.proofs.records.has_plain_record.Goals as goal
 

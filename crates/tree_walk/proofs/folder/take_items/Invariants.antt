@@ -1,5 +1,5 @@
 use Rattle.std.proofs.Common.{take}
-use Rattle.tree_walk.specs.Gained.{TakesItems}
+use Rattle.tree_walk.specs.Inner.Gained.{TakesItems}
 use Rattle.tree_walk.proofs.folder.take_items.Given as goal
 
 abbrev pub invariant-loop-item : goal.invariant-loop-item

@@ -4,9 +4,9 @@ use Rattle.std.specs.Prelude.{Contains}
 use Rattle.std.specs.Str.{bytes_eq}
 use Rattle.outside.specs.World.{Told}
 use Rattle.tree_walk.specs.Calls.{Lasts}
-use Rattle.tree_walk.specs.Entered.{Enters}
-use Rattle.tree_walk.specs.ListsSome.{ListsSome}
-use Rattle.tree_walk.specs.FoundAt.{found_at}
+use Rattle.tree_walk.specs.Inner.Entered.{Enters}
+use Rattle.tree_walk.specs.Inner.ListsSome.{ListsSome}
+use Rattle.tree_walk.specs.Inner.FoundAt.{found_at}
 use Rattle.tree_walk.specs.Patterns.{patterns}
 use Rattle.tree_walk.proofs.level.list_folders.Given as goal
 

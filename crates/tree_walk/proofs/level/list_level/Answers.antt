@@ -1,7 +1,7 @@
 use Rattle.std.proofs.Common.{refl, ◌∙◌, ap, subst, List, ℕ}
 use Rattle.std.proofs.lemmas.Result.{on_ok_weaker}
 use Rattle.std.specs.Global.{Vec}
-use Rattle.tree_walk.specs.Gained.{IsSorted}
+use Rattle.tree_walk.specs.Inner.Gained.{IsSorted}
 use Rattle.tree_walk.proofs.Once.{IsDue, told_none, told_level}
 use Rattle.tree_walk.proofs.level.list_level.Goals as goal
 

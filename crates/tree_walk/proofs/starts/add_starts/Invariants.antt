@@ -1,7 +1,7 @@
 use Rattle.std.proofs.Common.{◌≡◌, take}
 use Rattle.std.specs.Prelude.{Contains}
 use Rattle.tree_walk.specs.Depth.{level_of}
-use Rattle.tree_walk.specs.Gained.{Gains}
+use Rattle.tree_walk.specs.Inner.Gained.{Gains}
 use Rattle.tree_walk.proofs.starts.add_starts.Given as goal
 
 abbrev pub invariant-loop-start : goal.invariant-loop-start

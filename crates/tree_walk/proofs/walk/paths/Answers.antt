@@ -3,7 +3,7 @@ use Rattle.std.proofs.lemmas.Result.{IfOk-weaker}
 use Rattle.tree_walk.proofs.Lasting.{lasts_none, lasts_then}
 use Rattle.tree_walk.proofs.Once.{listed_none, listed_next, listed_in_all}
 use Rattle.tree_walk.proofs.Reaching.{reaches_none, reaches_next, finds_all}
-use Rattle.tree_walk.specs.Reached.{Reaches}
+use Rattle.tree_walk.specs.Inner.Reached.{Reaches}
 use Rattle.tree_walk.specs.declared.findings.Findings.{Findings}
 use Rattle.tree_walk.specs.Patterns.{patterns}
 use Rattle.tree_walk.proofs.walk.paths.Goals as goal

@@ -1,6 +1,6 @@
 use Rattle.tree_walk.proofs.Once.{HasListed}
 use Rattle.tree_walk.specs.Calls.{Lasts}
-use Rattle.tree_walk.specs.Reached.{Reaches}
+use Rattle.tree_walk.specs.Inner.Reached.{Reaches}
 use Rattle.tree_walk.specs.Patterns.{patterns}
 use Rattle.tree_walk.proofs.walk.paths.Given as goal
 

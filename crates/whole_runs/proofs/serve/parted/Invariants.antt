@@ -1,6 +1,6 @@
 use Rattle.std.proofs.Common.{◌≡◌}
 use Rattle.graph_core.specs.Traces.{calls_to}
-use Rattle.whole_runs.specs.Serving.{calls_not_to}
+use Rattle.whole_runs.specs.Inner.Serving.{calls_not_to}
 use Rattle.whole_runs.proofs.serve.parted.Given as goal
 
 abbrev pub invariant-loop-call : goal.invariant-loop-call

@@ -1,6 +1,6 @@
 use Rattle.std.proofs.Common.{◌∙◌, ap, List, ℕ}
 use Rattle.graph_core.specs.Traces.{network_of}
-use Rattle.whole_runs.specs.Serving.{states_in_order, calls_in_order}
+use Rattle.whole_runs.specs.Inner.Serving.{states_in_order, calls_in_order}
 use Rattle.whole_runs.proofs.Below.{node_below}
 use Rattle.whole_runs.proofs.Nodes.{states_more, calls_more, states_done, calls_done}
 use Rattle.whole_runs.proofs.serve.serve_all.Goals as goal

@@ -1,6 +1,6 @@
 use Rattle.std.proofs.Common.{◌≡◌, length, drop}
 use Rattle.graph_core.specs.Traces.{network_of}
-use Rattle.whole_runs.specs.Serving.{states_in_order, calls_in_order}
+use Rattle.whole_runs.specs.Inner.Serving.{states_in_order, calls_in_order}
 use Rattle.whole_runs.proofs.serve.serve_all.Given as goal
 
 -- what the nodes that are left leave from here is what all leave from the start

@@ -1,6 +1,6 @@
 use Rattle.std.proofs.Common.{sym, subst}
 use Rattle.std.proofs.lemmas.Result.{err_from_is_err_and}
-use Rattle.lifetimes.specs.Life.{Cant, course_of}
+use Rattle.lifetimes.specs.Inner.Life.{Cant, course_of}
 use Rattle.lifetimes.specs.declared.event.Event.{Event}
 use Rattle.lifetimes.proofs.life.Life.come.Goals as goal
 

@@ -1,8 +1,8 @@
 use Rattle.std.proofs.Common.{◌≡◌, Option, Some, None, refl, sym, subst, ap, ◌∙◌}
 use Rattle.std.specs.Prelude.{IfSome, is_some}
 use Rattle.lifetimes.proofs.LifeLemmas.{may_poll, poll_came, stopped_poll_came, with_no_stop, with_no_session}
-use Rattle.lifetimes.specs.Life.{past_of, waits_of}
-use Rattle.lifetimes.specs.Past.{IsReady}
+use Rattle.lifetimes.specs.Inner.Life.{past_of, waits_of}
+use Rattle.lifetimes.specs.Inner.Past.{IsReady}
 use Rattle.lifetimes.specs.declared.event.Event.TheVariants.{Poll}
 use Rattle.poll_core.specs.declared.session.Session.{Session}
 use Rattle.lifetimes.proofs.life.Life.poll.Goals as goal

@@ -1,7 +1,7 @@
 use Rattle.std.proofs.Common.{refl, sym, ◌∙◌}
 use Rattle.std.proofs.lemmas.Result.{err_from_is_err_and}
 use Rattle.lifetimes.proofs.LifeLemmas.{opening_cant, opening_came, stopped_opening_came, with_no_stop}
-use Rattle.lifetimes.specs.Life.{course_of, past_of, waits_of}
+use Rattle.lifetimes.specs.Inner.Life.{course_of, past_of, waits_of}
 use Rattle.lifetimes.specs.declared.event.Event.TheVariants.{Reopen}
 use Rattle.lifetimes.proofs.life.Life.reopen.Goals as goal
 

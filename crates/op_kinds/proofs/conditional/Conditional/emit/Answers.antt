@@ -2,7 +2,7 @@ use Rattle.std.proofs.Common.{Option}
 use Rattle.std.specs.Prelude.{option_map}
 use Rattle.expr_lang.specs.TreeOf.{tree_of}
 use Rattle.op_kinds.specs.AnyOpView.{act_of}
-use Rattle.op_kinds.specs.Applied.{Effect, IsApplied, effect}
+use Rattle.op_kinds.specs.Inner.Applied.{Effect, IsApplied, effect}
 use Rattle.op_kinds.specs.Operator as operator
 use Rattle.op_kinds.specs.Operator.{Made}
 use Rattle.op_kinds.specs.declared.action.Applied.TheVariants.{Done, Faulty}

@@ -2,7 +2,7 @@ use Rattle.std.proofs.Common.{ℕ, ◌<◌, Some, ap, sym, subst, ◌∙◌, ari
 use Rattle.std.proofs.lemmas.List.Sums.{prefix_len-le-length}
 use Rattle.std.specs.Prelude.{slice_index}
 use Rattle.text_parsers.specs.Cuts.{Delimiter, delimiter_len}
-use Rattle.text_parsers.specs.Passed.{is_past, is_other}
+use Rattle.text_parsers.specs.Inner.Passed.{is_past, is_other}
 use Rattle.text_parsers.proofs.Cutting.{past_unquoted, other_unquoted, past_passed, other_passed}
 use Rattle.text_parsers.proofs.cuts.Delimiter.passed.Goals as goal
 

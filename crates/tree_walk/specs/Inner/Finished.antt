@@ -1,7 +1,7 @@
 -- What a walk answers of what it found in the end.
 use Rattle.std.specs.Prelude.{◌≡◌, ℕ, List, length}
 use Rattle.tree_walk.specs.Calls.{in_32_bits}
-use Rattle.tree_walk.specs.Gained.{IsSorted}
+use Rattle.tree_walk.specs.Inner.Gained.{IsSorted}
 use Rattle.tree_walk.specs.declared.findings.Findings.{Findings}
 use Rattle.tree_walk.specs.declared.walk.Walk.{Walk}
 

@@ -11,7 +11,7 @@ use Rattle.file_pass.specs.declared.setup.Setup.{Setup}
 use Rattle.file_pass.specs.declared.taking.Taking.{Taking}
 use Rattle.outside.specs.TreeMeaning.{TreeMeaning}
 use Rattle.outside.specs.World.{Told}
-use Rattle.poll_core.specs.Begun.{IsBegun}
+use Rattle.poll_core.specs.Inner.Begun.{IsBegun}
 use Rattle.tree_walk.specs.Walked.{Finds}
 use Rattle.tree_walk.specs.declared.walk.Walk.{Walk}
 

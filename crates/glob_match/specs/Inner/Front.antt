@@ -8,7 +8,7 @@ use Rattle.glob_match.specs.declared.pattern.Component.{Component}
 use Rattle.glob_match.specs.declared.pattern.Component.TheVariants.{Folders, Name}
 use Rattle.glob_match.specs.Fits.{FitsPieces}
 use Rattle.glob_match.specs.GlobMatch.{FitsNames}
-use Rattle.glob_match.specs.Walked.{names_left}
+use Rattle.glob_match.specs.Inner.Walked.{names_left}
 
 -- the components fit up to a `**`, behind which these are left
 pub data FitsUpTo : List Component → List (List ℕ) → List Component → List (List ℕ) → Type 0 where

@@ -9,8 +9,8 @@ use Rattle.outside.specs.World.{World, Told}
 use Rattle.outside.specs.declared.tree.Kind.TheVariants.{File, Folder}
 use Rattle.tree_walk.specs.Calls.{ListsOnly, Counts, in_32_bits}
 use Rattle.tree_walk.specs.Depth.{level_of}
-use Rattle.tree_walk.specs.FoundAt.{FoundAt, found_at}
-use Rattle.tree_walk.specs.Gained.{Gains, IsSorted}
+use Rattle.tree_walk.specs.Inner.FoundAt.{FoundAt, found_at}
+use Rattle.tree_walk.specs.Inner.Gained.{Gains, IsSorted}
 use Rattle.tree_walk.specs.Listings.{Listings, failures, listings}
 use Rattle.tree_walk.specs.Patterns.{Patterns}
 use Rattle.standing.specs.Included.{IsIncluded}

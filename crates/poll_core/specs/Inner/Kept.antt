@@ -6,7 +6,7 @@ use Rattle.file_pass.specs.declared.taking.Taking.{Taking}
 use Rattle.outside.specs.Images.{Images}
 use Rattle.outside.specs.declared.disk.DiskFile.{DiskFile}
 use Rattle.outside.specs.declared.disk.DiskFile.TheVariants.{Output}
-use Rattle.poll_core.specs.Begun.{IsQuiet}
+use Rattle.poll_core.specs.Inner.Begun.{IsQuiet}
 use Rattle.poll_core.specs.Next.{IsNext, IsSavedIn}
 use Rattle.poll_core.specs.Taken.{Keeping}
 use Rattle.standing.specs.Pass.{time_of}

@@ -1,7 +1,7 @@
 -- Which of two lists has the first call by address.
 use Rattle.std.specs.Prelude.{◌≡◌, ◌<◌, List, [], ◌∷◌, length}
 use Rattle.graph_core.specs.Traces.{Call}
-use Rattle.whole_runs.specs.TakesFirst.{ComesFirst}
+use Rattle.whole_runs.specs.Inner.TakesFirst.{ComesFirst}
 use Rattle.whole_runs.specs.declared.ascending.Turn.{Turn}
 use Rattle.whole_runs.specs.declared.ascending.Turn.TheVariants.{Front, Back, Both}
 

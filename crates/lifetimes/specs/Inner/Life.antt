@@ -3,7 +3,7 @@ use Rattle.std.specs.Prelude.{◌≡◌, ◌<◌, ℕ, List, ◌∷◌, length, 
 use Rattle.lifetimes.specs.Course.{Course, Comes}
 use Rattle.lifetimes.specs.Ended.{history_of, CantPoll, CantOpen, CantStep}
 use Rattle.lifetimes.specs.Large.{Large}
-use Rattle.lifetimes.specs.Past.{Past, Failures, Waits, IsTreeAt, IsDiskAt, IsReady, IsOpened, ReachesAll}
+use Rattle.lifetimes.specs.Inner.Past.{Past, Failures, Waits, IsTreeAt, IsDiskAt, IsReady, IsOpened, ReachesAll}
 use Rattle.lifetimes.specs.Refusal.{IsSetup}
 use Rattle.lifetimes.specs.Script.{Halt, pending, counts_of, EndsUndisturbed}
 use Rattle.lifetimes.specs.Stopped.{halt_of}

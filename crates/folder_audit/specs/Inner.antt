@@ -1,0 +1,4 @@
+-- What only contracts within the crate cite.
+pub mod KeptOf
+pub mod ReadsRange
+pub mod Steps

@@ -1,0 +1,3 @@
+-- What only contracts within the crate cite.
+pub mod Reads
+pub mod Senders
