@@ -1,6 +1,6 @@
 // Where the bytes of texts lie.
-ghost use Rattle.std.specs.Prelude.{◌≡◌, [], IfOk, string_bytes};
-ghost use Rattle.entry_model.specs.Content.{bytes_of};
+ghost use Rattle.std.specs.Prelude.{◌≡◌, IfOk, string_bytes};
+ghost use Rattle.entry_model.specs.Content.{bytes_in};
 
 use arrayvec::ArrayString;
 use std::alloc::{AllocError, Global};
@@ -12,7 +12,6 @@ const ROOM: usize = 24;
 /// The most bytes that stand beside their count, so that they take one allocation. A longer text takes two.
 const SHARED_ROOM: usize = 104;
 
-#[derive(Drop)]
 pub(crate) enum Content {
     /// In the text itself.
     Short(ArrayString<ROOM>),
@@ -22,16 +21,20 @@ pub(crate) enum Content {
     Long(RcStr),
 }
 
-impl Content {
-    /// No bytes.
-    pub(crate) fn empty() -> Content
-        ensures { bytes_of result ≡ [] }
-    {
-        Content::Short(ArrayString::new())
+/// By hand, so that what drops a text goes by one call.
+impl Drop for Content {
+    fn drop(self) {
+        match self {
+            Content::Short(_text) => {}
+            Content::Shared(_text) => {}
+            Content::Long(_text) => {}
+        }
     }
+}
 
+impl Content {
     pub(crate) fn from_str(alloc: Global, text: &str) -> Result<Content, AllocError>
-        ensures { IfOk result (λ content. bytes_of content ≡ text.now) }
+        ensures { IfOk result (λ content. bytes_in content ≡ text.now) }
     {
         match ArrayString::from(text) {
             Ok(short) => Ok(Content::Short(short)),
@@ -40,7 +43,7 @@ impl Content {
     }
 
     fn in_memory(alloc: Global, text: &str) -> Result<Content, AllocError>
-        ensures { IfOk result (λ content. bytes_of content ≡ text.now) }
+        ensures { IfOk result (λ content. bytes_in content ≡ text.now) }
     {
         match ArrayString::from(text) {
             Ok(shared) => Ok(Content::Shared(Rc::new(alloc, shared)?)),
@@ -49,7 +52,7 @@ impl Content {
     }
 
     pub(crate) fn from_string(text: String) -> Result<Content, AllocError>
-        ensures { IfOk result (λ content. bytes_of content ≡ string_bytes text) }
+        ensures { IfOk result (λ content. bytes_in content ≡ string_bytes text) }
     {
         if let Ok(short) = ArrayString::from(text.as_str()) {
             return Ok(Content::Short(short));
@@ -58,7 +61,7 @@ impl Content {
     }
 
     pub(crate) fn share(&self) -> Result<Content, AllocError>
-        ensures { IfOk result (λ content. bytes_of content ≡ bytes_of self.now) }
+        ensures { IfOk result (λ content. bytes_in content ≡ bytes_in self.now) }
     {
         match self {
             Content::Short(text) => Ok(Content::Short(*text)),
@@ -68,7 +71,7 @@ impl Content {
     }
 
     pub(crate) fn as_str(&self) -> &str
-        ensures { result.now ≡ bytes_of self.now }
+        ensures { result.now ≡ bytes_in self.now }
     {
         match self {
             Content::Short(text) => text.as_str(),

@@ -14,7 +14,8 @@ use std::marker::Model;
 /// more is two.
 #[derive(Drop)]
 pub struct Text {
-    content: Content,
+    /// None stands for the empty text.
+    content: Option<Content>,
 }
 
 impl Model for Text {
@@ -31,24 +32,28 @@ impl Text {
     pub fn empty() -> Text
         ensures { result ≡ [] }
     {
-        Text {
-            content: Content::empty(),
-        }
+        Text { content: None }
     }
 
     pub fn new(content: String) -> Result<Text, AllocError>
         ensures { IfOk result (λ text. text ≡ string_bytes content) }
     {
+        if content.is_empty() {
+            return Ok(Text::empty());
+        }
         Ok(Text {
-            content: Content::from_string(content)?,
+            content: Some(Content::from_string(content)?),
         })
     }
 
     pub fn from_str(alloc: Global, content: &str) -> Result<Text, AllocError>
         ensures { IfOk result (λ text. text ≡ content.now) }
     {
+        if content.is_empty() {
+            return Ok(Text::empty());
+        }
         Ok(Text {
-            content: Content::from_str(alloc, content)?,
+            content: Some(Content::from_str(alloc, content)?),
         })
     }
 
@@ -57,15 +62,21 @@ impl Text {
     pub fn share(&self) -> Result<Text, AllocError>
         ensures { IfOk result (λ text. text ≡ self.now) }
     {
-        Ok(Text {
-            content: self.content.share()?,
-        })
+        match &self.content {
+            None => Ok(Text::empty()),
+            Some(content) => Ok(Text {
+                content: Some(content.share()?),
+            }),
+        }
     }
 
     pub fn as_str(&self) -> &str
         ensures { result.now ≡ self.now }
     {
-        self.content.as_str()
+        match &self.content {
+            None => "",
+            Some(content) => content.as_str(),
+        }
     }
 
     /// The number of bytes.
