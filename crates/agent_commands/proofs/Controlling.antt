@@ -41,14 +41,6 @@ too_much_told line left byte old mid new long allowed other so_far gives =
     inr (inr (inr (inl (record { front = take 64 line ++ byte ∷ []; one = grown.one; long = size; allowed = omega (arith, size, allowed); taken = grown.taken; asks = refl })))))
     so_far gives
 
-all_allowed : (front : List ℕ) (left : ℕ) (old new : List ℕ) → length front ≤ 64 → length front ≡ left → IsFront front old new → Asks left (Ok Exhausted) old new
-all_allowed front left old new within all is = inr (inr (inr (inr (record { front = front; one = is.one; within = within; all = all; taken = is.taken; asks = refl }))))
-
-pub all_allowed_told : (line : List ℕ) (filled left : ℕ) (old new : Option (List ℕ)) → length line ≡ 64 → filled ≤ 64 → left ≡ filled → Told (IsFront (take filled line)) old new → Told (Asks left (Ok Exhausted)) old new
-all_allowed_told line filled left old new long within all =
-    let short = length-take-le filled line (omega arith) in
-    told_weaker _ _ old new (λ x y. all_allowed (take filled line) left x y (omega (arith, short)) (omega (arith, short)))
-
 -- What was taken goes off, also what came behind the front of a line.
 pub spends_told : (line : List ℕ) (filled : ℕ) (more : List ℕ) (change : List ℕ → List ℕ → Type 0) (left after : ℕ) (old mid new : Option (List ℕ)) → ((x y : List ℕ) → change x y → x ≡ more ++ y) → filled ≤ length line → left ≡ filled + length more + after → Told (IsFront (take filled line)) old mid → Told change mid new → Told (Spends left after) old new
 spends_told line filled more change left after old mid new comes within counted =

@@ -1,9 +1,7 @@
 -- What faults of calls are for a command.
 use Rattle.std.proofs.Common.{◌≡◌, ℕ, List, IsTrue, refl, sym, subst, inl}
 use Rattle.std.specs.Prelude.{Err}
-use Rattle.checkpoint_journal.specs.JournalOf.{IsBadAt}
 use Rattle.checkpoint_journal.specs.Written.{IsWorn}
-use Rattle.checkpoint_journal.specs.declared.fault.JournalFault.{JournalFault}
 use Rattle.checkpoint_journal.specs.declared.fault.JournalFault.TheVariants as journal
 use Rattle.outside.proofs.Passing.{passes_after_same, passes_before_same, passes_by}
 use Rattle.outside.specs.Crash.{Passes}
@@ -24,7 +22,6 @@ use Rattle.poll_core.specs.declared.poll_fault.PollFault.{PollFault}
 use Rattle.poll_core.specs.declared.poll_fault.PollFault.TheVariants as polling
 use Rattle.poll_core.specs.declared.session.Session.{Session}
 use Rattle.settings_text.specs.Grammar as grammar
-use Rattle.agent_commands.specs.Committed.{IsReadingFault}
 use Rattle.agent_commands.specs.Opens.{IsOpeningFault, IsRefusal, IsSettingsFault}
 use Rattle.agent_commands.specs.Turn.{IsPollFault}
 
@@ -101,9 +98,3 @@ module _ {D : Type 0} (images : Images DiskFile D) (old mid : D) where
   settings_fault_opens (opening.OutputShort _ _) cause = absurd cause
 
 -- ---- the checkpoint alone
-
-pub reading_refusal : {D : Type 0} (images : Images DiskFile D) (disk : D) (fault : JournalFault)
-    → ((at : ℕ) → fault ≡ journal.Bad at → IsTrue (images.tells disk) → IsBadAt at (images.seen disk)) → IsReadingFault images disk fault
-reading_refusal images disk journal.Disk bad = tt
-reading_refusal images disk (journal.Bad at) bad = bad at refl
-reading_refusal images disk journal.Memory bad = tt

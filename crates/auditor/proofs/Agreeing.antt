@@ -269,8 +269,3 @@ pub mapped_at : {X Y : Type 0} (f : X → Y) (xs : List X) (n : ℕ) (d : X) →
 mapped_at f xs n d less =
     take-map f (n + 1) xs ∙ ap (map f) (take_more xs n d less) ∙ map-append f (take n xs) (get_or xs n d ∷ [])
     ∙ ap (λ ys. ys ++ f (get_or xs n d) ∷ []) (sym (take-map f n xs))
-
--- where all items or all lines agree there is no more
-pub past_all : (id : ℕ) (made : List Made) (own : List (List ℕ)) (n : ℕ) → ((n ≡ length made → ⊥) → n ≡ length own) → Agree mark_line id made own (n + 1) → ⊥
-past_all id made own n otherwise b =
-    let all : n ≡ length own = otherwise (λ e. omega (arith, e, b.asked)) in omega (arith, all, b.there)

@@ -30,9 +30,6 @@ pub record WholeSo (known : Bool) (Rest All : Type 0) : Type 0 where
   pub forward : All → (known ≡ true) × Rest
   pub back : known ≡ true → Rest → All
 
-pub whole_start : (All : Type 0) → WholeSo true All All
-whole_start All = record { forward = λ all. (refl, all); back = λ known all. all }
-
 pub whole_more : (known is_whole : Bool) (One Rest All : Type 0) → MatchBool is_whole One (One → ⊥) → WholeSo known (One × Rest) All → WholeSo (known && is_whole) Rest All
 whole_more true true One Rest All one so = record { forward = λ all. (refl, (so.forward all).1.1); back = λ known rest. so.back refl (one, rest) }
 whole_more true false One Rest All one so = record { forward = λ all. absurd (one (so.forward all).1.0); back = λ known rest. absurd (true≢false (sym known)) }

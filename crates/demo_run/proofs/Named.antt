@@ -33,9 +33,6 @@ EachNow n logs names = All (λ (name : List ℕ × ℕ). IsNow n logs name.0 nam
 abbrev pub EachGiven : ℕ → Names → Type 0
 EachGiven most names = All (λ (name : List ℕ × ℕ). IsGiven most name.0) names
 
-each_given : (n : ℕ) (logs : Logs) (names : Names) → EachNow n logs names → EachGiven n names
-each_given n logs names each = All-weaker (λ (name : List ℕ × ℕ). IsNow n logs name.0 name.1) (λ (name : List ℕ × ℕ). IsGiven n name.0) (λ name now. given_now n logs name.0 name.1 now) names each
-
 -- the file has a name
 pub record HasName (n : ℕ) (names : Names) (file : ℕ) : Type 0 where
   pub path : List ℕ

@@ -66,9 +66,6 @@ and_false_right : (a b : Bool) → b ≡ false → (a && b) ≡ false
 and_false_right true b is = is
 and_false_right false b is = refl
 
-and_false_left : (a b : Bool) → a ≡ false → (a && b) ≡ false
-and_false_left a b is = rw is refl
-
 more_not : (here : Look) (offset : ℕ) → size here ≤ offset + most_taken → (here.end == size here && nat_lt (offset + most_taken) (size here)) ≡ false
 more_not here offset within = and_false_right (here.end == size here) (nat_lt (offset + most_taken) (size here)) (le-ltb (offset + most_taken) (size here) within)
 

@@ -144,11 +144,6 @@ sane_progress poll end end_after rows after place row far cut made state seen qu
           record { id = was.id; path = was.path; front = was.front; start = was.start; offset = was.offset; records = was.records; lines = omega (arith, was.lines, later); state = was.state; short = was.short; parts = was.parts })
     ]
 
-pub sane_later : (poll : Poll) (end end_after : ℕ) (rows : List Row) → AreSaneRows poll end rows → end ≤ end_after → AreSaneRows poll end_after rows
-sane_later poll end end_after rows sane later k row at =
-    let was = sane k row at in
-    record { id = was.id; path = was.path; front = was.front; start = was.start; offset = was.offset; records = was.records; lines = omega (arith, was.lines, later); state = was.state; short = was.short; parts = was.parts }
-
 -- each line has a byte or more
 pub text_long : ((mark : Mark) → 0 < length (line_of mark)) → (marks : List Mark) → length marks ≤ length (lines_text marks)
 text_long filled [] = omega arith

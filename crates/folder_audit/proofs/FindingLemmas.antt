@@ -1,14 +1,14 @@
 -- Findings, one after another, and what they come to.
-use Rattle.std.proofs.Common.{◌≡◌, ◌⊎◌, ℕ, zero, suc, ◌+◌, ◌*◌, ◌<◌, ◌≤◌, List, [], ◌∷◌, length, take, get_or, true, false, refl, sym, ap, subst, ◌∙◌, inl, inr, arith}
-use Rattle.std.specs.Prelude.{IfSome, Option, None, Some, slice_get, count_by, sum_by}
+use Rattle.std.proofs.Common.{◌≡◌, ◌⊎◌, ℕ, zero, suc, ◌+◌, ◌*◌, ◌<◌, ◌≤◌, List, [], ◌∷◌, length, take, get_or, false, refl, sym, ap, subst, ◌∙◌, inl, inr, arith}
+use Rattle.std.specs.Prelude.{IfSome, Option, None, Some, slice_get, sum_by}
 use Rattle.std.proofs.lemmas.Bool.{cases_lt}
 use Rattle.std.proofs.lemmas.Option.{slice_get_within, slice_get-get_or, get_or_from_slice_get, same_Some}
-use Rattle.std.proofs.lemmas.List.Sums.{count_by_more_yes, count_by_more_no, sum_by-le, sum_by_more}
+use Rattle.std.proofs.lemmas.List.Sums.{sum_by-le, sum_by_more}
 use Rattle.outside.proofs.Telling.{told_then, told_weaker}
 use Rattle.outside.specs.World.{World, Told}
 use Rattle.standing.specs.Rows.{Row, IsRowAt}
 use Rattle.tree_walk.specs.Calls.{KeepsHandles}
-use Rattle.folder_audit.specs.Findings.{AreFoundAt, HasFound, IsFoundAt, IsOneFound, is_absent, is_other, lines_in}
+use Rattle.folder_audit.specs.Findings.{AreFoundAt, HasFound, IsFoundAt, IsOneFound, is_other, lines_in}
 use Rattle.folder_audit.specs.Judged.{IsFound, TellsLines}
 use Rattle.folder_audit.specs.KeptFiles.{texts_of}
 use Rattle.folder_audit.specs.declared.findings.Finding.{Finding}
@@ -31,13 +31,6 @@ none_found kept found change old new many absent told = record {
 found_on : (kept : Kept) (found : List Finding) (old mid new : World) → KeepsHandles mid new → AreFoundAt kept found old mid → AreFoundAt kept found old new
 found_on kept found old mid new keeps holds = λ place finding there row text last at text_at is_last.
     found_later kept.pipes.items last text row finding old old mid new (record { events = []; goes_on = refl }) keeps.later (holds place finding there row text last at text_at is_last)
-
--- a call that found nothing
-pub found_still : (kept : Kept) (found : List Finding) (old mid new : Option World) → HasFound kept found old mid → Told KeepsHandles mid new → HasFound kept found old new
-found_still kept found old mid new so_far keeps = record {
-  are = so_far.are;
-  hold = told_then (AreFoundAt kept found) KeepsHandles (AreFoundAt kept found) old mid new (λ x y z holds k. found_on kept found x y z k holds) so_far.hold keeps;
-}
 
 found_more : (kept : Kept) (before after : List Finding) (place : ℕ) (finding : Finding) (old mid new : World) → KeepsHandles old mid → KeepsHandles mid new → Noted before place finding after → AreFoundAt kept before old mid → IsFoundAt kept place finding mid new
     → AreFoundAt kept after old new
@@ -75,12 +68,6 @@ found_one kept before after place finding old mid new earlier keeps many noted s
   by (Some x) (Some y) (Some z) a b c d = found_more kept before after place finding x y z a b noted c d
 
 -- ---- what they come to
-
-pub absent_more : (found : List Finding) (i : ℕ) (one : Finding) → slice_get found i ≡ Some one → is_absent one ≡ true → count_by is_absent (take (i + 1) found) ≡ count_by is_absent (take i found) + 1
-absent_more found i one at is = count_by_more_yes is_absent found i one (slice_get_within found i one at) (ap is_absent (get_or_from_slice_get found i one one at) ∙ is)
-
-pub absent_still : (found : List Finding) (i : ℕ) (one : Finding) → slice_get found i ≡ Some one → is_absent one ≡ false → count_by is_absent (take (i + 1) found) ≡ count_by is_absent (take i found)
-absent_still found i one at is = count_by_more_no is_absent found i one (slice_get_within found i one at) (ap is_absent (get_or_from_slice_get found i one one at) ∙ is)
 
 pub lines_more : (found : List Finding) (i : ℕ) (one : Finding) → slice_get found i ≡ Some one → sum_by lines_in (take (i + 1) found) ≡ sum_by lines_in (take i found) + lines_in one
 lines_more found i one at = sum_by_more lines_in found i one (slice_get_within found i one at) ∙ ap (λ (n : ℕ). sum_by lines_in (take i found) + n) (ap lines_in (get_or_from_slice_get found i one one at))

@@ -1,5 +1,5 @@
 -- What is kept, and why it isn't gone by.
-use Rattle.std.proofs.Common.{◌≡◌, ℕ, zero, suc, ◌<◌, ◌≤◌, List, [], ◌∷◌, length, take, Some, Err, refl, sym, ap, subst, ◌∙◌, arith}
+use Rattle.std.proofs.Common.{◌≡◌, ℕ, zero, suc, ◌<◌, ◌≤◌, List, [], ◌∷◌, length, take, Some, refl, sym, ap, subst, ◌∙◌, arith}
 use Rattle.std.specs.Prelude.{slice_get}
 use Rattle.std.proofs.lemmas.List.{length-map}
 use Rattle.std.proofs.lemmas.Option.{same_Some}
@@ -16,11 +16,11 @@ use Rattle.outside.specs.declared.disk.DiskFile.TheVariants.{Output}
 use Rattle.pipeline.specs.AsRules.{rules_of}
 use Rattle.pipeline.specs.declared.Pipeline.{Pipeline}
 use Rattle.standing.specs.Rows.{KeepStates, Row}
-use Rattle.folder_audit.specs.Cause.{HasAuditCause, audit_journal}
+use Rattle.folder_audit.specs.Cause.{audit_journal}
 use Rattle.folder_audit.specs.KeptFiles.{AreFitRows, IsFit, IsLast, texts_of}
 use Rattle.folder_audit.specs.Inner.KeptOf.{IsKept}
 use Rattle.folder_audit.specs.Refusals.{IsReady, IsRefusal, IsUnaudited, flush_on, foreign_state, kept_refused, large, no_reading, short_output}
-use Rattle.folder_audit.specs.Inner.Steps.{AreOperators, IsNoOutput, IsOutput, IsPastLimits, IsUnfit}
+use Rattle.folder_audit.specs.Inner.Steps.{AreOperators, IsNoOutput, IsOutput, IsUnfit}
 use Rattle.folder_audit.specs.declared.fault.AuditFault.{AuditFault}
 use Rattle.folder_audit.specs.declared.fault.AuditFault.TheVariants.{Disk, NothingKept, CheckpointBad, KeptSettings, KeptBuild, OutputShort, FlushOn, Large, Differs, Memory}
 use Rattle.folder_audit.specs.declared.kept.Kept.{Kept}
@@ -61,43 +61,6 @@ output_refused image checkpoint pipes last (KeptBuild _) ready states short = ab
 output_refused image checkpoint pipes last (Differs _ _) ready states short = absurd short
 
 -- ---- causes
-
-pub unfit_cause : (T : Type 0) (checkpoint : Checkpoint) (fault : AuditFault) (before after : ℕ) → after ≡ before → IsUnfit checkpoint fault → HasAuditCause {T = T} (Err fault) before after
-unfit_cause T checkpoint (KeptSettings fault) before after same unfit = same
-unfit_cause T checkpoint (KeptBuild fault) before after same unfit = same
-unfit_cause T checkpoint (CheckpointBad id) before after same unfit = same
-unfit_cause T checkpoint Memory before after same unfit = same
-unfit_cause T checkpoint Disk before after same unfit = absurd unfit
-unfit_cause T checkpoint NothingKept before after same unfit = same
-unfit_cause T checkpoint (OutputShort _ _) before after same unfit = same
-unfit_cause T checkpoint FlushOn before after same unfit = same
-unfit_cause T checkpoint (Large _) before after same unfit = same
-unfit_cause T checkpoint (Differs _ _) before after same unfit = same
-
-pub limits_cause : (T : Type 0) (pipes : List Pipeline) (kept : ℕ) (fault : AuditFault) (before after : ℕ) → after ≡ before → IsPastLimits pipes kept fault → HasAuditCause {T = T} (Err fault) before after
-limits_cause T pipes kept FlushOn before after same past = same
-limits_cause T pipes kept (Large _) before after same past = same
-limits_cause T pipes kept Disk before after same past = absurd past
-limits_cause T pipes kept NothingKept before after same past = same
-limits_cause T pipes kept (CheckpointBad _) before after same past = same
-limits_cause T pipes kept (KeptSettings _) before after same past = same
-limits_cause T pipes kept (KeptBuild _) before after same past = same
-limits_cause T pipes kept (OutputShort _ _) before after same past = same
-limits_cause T pipes kept (Differs _ _) before after same past = same
-limits_cause T pipes kept Memory before after same past = same
-
--- a limit is looked at only where the output is long enough
-pub past_limits : (pipes : List Pipeline) (kept : ℕ) (file : List ℕ) (fault : AuditFault) → kept ≤ length file → IsPastLimits pipes kept fault → IsNoOutput pipes kept file fault
-past_limits pipes kept file FlushOn enough past = (enough, past)
-past_limits pipes kept file (Large size) enough past = (enough, past.0, past.1, past.2)
-past_limits pipes kept file Disk enough past = absurd past
-past_limits pipes kept file NothingKept enough past = absurd past
-past_limits pipes kept file (CheckpointBad _) enough past = absurd past
-past_limits pipes kept file (KeptSettings _) enough past = absurd past
-past_limits pipes kept file (KeptBuild _) enough past = absurd past
-past_limits pipes kept file (OutputShort _ _) enough past = absurd past
-past_limits pipes kept file (Differs _ _) enough past = absurd past
-past_limits pipes kept file Memory enough past = absurd past
 
 -- ---- what is gone by
 

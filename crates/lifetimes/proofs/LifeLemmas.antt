@@ -414,14 +414,6 @@ module _ (rules : Rules) (events : List Event) (event : Event) (life after : Lif
 
 -- ---- what every life owes
 
--- no session asks anything of a disk
-pub none_ready : (session : Option Session) (disk : MemDisk) → is_some session ≡ false → IfSome session (λ (s : Session). IsReady s disk)
-none_ready None disk closed = tt
-none_ready (Some session) disk closed = let never : true ≡ false = closed in absurd (cc)
-
-pub memory_cant : (text : List ℕ) (at : ℕ) (event : Event) (course : Course) (fault : ScriptFault) → fault ≡ Memory → Cant text at event course fault
-memory_cant text at event course fault is = subst (λ (f : ScriptFault). Cant text at event course f) (sym is) tt
-
 pub opening_cant : (text : List ℕ) (at : ℕ) (event : Event) (course : Course) (fault : ScriptFault) → CantOpenBy text fault → Cant text at event course fault
 opening_cant text at event course (Setup fault) cant = cant
 opening_cant text at event course (NotOpen _) cant = absurd cant

@@ -1,5 +1,5 @@
 -- The calls of a disk in memory, as those of the Parts that keep its files.
-use Rattle.std.proofs.Common.{◌≡◌, ◌≢◌, ℕ, ◌≤◌, ◌<◌, ◌+◌, ◌^◌, List, length, Option, Some, Result, Ok, Err, OnOk, refl, sym, ap, subst, arith}
+use Rattle.std.proofs.Common.{◌≡◌, ◌≢◌, ℕ, ◌≤◌, ◌<◌, ◌+◌, ◌^◌, List, Option, Result, Ok, Err, OnOk, refl, ap, subst, arith}
 use Rattle.outside.specs.Crash.{Passes, IsDurable}
 use Rattle.outside.specs.DiskCalls.{last_end, written_after}
 use Rattle.outside.specs.Image.{Image, AtFile}

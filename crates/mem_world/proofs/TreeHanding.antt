@@ -1,8 +1,8 @@
 -- Handles are handed out in ascending order, and events are taken down.
 use Rattle.std.proofs.Common.{◌≡◌, ℕ, ◌+◌, ◌<◌, List, [], ◌∷◌, Bool, true, false, cond, ◌==◌, refl, sym, subst, arith}
-use Rattle.std.specs.Prelude.{All, Option, None, Some, option_map, find}
+use Rattle.std.specs.Prelude.{All, None, Some, option_map, find}
 use Rattle.std.proofs.lemmas.Bool.{eqb-true}
-use Rattle.std.proofs.lemmas.List.Elements.{All-nil, All-cons, All-head, All-tail, All-weaker}
+use Rattle.std.proofs.lemmas.List.Elements.{All-cons, All-head, All-tail, All-weaker}
 use Rattle.std.specs.Prelude.{Result, Ok, Err, OnOk, OnErr, IsTrue}
 use Rattle.std.specs.declared.alloc.AllocError.{AllocError}
 use Rattle.outside.specs.Lawful.{may_come, IsLawful}

@@ -6,7 +6,7 @@ use Rattle.std.specs.Str.{bytes_eq}
 use Rattle.std.specs.Prelude.{find, filter, option_map}
 use Rattle.std.specs.List.{list_any}
 use Rattle.std.specs.Prelude.{IsTrue}
-use Rattle.outside.specs.Lawful.{is_lawful, may_come, IsLawful}
+use Rattle.outside.specs.Lawful.{is_lawful, IsLawful}
 use Rattle.outside.specs.World.{Event, create, append, rename, remove, look, miss, unlisted, History, Names, names, file_at, has_name, bytes, was_created}
 use Rattle.mem_world.specs.WorldSteps.{added_by, makes, names_after}
 

@@ -3,7 +3,6 @@ use Rattle.std.proofs.Common.{◌≡◌, ℕ, suc, ◌+◌, ◌*◌, ◌-◌, �
 use Rattle.std.proofs.lemmas.Bool.{cases_eq}
 use Rattle.std.proofs.lemmas.Grind.{same_number_lists}
 use Rattle.std.proofs.lemmas.List.{length-take, length-drop, take-append-le, get_or-take, get_or-drop, get_or-append-add}
-use Rattle.std.proofs.lemmas.Nat.{div-add-mod', mul-le}
 use Rattle.outside.specs.Content.{Gives}
 use Rattle.outside.specs.Image.{Image}
 use Rattle.out_segments.specs.declared.parts.PartFile.{PartFile}
@@ -12,10 +11,6 @@ use Rattle.out_segments.specs.Inner.AtOutput.{IsShort}
 use Rattle.out_segments.specs.Joined.{output_of, joined}
 use Rattle.out_segments.proofs.Joining.{first_here, long_here}
 use Rattle.out_segments.proofs.Outputs.{output_ends, output_rest, output_reached, output_most}
-
--- behind all Parts
-pub behind_all : (size offset : ℕ) → 4294967295 < offset / size → 4294967296 * size ≤ offset
-behind_all size offset late = omega (arith, div-add-mod' offset size, mul-le 4294967296 size (offset / size) size (omega (arith, late)) (omega arith))
 
 pub short_then : (size number last : ℕ) (now before : Image PartFile) → now ≡ before → last ≡ length (now (Part number)) → last < size → IsShort size number before
 short_then size number last now before same is short = subst (λ (image : Image PartFile). IsShort size number image) same (omega (arith, is, short))

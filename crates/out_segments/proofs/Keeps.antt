@@ -1,5 +1,5 @@
 -- How long Parts are, over several calls.
-use Rattle.std.proofs.Common.{◌≡◌, ◌≢◌, ℕ, ◌≤◌, max, List, length, Some, refl, sym, ◌∙◌, ap, subst, arith, inl, inr}
+use Rattle.std.proofs.Common.{◌≡◌, ◌≢◌, ℕ, ◌≤◌, List, length, Some, sym, ◌∙◌, ap, subst, arith, inl, inr}
 use Rattle.outside.specs.Crash.{Passes}
 use Rattle.outside.specs.Image.{Image, AtFile, Same}
 use Rattle.outside.specs.Images.{Images}

@@ -1,5 +1,5 @@
 -- A store, from call to call.
-use Rattle.std.proofs.Common.{◌≡◌, ◌≢◌, ℕ, ◌≤◌, ◌<◌, List, [], ◌∷◌, ◌++◌, length, reverse, Bool, if◌then◌else◌, refl, sym, ◌∙◌, ap, subst, arith, inl, inr}
+use Rattle.std.proofs.Common.{◌≡◌, ◌≢◌, ℕ, ◌≤◌, ◌<◌, List, [], ◌∷◌, ◌++◌, length, reverse, Bool, if◌then◌else◌, sym, ◌∙◌, ap, subst, arith, inl, inr}
 use Rattle.std.proofs.lemmas.List.{reverse-append}
 use Rattle.outside.specs.Image.{Image, AtFile}
 use Rattle.out_segments.specs.declared.parts.PartFile.{PartFile}

@@ -193,6 +193,3 @@ output_idle size first change image idle = record { here = idle; before = λ _ _
 
 pub kept_then : {size first : ℕ} {change : List ℕ → List ℕ → Type 0} {old mid new : Image PartFile} → AtOutput size first IsKept old mid → AtOutput size first change mid new → AtOutput size first change old new
 kept_then {size} {first} {change} {old} {mid} {new} kept at = at_output_then kept at (λ same step. subst (λ bytes. change bytes (output_of size new)) same step)
-
-pub then_kept : {size first : ℕ} {change : List ℕ → List ℕ → Type 0} {old mid new : Image PartFile} → AtOutput size first change old mid → AtOutput size first IsKept mid new → AtOutput size first change old new
-then_kept {size} {first} {change} {old} {mid} {new} at kept = at_output_then at kept (λ step same. subst (λ bytes. change (output_of size old) bytes) (sym same) step)

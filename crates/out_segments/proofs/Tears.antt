@@ -1,5 +1,5 @@
 -- Writes to a part of a list.
-use Rattle.std.proofs.Common.{◌≡◌, ℕ, ◌+◌, ◌-◌, ◌<◌, ◌≤◌, List, [], ◌++◌, length, take, get_or, refl, sym, ◌∙◌, ap, arith, length-append, inl, inr}
+use Rattle.std.proofs.Common.{◌≡◌, ℕ, ◌+◌, ◌-◌, ◌<◌, ◌≤◌, List, [], ◌++◌, length, take, get_or, sym, ◌∙◌, ap, arith, length-append, inl, inr}
 use Rattle.std.proofs.lemmas.Bool.{cases_lt}
 use Rattle.std.proofs.lemmas.List.{get_or_append_left, get_or-append-add, get_or-take, length-take-le}
 use Rattle.outside.specs.Image.{Torn, Holds}
@@ -86,11 +86,3 @@ holds_then offset first second old mid new a b =
       ];
       reaches = omega (arith, b.reaches);
     }
-
--- nothing was written
-pub holds_none : (offset : ℕ) (content : List ℕ) → offset ≤ length content → Holds offset [] content content
-holds_none offset content within = record {
-  outside = record { before = λ k _ _. refl; after = λ k _ _. refl; no_shorter = omega arith; no_longer = omega arith };
-  inside = λ k none. absurd (omega arith);
-  reaches = omega arith;
-}

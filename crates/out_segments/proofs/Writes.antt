@@ -1,5 +1,5 @@
 -- Writes to the output.
-use Rattle.std.proofs.Common.{◌≡◌, ℕ, ◌+◌, ◌*◌, ◌-◌, ◌/◌, ◌%◌, ◌<◌, ◌≤◌, ◌^◌, List, ◌++◌, inl, inr, length, take, drop, refl, sym, ◌∙◌, ap, subst, arith, take-append-drop}
+use Rattle.std.proofs.Common.{◌≡◌, ℕ, ◌+◌, ◌*◌, ◌-◌, ◌/◌, ◌%◌, ◌<◌, ◌≤◌, ◌^◌, List, ◌++◌, inl, inr, length, take, drop, sym, ◌∙◌, ap, subst, arith, take-append-drop}
 use Rattle.std.proofs.lemmas.Bool.{cases_lt}
 use Rattle.std.proofs.lemmas.List.{take-take, drop-take, length-take-le, length-take, length-drop}
 use Rattle.std.proofs.lemmas.Nat.{div-add-mod', div_below, le-div}
@@ -28,9 +28,6 @@ holds_part size at bytes old new some within fits begins room holds =
 -- nothing of it was written yet
 pub torn_kept : (size first at count : ℕ) (old new : Image PartFile) → AtOutput size first IsKept old new → AtOutput size first (Torn at count) old new
 torn_kept size first at count old new kept = at_output_weaker kept (λ same. subst (λ bytes. Torn at count (output_of size old) bytes) (sym same) (torn_idle at count (output_of size old)))
-
-pub torn_idle_output : (size at count : ℕ) (image : Image PartFile) → AtOutput size (at / size) (Torn at count) image image
-torn_idle_output size at count image = record { here = torn_idle at count (output_of size image); before = λ _ _. refl; settings = refl; slot_a = refl; slot_b = refl; lengths = λ number. omega arith }
 
 -- a later place lies in no earlier Part
 part_later : (size offset at : ℕ) → 1 ≤ size → offset ≤ at → offset / size ≤ at / size

@@ -64,22 +64,6 @@ module _ (text : List ℕ) (limit : ℕ) (image : Image DiskFile) (own : Journal
     pub short_unadopted : (size : ℕ) → KeepStates (rules_of (last_text before.eras) pipeline) before.rows → size ≡ length (image Output) → size < before.output_length → IsUnadopted text limit image (OutputShort before.output_length size)
     short_unadopted size states is short = short_output size own_rules_of states is short
 
--- a refusal of the settings that are kept is none of those to be adopted
-pub kept_late : (text : List ℕ) (fault : AdoptFault) → IsKeptRefusal text fault → IsOfNext fault → ⊥
-kept_late text (Settings _) refusal of_next = refusal
-kept_late text (Build _) refusal of_next = refusal
-kept_late text Disk refusal of_next = of_next
-kept_late text NothingKept refusal of_next = of_next
-kept_late text (CheckpointBad _) refusal of_next = of_next
-kept_late text (KeptSettings _) refusal of_next = of_next
-kept_late text (Kept _) refusal of_next = of_next
-kept_late text (OutputShort _ _) refusal of_next = of_next
-kept_late text (Fingerprint _ _) refusal of_next = of_next
-kept_late text Eras refusal of_next = of_next
-kept_late text (OutputFull _) refusal of_next = of_next
-kept_late text (Worn _) refusal of_next = of_next
-kept_late text Memory refusal of_next = of_next
-
 -- a fault that is none of the settings to be adopted comes once these are read and made
 pub late_next : (text : List ℕ) (pipeline : Pipeline) (fault : AdoptFault) → IsMadeOf text pipeline → (IsOfNext fault → ⊥) → IsNextRefusal text fault
 late_next text pipeline (Settings _) made late = absurd (late tt)

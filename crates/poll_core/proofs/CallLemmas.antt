@@ -1,12 +1,10 @@
 -- How many calls succeeded, over several of them.
-use Rattle.std.proofs.Common.{◌≡◌, ℕ, ◌+◌, ◌≤◌, Option, Some, None, Result, Ok, Err, refl, ap, ◌∙◌, arith}
-use Rattle.outside.specs.DiskCalls.{done_after}
+use Rattle.std.proofs.Common.{◌≡◌, ℕ, ◌+◌, ◌≤◌, Option, Some, None, refl, ap, ◌∙◌, arith}
 use Rattle.outside.specs.DiskMeaning.{DiskMeaning}
-use Rattle.outside.specs.declared.fault.CallFault.{CallFault}
 use Rattle.poll_core.specs.Calls.{DoneAtMost, CutsAndSyncs}
 use Rattle.slot_store.proofs.Counts.{done_more_then}
 use Rattle.slot_store.proofs.OnlyReading.{keeps_terms_then}
-use Rattle.slot_store.specs.Counted.{DoneMore, HasDone}
+use Rattle.slot_store.specs.Counted.{DoneMore}
 use Rattle.slot_store.specs.OnlyRead.{OnlyRead}
 
 none_more : (count : Option ℕ) → DoneMore 0 count count
@@ -15,14 +13,6 @@ none_more (Some n) = ap (λ m. Some m) (omega arith)
 
 pub done_none : (before after : Option ℕ) → after ≡ before → DoneAtMost 0 before after
 done_none before after same = (0, omega arith, same ∙ none_more before)
-
-pub done_one : {T : Type 0} (result : Result T CallFault) (before after : Option ℕ) → after ≡ done_after result before → DoneAtMost 1 before after
-done_one (Ok _) before after is = (1, omega arith, is)
-done_one (Err _) before after is = (0, omega arith, is ∙ none_more before)
-
-pub done_some : {T E : Type 0} (result : Result T E) (calls : ℕ) (before after : Option ℕ) → HasDone result calls before after → DoneAtMost calls before after
-done_some (Ok _) calls before after done = (calls, omega arith, done)
-done_some (Err _) calls before after done = let few = done.1 in (done.0, omega (arith, few), done.2)
 
 pub done_then : (first second most : ℕ) (start mid end : Option ℕ) → first + second ≤ most → DoneAtMost first start mid → DoneAtMost second mid end → DoneAtMost most start end
 done_then first second most start mid end enough a b =

@@ -1,6 +1,6 @@
 -- What syncs and cuts leave of a disk.
 use Rattle.std.proofs.Common.{◌≡◌, ◌≢◌, ℕ, ◌≤◌, length, take, Option, Some, None, refl, sym, ap, ◌∙◌, subst, inl, inr}
-use Rattle.std.proofs.lemmas.List.{take_all, length-take-le}
+use Rattle.std.proofs.lemmas.List.{length-take-le}
 use Rattle.std.specs.Prelude.{◌⊎◌}
 use Rattle.checkpoint_journal.proofs.JournalLaws.{journal_cut, journal_of_slots}
 use Rattle.checkpoint_journal.specs.JournalOf.{log_of, HasJournal}
@@ -120,12 +120,6 @@ pub ends_step : (journal : Option Journal) (some : Journal) (checkpoint : Checkp
 ends_step journal some checkpoint old new is memory at =
     subst (λ j. EndsWithMemory j checkpoint new) (sym is) (journal_cut old new some checkpoint (subst (λ j. HasMemory j checkpoint old) is memory) at)
 
-pub ends_idle : (journal : Option Journal) (checkpoint : Checkpoint) (old new : Image DiskFile) → journal ≡ None → HasMemory journal checkpoint old → new ≡ old → EndsWithMemory journal checkpoint new
-ends_idle journal checkpoint old new none memory same =
-    let at_none : HasMemory None checkpoint old = subst (λ j. HasMemory j checkpoint old) none memory in
-    let P : Image DiskFile → Type 0 = λ image. EndsWithMemory None checkpoint image in
-    subst (λ j. EndsWithMemory j checkpoint new) (sym none) (subst P (sym same) at_none)
-
 -- ---- the output
 
 pub reopens_none : (image : Image DiskFile) → Reopens image image
@@ -213,14 +207,3 @@ left_by_cut session old new memory enough at = record {
   memory = ends_moved (journal_of_session session) (checkpoint_of_session session) old new (at.others SlotA (λ same. cc)) (at.others SlotB (λ same. cc)) memory;
   output = ap length at.here ∙ length-take-le (kept_of session) (old Output) enough;
 }
-
--- a file that isn't longer
-pub cut_idle : (file : DiskFile) (size : ℕ) (old new : Image DiskFile) → new ≡ old → length (old file) ≤ size → AtFile file (IsCut size) old new
-cut_idle file size old new same short =
-    let P : Image DiskFile → Type 0 = λ image. AtFile file (IsCut size) old image in
-    subst P (sym same) (record { here = sym (take_all size (old file) short); others = λ other differs. refl })
-
-pub may_cut_idle : (file : DiskFile) (size : ℕ) (old new : Image DiskFile) → new ≡ old → AtFile file (MayCut size) old new
-may_cut_idle file size old new same =
-    let P : Image DiskFile → Type 0 = λ image. AtFile file (MayCut size) old image in
-    subst P (sym same) (record { here = inl refl; others = λ other differs. refl })

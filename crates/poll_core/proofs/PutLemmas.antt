@@ -1,5 +1,5 @@
 -- What a change that is put behind, and a checkpoint that is put beside, make of a disk.
-use Rattle.std.proofs.Common.{◌≡◌, ◌≢◌, ℕ, ◌+◌, ◌^◌, ◌≤◌, List, length, Option, Some, None, Result, Ok, Err, OnOk, refl, sym, ap, ◌∙◌, subst, inl, inr, arith}
+use Rattle.std.proofs.Common.{◌≡◌, ◌≢◌, ℕ, ◌+◌, ◌^◌, ◌≤◌, length, Option, Some, None, Result, Ok, Err, OnOk, refl, sym, ap, ◌∙◌, subst, inl, inr, arith}
 use Rattle.std.proofs.lemmas.Option.{same_Some}
 use Rattle.std.specs.Prelude.{IfOk}
 use Rattle.checkpoint_store.proofs.CostLemmas.{change_cost}
@@ -9,11 +9,10 @@ use Rattle.checkpoint_journal.specs.Written.{Awaits, appended, GainsChange, Appe
 use Rattle.checkpoint_journal.specs.declared.journal.Journal.{Journal}
 use Rattle.checkpoint_store.specs.Limits.{newest}
 use Rattle.checkpoint_store.specs.Rules.{IsCheckpoint}
-use Rattle.checkpoint_store.specs.Spelling.{change_spelling, checkpoint_spelling}
+use Rattle.checkpoint_store.specs.Spelling.{change_spelling}
 use Rattle.checkpoint_store.specs.declared.Change.{Change}
 use Rattle.checkpoint_store.specs.declared.Checkpoint.{Checkpoint}
 use Rattle.file_pass.specs.declared.taking.Taking.{Taking}
-use Rattle.file_tracker.specs.declared.row.Row.{Row}
 use Rattle.outside.proofs.Passing.{passes_by, passes_weaker}
 use Rattle.outside.specs.Crash.{Passes}
 use Rattle.outside.specs.DiskCalls.{written_after}
@@ -23,7 +22,7 @@ use Rattle.outside.specs.declared.disk.DiskFile.{DiskFile}
 use Rattle.outside.specs.declared.disk.DiskFile.TheVariants.{Settings, Output, SlotA, SlotB}
 use Rattle.poll_core.proofs.TakenLemmas.{change_within}
 use Rattle.poll_core.specs.IsSession.{IsShort}
-use Rattle.poll_core.specs.Next.{Costs, IsDue, IsNext, IsSavable, KeepsFiles, KeepsMemory, Puts, WrittenAtMost, cost_of_rows, sequence_after}
+use Rattle.poll_core.specs.Next.{IsDue, IsNext, IsSavable, KeepsFiles, KeepsMemory, Puts, WrittenAtMost, cost_of_rows, sequence_after}
 use Rattle.poll_core.specs.Taken.{Keeping, keeping_of}
 use Rattle.poll_core.specs.declared.heading.Heading.{Heading}
 use Rattle.slot_store.specs.ChosenSlot.{IsSlotFile}
@@ -193,13 +192,6 @@ costs_none most None None same = tt
 costs_none most None (Some _) same = cc
 costs_none most (Some _) None same = cc
 costs_none most (Some before) (Some after) same = let equal : after ≡ before = cc in omega arith
-
--- nothing was written
-pub costs_nothing : (journal : Option Journal) (after : Checkpoint) (rows : List Row) (before spent : Option ℕ) → spent ≡ before → Costs journal after rows before spent
-costs_nothing journal after rows before spent same = record {
-  anew = λ _. costs_none (length (checkpoint_spelling newest after) + 18) before spent same;
-  goes_on = λ _. costs_none (cost_of_rows rows) before spent same;
-}
 
 raised_most : (size most : ℕ) (before : Option ℕ) (file : DiskFile) → size ≤ most → WrittenAtMost most before (written_after file size before)
 raised_most size most None Settings within = tt

@@ -5,7 +5,7 @@ use Rattle.std.proofs.lemmas.Option.{none-some, same_Some}
 use Rattle.std.specs.Prelude.{IfSome, slice_get}
 use Rattle.checkpoint_journal.specs.declared.journal.Journal.{Journal}
 use Rattle.checkpoint_store.specs.Rules.{AreEras, IsCheckpoint, KeepRules, beside_of}
-use Rattle.checkpoint_store.specs.Limits.{newest, output_limit, time_limit}
+use Rattle.checkpoint_store.specs.Limits.{newest, output_limit}
 use Rattle.poll_core.proofs.MakingLemmas.{short_text}
 use Rattle.poll_core.specs.IsSession.{IsShort}
 use Rattle.poll_core.specs.MadeOf.{IsMadeOf}
@@ -16,7 +16,7 @@ use Rattle.poll_core.proofs.DiskLemmas.{ends_goes_on}
 use Rattle.poll_core.proofs.RowLemmas.{rows_in_order}
 use Rattle.poll_core.specs.IsSession.{IsSession}
 use Rattle.poll_core.specs.Remembers.{GoesOnFrom, IsLeftBy, IsEmpty, HasMemory}
-use Rattle.poll_core.specs.SessionParts.{checkpoint_of_session, rules_of_session, journal_of_session, kept_of, last_text, session_at}
+use Rattle.poll_core.specs.SessionParts.{checkpoint_of_session, rules_of_session, journal_of_session, kept_of, last_text}
 use Rattle.poll_core.specs.declared.session.Session.{Session}
 use Rattle.standing.specs.Eras.{Eras, last_era, texts_of}
 use Rattle.standing.specs.Rows.{Row, Checkpoint, no_checkpoint, KeepStates}
@@ -35,18 +35,6 @@ session_sound session file is enough eras texts_are last =
       ids = record { ids = rows_in_order (beside_of newest session.eras session.kept) session.tracker is.lawful.rows; next = refl };
       long_enough = enough;
     }
-
--- at another time it is a session too
-pub at_session : (session : Session) (now : ℕ) → now ≤ time_limit → IsSession session → IsSession (session_at session now)
-at_session session now within is = record {
-  made = is.made;
-  one_era = is.one_era;
-  limit = is.limit;
-  lawful = is.lawful;
-  states = is.states;
-  journal = is.journal;
-  time = (omega (arith, is.time.0), omega (arith, is.time.1, within));
-}
 
 pub left_goes_on : (session : Session) (image : Image DiskFile) → IsLeftBy session image → GoesOnFrom session image
 left_goes_on session image by = record {

@@ -1,7 +1,6 @@
 -- One more record, from the calls that write it.
-use Rattle.std.proofs.Common.{◌≡◌, ℕ, ◌+◌, ◌<◌, ◌≤◌, List, [], ◌++◌, ◌∷◌, length, take, get_or, Option, Some, None, refl, sym, ◌∙◌, ap, subst, inl, inr, arith, length-append}
+use Rattle.std.proofs.Common.{◌≡◌, ℕ, ◌+◌, ◌<◌, ◌≤◌, List, [], ◌++◌, ◌∷◌, length, take, Option, Some, None, refl, sym, ◌∙◌, ap, subst, inl, inr, arith}
 use Rattle.std.proofs.lemmas.List.{take_at, take_all, length-take, append-nil}
-use Rattle.std.proofs.Math.Seq.{get_or-append_seam}
 use Rattle.outside.proofs.Tearing.{keeps_front_torn, keeps_front_take, holds_at_end}
 use Rattle.outside.specs.Image.{Image, AtFile, Torn, Holds}
 use Rattle.outside.specs.Images.{Images}
@@ -13,7 +12,7 @@ use Rattle.outside.specs.DiskCalls.{last_end}
 use Rattle.slot_store.specs.ChosenSlot.{IsSlotFile}
 use Rattle.slot_store.specs.Committed.{LeavesOne}
 use Rattle.slot_store.specs.Counted.{DoneMore, DoneFewer}
-use Rattle.slot_store.specs.Frame.{frame_body, IsClosedAt, Opens, StaysClosed, last_number}
+use Rattle.slot_store.specs.Frame.{frame_body, Opens, StaysClosed, last_number}
 use Rattle.slot_store.specs.Synced.{LeavesChanged}
 use Rattle.record_log.proofs.Fronts.{SameBefore, IsFrameAt, frame_behind, stops_closed, counts_when}
 use Rattle.record_log.proofs.Logs.{log_on}
@@ -35,12 +34,6 @@ closes place body old new stays = record { front = stays.front; rest = inl stays
 -- the closed gate behind the end
 pub gate_behind_end : (place : ℕ) (old new : List ℕ) → length old ≡ place → Holds place (0 ∷ []) old new → new ≡ old ++ 0 ∷ []
 gate_behind_end place old new ends holds = holds_at_end place (0 ∷ []) old new (sym ends) holds
-
-pub closed_end : (place : ℕ) (old new : List ℕ) → length old ≡ place → new ≡ old ++ 0 ∷ [] → IsClosedAt place new
-closed_end place old new ends written = record {
-  gate = ap (λ bytes. get_or bytes place 0) written ∙ ap (λ k. get_or (old ++ 0 ∷ []) k 0) (sym ends) ∙ get_or-append_seam old 0 [] 0;
-  ends = ap length written ∙ length-append old (0 ∷ []) ∙ ap (λ n. n + 1) ends;
-}
 
 front_kept : (place : ℕ) (old new : List ℕ) → length old ≡ place → new ≡ old ++ 0 ∷ [] → take place new ≡ take place old
 front_kept place old new ends written = ap (λ bytes. take place bytes) written ∙ take_at old (0 ∷ []) place ends ∙ sym (take_all place old (omega arith))

@@ -1,5 +1,5 @@
 -- A commit, from its calls.
-use Rattle.std.proofs.Common.{◌≡◌, ◌⊎◌, ℕ, ◌+◌, ◌≤◌, List, [], ◌∷◌, ◌++◌, length, take, get_or, false, Option, sym, ◌∙◌, ap, subst, inl, inr}
+use Rattle.std.proofs.Common.{◌≡◌, ◌⊎◌, ℕ, ◌+◌, ◌≤◌, List, [], ◌∷◌, ◌++◌, length, take, false, Option, sym, ◌∙◌, ap, subst, inl, inr}
 use Rattle.outside.proofs.Tearing.{at_file_weaker, at_file_then}
 use Rattle.outside.specs.Crash.{Passes}
 use Rattle.outside.specs.Image.{Image, AtFile}
@@ -8,7 +8,7 @@ use Rattle.outside.specs.declared.disk.DiskFile.{DiskFile}
 use Rattle.slot_store.proofs.Choices.{decide_file, keeps_closed, keeps_same, is_committed}
 use Rattle.slot_store.proofs.Leaving.{leaves_then, passes_on}
 use Rattle.slot_store.specs.Committed.{free_file, next_sequence, next_slot, Chooses, KeepsChoice, IsCommitted, Commits, LeavesOne}
-use Rattle.slot_store.specs.Frame.{is_open_at, frame_body, Clears, Opens, IsClosedAt, last_number}
+use Rattle.slot_store.specs.Frame.{is_open_at, frame_body, Clears, Opens, last_number}
 use Rattle.slot_store.specs.Synced.{LeavesChanged}
 use Rattle.slot_store.specs.declared.slot.Slot.{Slot}
 
@@ -83,6 +83,3 @@ passes_halves file body clears cleared opens =
 pub leaves_halves : {D : Type 0} {images : Images DiskFile D} {old mid new : D} (file : DiskFile) (body : List ℕ) → LeavesChanged images (AtFile file (λ _ after. after ≡ 0 ∷ [])) old mid → LeavesChanged images (AtFile file (λ before after. after ≡ take 0 before ++ 165 ∷ body)) mid new → LeavesChanged images (AtFile file (λ _ after. after ≡ 165 ∷ body)) old new
 leaves_halves file body cleared opened =
     leaves_then cleared opened (λ x y z one two. at_file_then one two (λ alone written. written))
-
-pub closed_alone : (content : List ℕ) → content ≡ 0 ∷ [] → IsClosedAt 0 content
-closed_alone content alone = record { gate = ap (λ bytes. get_or bytes 0 0) alone; ends = ap length alone }

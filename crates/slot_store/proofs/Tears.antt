@@ -1,9 +1,8 @@
 -- What is left of the writes of a frame.
-use Rattle.std.proofs.Common.{◌≡◌, ◌≢◌, ◌⊎◌, ℕ, ◌+◌, ◌<◌, List, [], suc, ◌++◌, ◌∷◌, length, take, drop, get_or, set, false, sym, ◌∙◌, ap, inl, inr, arith, length-append, length-set, get_or-set_same, get_or-set_other, take-append-drop}
-use Rattle.std.proofs.Math.Seq.{drop-cons}
+use Rattle.std.proofs.Common.{◌≡◌, ◌≢◌, ◌⊎◌, ℕ, ◌+◌, ◌<◌, List, [], suc, ◌++◌, ◌∷◌, length, take, drop, get_or, set, false, sym, ◌∙◌, ap, inl, inr, arith, length-append, length-set, get_or-set_same, get_or-set_other}
 use Rattle.std.proofs.lemmas.Bool.{cases_lt}
 use Rattle.std.proofs.lemmas.Grind.{same_number_lists}
-use Rattle.std.proofs.lemmas.List.{set_split, take_at, drop_at, drop_all, take-append-le, length-take-le}
+use Rattle.std.proofs.lemmas.List.{set_split, take_at, drop_at, take-append-le, length-take-le}
 use Rattle.outside.proofs.Tearing.{keeps_front_torn, keeps_front_take, holds_at_end}
 use Rattle.outside.specs.Image.{Torn, Holds, MayCut}
 use Rattle.slot_store.proofs.Frames.{closed_by_gate, closed_by_end}
@@ -43,13 +42,6 @@ torn_one place old new within torn =
       ]
     ])
     ∙ set_split old place byte within
-
--- what a closed end is
-pub closed_split : (place : ℕ) (content : List ℕ) → IsClosedAt place content → content ≡ take place content ++ 0 ∷ []
-closed_split place content closed =
-    let within : place < length content = omega (arith, closed.ends) in
-    sym (take-append-drop place content)
-    ∙ ap (λ rest. take place content ++ rest) (drop-cons content place 0 within ∙ ap (λ byte. byte ∷ drop (suc place) content) closed.gate ∙ ap (λ rest. 0 ∷ rest) (drop_all (suc place) content (omega (arith, closed.ends))))
 
 -- A body that is torn stands behind a closed gate.
 pub stays_closed : (place : ℕ) (body old new : List ℕ) → IsClosedAt place old → Torn (place + 1) (length body) old new → StaysClosed place old new

@@ -35,9 +35,6 @@ last_size eras laws = at_last (λ (r : Rules). r.front_size ≡ eras.first.front
 pub last_line : (eras : Eras) → AreEras eras → (last_era eras).line ≡ eras.first.line
 last_line eras laws = at_last (λ (r : Rules). r.line ≡ eras.first.line) eras.first eras.later laws.one_line
 
-pub first_laws : (eras : Eras) → AreEras eras → AreRules eras.first
-first_laws eras laws = All-head AreRules eras.first eras.later laws.each
-
 -- the first poll stands in the first era
 pub only_era : (eras : Eras) → eras.later ≡ [] → last_era eras ≡ eras.first
 only_era eras none = ap (last_of eras.first) none

@@ -22,9 +22,6 @@ use Rattle.standing.proofs.MarkLemmas.{numbered-append}
 use Rattle.standing.proofs.PartLemmas.{entries_go_on}
 use Rattle.standing.proofs.TokenLemmas.{texts-append, up_to_all, up_to_lasts}
 
-abbrev AllFit : Rules → List Mark → Type 0
-AllFit rules marks = All (λ (mark : Mark). IsTrue (rules.fits mark)) marks
-
 module _ (rules : Rules) (laws : AreRules rules) where
   empty_has_none : (mark : Mark) (marks : List Mark) → ◌≡◌ {A = List ℕ} [] (output_text rules (mark ∷ marks)) → ⊥
   empty_has_none mark marks same = omega (arith, ap length same, length-append (rules.line mark) (output_text rules marks), laws.lines.not_empty mark)

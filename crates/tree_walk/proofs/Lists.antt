@@ -80,13 +80,6 @@ gains_then P Q R xs ys zs a b parts first second = record {
   only = λ x c. elim (b.only x c) [ inl mid ↦ elim (a.only x mid) [ inl before ↦ inl before | inr p ↦ inr (first x p) ] | inr q ↦ inr (second x q) ];
 }
 
-pub gains_same : (P Q : List ℕ → Type 0) (xs ys : List (List ℕ)) → Gains P xs ys → ((x : List ℕ) → Q x → P x) → ((x : List ℕ) → P x → Q x) → Gains Q xs ys
-gains_same P Q xs ys a back forth = record {
-  keeps = a.keeps;
-  adds = λ x q. a.adds x (back x q);
-  only = λ x c. elim (a.only x c) [ inl before ↦ inl before | inr p ↦ inr (forth x p) ];
-}
-
 -- lists whose elements differ
 pub distinct_none : IsDistinct bytes_eq []
 unfolding IsDistinct

@@ -1,4 +1,4 @@
-use Rattle.std.proofs.Common.{◌<◌, ℕ, List, sym, subst, not, ◌==◌}
+use Rattle.std.proofs.Common.{◌<◌, ℕ, sym, subst, not, ◌==◌}
 use Rattle.std.proofs.lemmas.List.Elements.{All-filter}
 use Rattle.mem_world.specs.TreeHandles.{handles_of}
 use Rattle.mem_world.proofs.TreeHanding.{AreBelow}

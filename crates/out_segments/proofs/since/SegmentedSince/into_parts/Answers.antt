@@ -1,6 +1,5 @@
-use Rattle.std.proofs.Common.{ℕ, subst, sym}
+use Rattle.std.proofs.Common.{ℕ}
 use Rattle.out_segments.proofs.Keeps.{whole_again}
-use Rattle.out_segments.specs.Kept.{KeptSince}
 use Rattle.out_segments.specs.SegmentedMeaning.{parts_of, size_of}
 use Rattle.out_segments.proofs.since.SegmentedSince.into_parts.Goals as goal
 
