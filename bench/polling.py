@@ -17,6 +17,9 @@ NAMES = 64_000
 MANY_ROWS = 65_536
 FEW_ROWS = MANY_ROWS // 4
 FRONT = 1_000
+# As many bytes of a file as an audit reads, in lines of this many.
+AUDITED = 67_108_864
+AUDITED_LINE = 512
 STARTS = {"multiline": {"line_start_pattern": "^[0-9]{4}-[0-9]{2}-[0-9]{2}T"}}
 
 
@@ -113,6 +116,37 @@ def rows_of(work, files):
     taken = work.measured([work.agent, "once"])
     append(work, f"{name}/00007.log", "one line more")
     return [taken, work.measured([work.agent, "once"])]
+
+
+def audit(work):
+    """How many times the processor time of the runs that took as much of a file as an audit reads its audit takes, by the least of
+    three, and the most memory of an audit."""
+    with open(work.path("audited.log"), "w", encoding="utf-8") as log:
+        log.writelines(f"{line:08} ".ljust(AUDITED_LINE - 1, "x") + "\n" for line in range(AUDITED // AUDITED_LINE))
+    write_settings(work, include=["audited.log"])
+    taken = min(take_whole(work) for _ in range(3))
+    audits = [audited(work) for _ in range(3)]
+    os.remove(work.path("audited.log"))
+    return min(processor for processor, _ in audits) / taken, max(memory for _, memory in audits)
+
+
+def take_whole(work):
+    """The processor time of the runs that take all that there is."""
+    work.forget()
+    processor = 0.0
+    while True:
+        processor += work.run([work.agent, "once"]).processor
+        if " left=0 " in work.read("report"):
+            return processor
+
+
+def audited(work):
+    """Processor time and peak memory of an audit that finds the file as it was taken."""
+    used = work.measured([work.agent, "audit"])
+    told = work.read("report")
+    if told != f"audit rows=1 absent=0 lines={AUDITED // AUDITED_LINE}\n":
+        raise Failed(f"an audit told {told.strip()}")
+    return used
 
 
 def grow(work, agent, name):

@@ -98,6 +98,11 @@ fn append_later(alloc: Global, world: &mut World, words: &str) -> Result<(), All
 fn change(alloc: Global, world: &mut World, step: &str, rest: &str) -> Result<(), StepFault> {
     match step {
         "create" => world.create(alloc, rest),
+        "on" => {
+            world.turn_to(small(rest));
+            Ok(())
+        }
+        "stopped" => stopped(alloc, world, rest),
         "append" => world.append(alloc, unescaped(alloc, rest)?),
         "later" => Ok(append_later(alloc, world, rest)?),
         "rename" => world.rename(alloc, rest),
@@ -115,6 +120,12 @@ fn change(alloc: Global, world: &mut World, step: &str, rest: &str) -> Result<()
             Ok(world.fail(alloc, part, small(rest))?)
         }
     }
+}
+
+// The command is stopped once it has made so many calls on the disk, and nothing is left that isn't synced.
+fn stopped(alloc: Global, world: &mut World, rest: &str) -> Result<(), StepFault> {
+    let (calls, words) = rest.split_once(' ').unwrap_or((rest, ""));
+    world.stop(alloc, words, small(calls), 0)
 }
 
 // A number of a step, 0 where none stands or it is too large.

@@ -9,11 +9,13 @@ use std::mem;
 /// The settings that a world begins with.
 pub const SETTINGS: &[u8] = b"{\"include\":[\"app.log*\"],\"start_at\":\"beginning\"}";
 
-/// A tree with one file, `app.log`, a disk, a control input, a report and a clock. The steps of others are those on the newest file.
+/// A tree with one file, `app.log`, a disk, a control input, a report and a clock. The steps of others are those on the newest file,
+/// where no other was turned to.
 #[derive(Drop)]
 pub struct World {
     pub tree: MemTree,
-    newest: u32,
+    created: u32,
+    current: u32,
     pub disk: MemDisk,
     pub control: MemSource,
     pub report: MemSink,
@@ -26,7 +28,8 @@ impl World {
         disk.put(alloc, DiskFile::Settings, SETTINGS)?;
         let mut world = World {
             tree: MemTree::new(alloc)?,
-            newest: 0,
+            created: 0,
+            current: 0,
             disk,
             control: MemSource::new(Vec::new(alloc), 1),
             report: MemSink::new(alloc)?,
@@ -38,14 +41,20 @@ impl World {
 
     /// A new, empty file.
     pub fn create(&mut self, alloc: Global, path: &str) -> Result<(), StepFault> {
-        self.newest = self.newest.saturating_add(1);
-        let file = FileName(self.newest);
+        self.created = self.created.saturating_add(1);
+        self.current = self.created;
+        let file = FileName(self.current);
         let path = Text::from_str(alloc, path)?;
         self.tree.play(alloc, WorldStep::Create { file, path })
     }
 
+    /// The steps that follow are on the file that was created as this one, from 1.
+    pub fn turn_to(&mut self, file: u32) {
+        self.current = file;
+    }
+
     pub fn append(&mut self, alloc: Global, bytes: Vec<u8>) -> Result<(), StepFault> {
-        let file = FileName(self.newest);
+        let file = FileName(self.current);
         self.tree.play(alloc, WorldStep::Append { file, bytes })
     }
 
@@ -56,26 +65,26 @@ impl World {
         calls: u32,
         bytes: Vec<u8>,
     ) -> Result<(), AllocError> {
-        let file = FileName(self.newest);
+        let file = FileName(self.current);
         self.tree
             .later(alloc, calls, WorldStep::Append { file, bytes })
     }
 
     pub fn rename(&mut self, alloc: Global, path: &str) -> Result<(), StepFault> {
         let path = Text::from_str(alloc, path)?;
-        let file = FileName(self.newest);
+        let file = FileName(self.current);
         self.tree.play(alloc, WorldStep::Rename { file, path })
     }
 
     /// The file goes when so many further calls on the tree have been made.
     pub fn remove(&mut self, alloc: Global, calls: u32) -> Result<(), AllocError> {
-        let file = FileName(self.newest);
+        let file = FileName(self.current);
         self.tree.later(alloc, calls, WorldStep::Remove { file })
     }
 
     /// The file is cut to so many bytes.
     pub fn spoil(&mut self, size: u32) {
-        self.tree.spoil(FileName(self.newest), size as usize);
+        self.tree.spoil(FileName(self.current), size as usize);
     }
 
     /// The disk is what a crash leaves, by its outcome. That with the number 0 keeps no write which no sync followed.
