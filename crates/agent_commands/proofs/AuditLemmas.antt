@@ -7,13 +7,17 @@ use Rattle.checkpoint_store.specs.Limits.{newest}
 use Rattle.checkpoint_store.specs.Rules.{IsCheckpoint}
 use Rattle.auditor.specs.declared.Verdict.TheVariants.{Differs}
 use Rattle.file_pass.specs.TreeTerms.{GoesLater}
-use Rattle.folder_audit.specs.Audited.{Course, Hold, IsDiffering}
+use Rattle.folder_audit.specs.Audited.{Course, FewAbsent, Hold, IsAudited, IsDiffering}
 use Rattle.folder_audit.specs.Judged.{Judged, pipes_of}
 use Rattle.folder_audit.specs.KeptFiles.{IsFitRow, IsLast}
 use Rattle.folder_audit.specs.Limits.{largest_kept}
 use Rattle.folder_audit.specs.Made as audited
+use Rattle.folder_audit.specs.Absences.{AreAbsences}
+use Rattle.folder_audit.specs.declared.audited.Audited.{Audited}
 use Rattle.folder_audit.specs.declared.fault.AuditFault.{AuditFault}
 use Rattle.folder_audit.specs.declared.fault.AuditFault.TheVariants as fault
+use Rattle.outside.proofs.Telling.{told_weaker}
+use Rattle.outside.specs.Count.{raised}
 use Rattle.outside.specs.Crash.{Passes}
 use Rattle.outside.specs.Image.{Image, Same}
 use Rattle.outside.specs.Images.{Images}
@@ -34,7 +38,7 @@ use Rattle.standing.specs.Rules.{Rules}
 use Rattle.standing.specs.Standing.{Found, nothing, damaged, found, Standing}
 use Rattle.standing.specs.Stands.{CheckpointStands}
 use Rattle.agent_commands.proofs.StandLemmas.{CountsNow}
-use Rattle.agent_commands.specs.Audit.{AgreesWhereItStands}
+use Rattle.agent_commands.specs.Audit.{AgreesWhereItStands, FewWhereItStands}
 use Rattle.agent_commands.specs.Faults.{auditing_fault}
 use Rattle.agent_commands.specs.Headline.{KeepsStanding}
 use Rattle.agent_commands.specs.Status.{status_of}
@@ -51,6 +55,32 @@ audited_eras texts eras are = record {
   texts_are = are.texts_are;
   each = All-weaker (λ (r : Rules). HasRules r.settings r) (λ (r : Rules). audited.HasRules r.settings r) (λ r. as_audited r.settings r) (all_eras eras) are.each;
 }
+
+-- ---- few rows that stand are absent
+
+module _ (image : Image DiskFile) (course : Course image) (faults faults_after : ℕ) (old new : World) (few : FewAbsent course faults faults_after old new) where
+  few_saved : (saved : Checkpoint) (eras : Eras) → saved ≡ course.checkpoint → AreErasOf saved.eras eras → CheckpointStands eras old.history saved (image Output) → Apart eras.first.front_size new.history
+      → (places : List ℕ) → AreAbsences eras course.checkpoint.rows course.found places old.history new.history → raised faults (length places) ≤ faults_after
+  few_saved saved eras same are stands apart places absences =
+      let own : AreErasOf course.checkpoint.eras eras = subst (λ (c : Checkpoint). AreErasOf c.eras eras) same are in
+      let its : CheckpointStands eras old.history course.checkpoint (image Output) = subst (λ (c : Checkpoint). CheckpointStands eras old.history c (image Output)) same stands in
+      few eras places (audited_eras course.checkpoint.eras eras own) own.laws its apart absences
+
+  few_found : (there : Found) (eras : Eras) → IsFound image there → AreErasIn there eras → Standing eras old.history there (image Output) → Apart eras.first.front_size new.history
+      → (places : List ℕ) → AreAbsences eras course.checkpoint.rows course.found places old.history new.history → raised faults (length places) ≤ faults_after
+  few_found nothing eras has are stands apart places absences = absurd (no_journal image course.whole.ready.has.0 course.checkpoint has course.whole.ready.has.1)
+  few_found damaged eras has are stands apart places absences = absurd stands
+  few_found (found saved) eras has are stands apart places absences =
+      few_saved saved eras (one_said image course.whole.ready.has.0 has.0 course.checkpoint saved course.whole.ready.has.1 has.1) are stands apart places absences
+
+  few_standing : FewWhereItStands course faults faults_after old new
+  few_standing = λ stands places apart absences. few_found stands.there stands.eras stands.found stands.are stands.stands apart places absences
+
+pub few_where_it_stands : {T : Type 0} (trees : TreeMeaning T) (image : Image DiskFile) (given : Audited) (tree tree_after : T) (audit : IsAudited trees image given tree tree_after)
+    → Told (FewWhereItStands audit.course (trees.faults tree) (trees.faults tree_after)) (trees.world tree) (trees.world tree_after)
+few_where_it_stands trees image given tree tree_after audit =
+    told_weaker (FewAbsent audit.course (trees.faults tree) (trees.faults tree_after)) (FewWhereItStands audit.course (trees.faults tree) (trees.faults tree_after)) (trees.world tree) (trees.world tree_after)
+    (few_standing image audit.course (trees.faults tree) (trees.faults tree_after)) audit.few_absent
 
 -- ---- no row that stands differs
 

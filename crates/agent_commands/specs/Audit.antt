@@ -1,11 +1,14 @@
 -- The command `audit`: whether the lines that are kept are those that the files give.
-use Rattle.std.specs.Prelude.{◌≡◌, ℕ, IsTrue}
-use Rattle.folder_audit.specs.Audited.{IsAudited, IsDiffering}
+use Rattle.std.specs.Prelude.{◌≡◌, ℕ, ◌≤◌, List, length, IsTrue}
+use Rattle.folder_audit.specs.Audited.{Course, IsAudited, IsDiffering}
+use Rattle.folder_audit.specs.Absences.{AreAbsences}
 use Rattle.folder_audit.specs.Refusals.{IsAuditRefusal}
 use Rattle.folder_audit.specs.declared.audited.Audited.{Audited}
 use Rattle.folder_audit.specs.declared.fault.AuditFault.{AuditFault}
 use Rattle.folder_audit.specs.declared.fault.AuditFault.TheVariants.{Differs}
+use Rattle.outside.specs.Count.{raised}
 use Rattle.outside.specs.DiskMeaning.{DiskMeaning}
+use Rattle.outside.specs.Image.{Image}
 use Rattle.outside.specs.Images.{Images}
 use Rattle.outside.specs.StreamMeaning.{SinkMeaning}
 use Rattle.outside.specs.TreeMeaning.{TreeMeaning}
@@ -29,6 +32,13 @@ pub record Audits (T D K : Type 0) : Type 0 where
 abbrev pub audits : {T D K : Type 0} → T → T → D → K → K → Audits T D K
 audits tree tree_after disk report report_after = record { tree = tree; tree_after = tree_after; disk = disk; report = report; report_after = report_after }
 
+-- Where what was audited stands for what the files had, and files can be told apart by their first bytes: of the rows whose file keeps
+-- its name no more were found absent than the tree's count rose by.
+abbrev pub FewWhereItStands : {image : Image DiskFile} → Course image → ℕ → ℕ → World → World → Type 0
+FewWhereItStands {image} course faults faults_after old new =
+    (stands : IsStanding old.history image) (places : List ℕ) → Apart stands.eras.first.front_size new.history
+    → AreAbsences stands.eras course.checkpoint.rows course.found places old.history new.history → raised faults (length places) ≤ faults_after
+
 module _ {T D K : Type 0} (trees : TreeMeaning T) (disks : DiskMeaning D) (reports : SinkMeaning K) (run : Audits T D K) where
   -- what reads give of the disk was audited by the tree's files
   abbrev pub HasAudited : Audited → Type 0
@@ -37,6 +47,8 @@ module _ {T D K : Type 0} (trees : TreeMeaning T) (disks : DiskMeaning D) (repor
   pub record TellsAudit : Type 0 where
     pub audited : Audited
     pub has : HasAudited audited
+    pub few_absent : (tells : IsTrue (disks.images.tells run.disk))
+        → Told (FewWhereItStands (has tells).course (trees.faults run.tree) (trees.faults run.tree_after)) (trees.world run.tree) (trees.world run.tree_after)
     pub told : Told (Appends (audited_line audited)) (reports.written run.report) (reports.written run.report_after)
 
   -- The report failed (9), or memory ran out before all of it was told (10).

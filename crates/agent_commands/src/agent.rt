@@ -67,7 +67,7 @@ pub fn run_agent<T: Tree, D: Disk, S: Source, K: Sink, C: Clock>(
     ensures adopt_crash { IsCommand (texts words.now) Command.Adopt → AdoptPasses D.meaning.images disk.old disk.new }
 
     // Whether the lines that are kept are those that the files give, and nothing is written. Where what is kept stands for what the
-    // files had, no file differs.
+    // files had, no file differs, and few that keep their names are absent.
     ensures audit { IsCommand (texts words.now) Command.Audit
         → AuditEnds T.meaning D.meaning K.meaning (audits tree.old tree.new disk.old report.old report.new) result }
     ensures audit_agrees { IsCommand (texts words.now) Command.Audit

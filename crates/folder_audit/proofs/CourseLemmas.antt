@@ -1,5 +1,5 @@
 -- What was found, by the output itself.
-use Rattle.std.proofs.Common.{◌≡◌, ℕ, zero, suc, ◌+◌, ◌<◌, List, [], ◌∷◌, length, map, take, Some, refl, sym, ap, subst, arith}
+use Rattle.std.proofs.Common.{◌≡◌, ℕ, zero, suc, ◌+◌, ◌<◌, ◌≤◌, List, [], ◌∷◌, length, map, take, Some, refl, sym, ap, subst, arith}
 use Rattle.std.specs.Prelude.{Option, slice_get}
 use Rattle.std.proofs.lemmas.Option.{slice_get_within}
 use Rattle.auditor.proofs.Owning.{own_alone, verdict_by_own}
@@ -17,16 +17,23 @@ use Rattle.outside.specs.declared.disk.DiskFile.TheVariants.{Output}
 use Rattle.pipeline.specs.AsRules.{rules_of}
 use Rattle.pipeline.specs.declared.Pipeline.{Pipeline}
 use Rattle.standing.specs.Rows.{Row, IsRowAt}
-use Rattle.folder_audit.specs.Audited.{Course, Hold, IsAudited, IsDiffering}
+use Rattle.standing.specs.Stands.{LinesStand}
+use Rattle.tree_walk.specs.Calls.{KeepsHandles}
+use Rattle.folder_audit.specs.Audited.{Course, FewAbsent, Hold, IsAudited, IsDiffering}
 use Rattle.folder_audit.specs.Findings.{AreFindings, AreFound, AreFoundAt, HasFound}
 use Rattle.folder_audit.specs.Judged.{IsFound, Judged, JudgedBytes, pipes_of}
 use Rattle.folder_audit.specs.KeptFiles.{AreFitRows, IsFit, texts_of}
+use Rattle.folder_audit.specs.Absences.{AreAbsences}
 use Rattle.folder_audit.specs.Inner.KeptOf.{IsKept}
+use Rattle.folder_audit.specs.Inner.Tried.{FindsAll, FindsDue, IsDue, RoseBy}
 use Rattle.folder_audit.specs.Tally.{IsLeastOther, IsTallied}
 use Rattle.folder_audit.specs.declared.audited.Audited.{Audited}
 use Rattle.folder_audit.specs.declared.findings.Finding.{Finding}
 use Rattle.folder_audit.specs.declared.findings.Finding.TheVariants.{Absent, Same, Differs}
 use Rattle.folder_audit.specs.declared.kept.Kept.{Kept}
+use Rattle.folder_audit.proofs.AbsenceLemmas.{few_absences}
+use Rattle.folder_audit.proofs.RuleLemmas.{OneSet}
+use Rattle.folder_audit.proofs.UnlessLemmas.{told_and}
 
 -- a row's own lines are enough
 by_output : (output : List ℕ) (pipes : List Pipeline) (row : Row) (text whole : List ℕ) (found : Verdict) → IsText output row.id text → JudgedBytes pipes row text found whole → JudgedBytes pipes row output found whole
@@ -90,12 +97,24 @@ module _ (image : Image DiskFile) (kept : Kept) (is : IsKept image kept) (fit : 
   hold_of old new has = told_weaker (AreFoundAt kept found) (Hold (course_of has.are)) old new hold_in has.hold
 
   module _ {T : Type 0} (meaning : TreeMeaning T) (old new : T) (has : HasFound kept found (meaning.world old) (meaning.world new)) where
-    pub audited_of : (audited : Audited) → IsTallied kept.rows found audited → IsAudited meaning image audited old new
+    few_absent : OneSet → (x y : World) → KeepsHandles x y × FindsAll kept found (IsDue kept x y) (RoseBy meaning old new) x y → FewAbsent (course_of has.are) (meaning.faults old) (meaning.faults new) x y
     unfolding course_of
-    audited_of audited tallied = record {
+    few_absent one_set x y both = λ eras places are laws stands apart absences.
+        let own : AreAbsences eras kept.rows found places x.history y.history = subst (λ (rs : List Row). AreAbsences eras rs found places x.history y.history) (sym is.rows) absences in
+        let marks = stands.stands.marks in
+        let stand : LinesStand eras x.history kept.rows is.checkpoint.next_id marks = subst (λ (rs : List Row). LinesStand eras x.history rs is.checkpoint.next_id marks) (sym is.rows) stands.stands.lines_stand in
+        let fewer : length places ≤ length both.1.failed =
+        few_absences one_set kept is.last is.whole.ready.is_last eras is.checkpoint.eras are is.whole.ready.made laws x y both.0.later is.checkpoint.next_id marks stand apart found (RoseBy meaning old new) both.1 places own in
+        omega (arith, fewer, both.1.counted)
+
+    pub audited_of : OneSet → Told KeepsHandles (meaning.world old) (meaning.world new) → FindsDue meaning kept found old new → (audited : Audited) → IsTallied kept.rows found audited → IsAudited meaning image audited old new
+    unfolding course_of
+    audited_of one_set keeps due audited tallied = record {
       course = course_of has.are;
       tallied = subst (λ (rs : List Row). IsTallied rs found audited) is.rows tallied;
       hold = hold_of (meaning.world old) (meaning.world new) has;
+      few_absent = told_weaker (λ x y. KeepsHandles x y × FindsAll kept found (IsDue kept x y) (RoseBy meaning old new) x y) (FewAbsent (course_of has.are) (meaning.faults old) (meaning.faults new)) (meaning.world old) (meaning.world new)
+          (few_absent one_set) (told_and KeepsHandles (λ x y. FindsAll kept found (IsDue kept x y) (RoseBy meaning old new) x y) (meaning.world old) (meaning.world new) keeps due);
     }
 
     pub differing_of : (id line : ℕ) → IsLeastOther kept.rows found id line → IsDiffering meaning image id line old new

@@ -20,11 +20,11 @@ at_drop (suc n) [] k x at = absurd (none-some x at)
 at_drop (suc n) (y ∷ xs) k x at = let e : suc n + k ≡ suc (n + k) = omega arith in ap (λ (i : ℕ). slice_get (y ∷ xs) i) e ∙ at_drop n xs k x at
 
 module _ (one_set : OneSet) (texts : List (List ℕ)) (eras : Eras) (pipes : List Pipeline) (are : AreErasOf texts eras) (made : ArePipesOf texts pipes) where
-  many_eras : length (all_eras eras) ≡ length texts
+  pub many_eras : length (all_eras eras) ≡ length texts
   many_eras = sym (length-map (all_eras eras) (λ (r : Rules). r.settings)) ∙ ap length (sym are.texts_are)
 
   -- the rules of an era are those of its pipeline
-  era_is : (k : ℕ) (pipe : Pipeline) → slice_get pipes k ≡ Some pipe → (text : List ℕ) × (slice_get (all_eras eras) k ≡ Some (rules_of text pipe))
+  pub era_is : (k : ℕ) (pipe : Pipeline) → slice_get pipes k ≡ Some pipe → (text : List ℕ) × (slice_get (all_eras eras) k ≡ Some (rules_of text pipe))
   era_is k pipe at =
       let within : k < length pipes = slice_get_within pipes k pipe at in
       let own = get_or (all_eras eras) k (rules_of [] pipe) in

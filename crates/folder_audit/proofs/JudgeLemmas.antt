@@ -171,7 +171,7 @@ read_found kept file place row given text found finding far last old new at begu
 
 -- ---- one read after another
 
-still_at : (file : OpenFile) (seen : ℕ) (moment : History) (x y : World) → KeepsHandles x y → IsOpenAt file seen moment x → IsOpenAt file seen moment y
+pub still_at : (file : OpenFile) (seen : ℕ) (moment : History) (x y : World) → KeepsHandles x y → IsOpenAt file seen moment x → IsOpenAt file seen moment y
 still_at file seen moment x y keeps open_at = record {
   is = ap (λ hs. file_of hs file.handle.0) keeps.handles ∙ open_at.is;
   size_then = open_at.size_then;

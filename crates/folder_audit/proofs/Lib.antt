@@ -1,3 +1,4 @@
+pub mod AbsenceLemmas
 pub mod CourseLemmas
 pub mod EraLemmas
 pub mod FindingLemmas
@@ -9,3 +10,6 @@ pub mod OpenLemmas
 pub mod ReadLemmas
 pub mod RowLemmas
 pub mod RuleLemmas
+pub mod TriedLemmas
+pub mod UnlessLemmas
+pub mod WalkedLemmas

@@ -72,14 +72,14 @@ found_later pipes last text row (Differs line) old mid new end before after foun
 own_handle : (handle file : ℕ) (handles : List (ℕ × ℕ)) → file_of ((handle, file) ∷ handles) handle ≡ Some file
 own_handle handle file handles = let same : (handle == handle) ≡ true = eq-eqb handle handle refl in rw same refl
 
-module _ (kept : Kept) (path : List ℕ) (included : IsToRead kept.pipes.items path) (file : OpenFile) (place : ℕ) (finding : Finding) where
-  opened_at : (old mid : World) (opens : OpensFile path file.handle.0 file.size old mid) → IsOpenAt file opens.file opens.history.moment mid
-  opened_at old mid opens = record {
-    is = ap (λ (hs : List (ℕ × ℕ)). file_of hs file.handle.0) opens.handles ∙ own_handle file.handle.0 opens.file old.handles;
-    size_then = opens.history.holds.length_then;
-    later = later_then opens.history.moment (look opens.file ∷ opens.history.moment) mid.history (at_look opens.file opens.history.moment) (later_moves opens.history.after);
-  }
+pub opened_at : (path : List ℕ) (file : OpenFile) (old mid : World) (opens : OpensFile path file.handle.0 file.size old mid) → IsOpenAt file opens.file opens.history.moment mid
+opened_at path file old mid opens = record {
+  is = ap (λ (hs : List (ℕ × ℕ)). file_of hs file.handle.0) opens.handles ∙ own_handle file.handle.0 opens.file old.handles;
+  size_then = opens.history.holds.length_then;
+  later = later_then opens.history.moment (look opens.file ∷ opens.history.moment) mid.history (at_look opens.file opens.history.moment) (later_moves opens.history.after);
+}
 
+module _ (kept : Kept) (path : List ℕ) (included : IsToRead kept.pipes.items path) (file : OpenFile) (place : ℕ) (finding : Finding) where
   looked_at : (last : Pipeline) → IsLast kept.pipes.items last → (old mid new : World) (opens : OpensFile path file.handle.0 file.size old mid) → IsLater mid.history new.history → Looked last old.history new.history opens.file opens.history.moment
   looked_at last is_last old mid new opens later = record {
     path = path;
@@ -93,7 +93,7 @@ module _ (kept : Kept) (path : List ℕ) (included : IsToRead kept.pipes.items p
   found_at : (old mid read new : World) → OpensFile path file.handle.0 file.size old mid → BeginsAs kept file place mid read → IsReadAt kept file place finding mid read → KeepsHandles mid read → Closes file.handle.0 read new
       → IsFoundAt kept place finding old new
   found_at old mid read new opens begins reads keeps closes = λ row text last at there is_last.
-      let open_at = opened_at old mid opens in
+      let open_at = opened_at path file old mid opens in
       let later = later_then mid.history read.history new.history keeps.later (later_moves closes.history) in
       found_by_read kept.pipes.items last text row finding old new opens.file opens.history.moment (looked_at last is_last old mid new opens later)
       (begins opens.file opens.history.moment row last open_at at is_last) (reads opens.file opens.history.moment row text open_at at there)

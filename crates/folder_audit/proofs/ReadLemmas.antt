@@ -1,11 +1,11 @@
 -- Reading a range of an open file, piece by piece.
-use Rattle.std.proofs.Common.{◌≡◌, ℕ, ◌+◌, ◌-◌, ◌≤◌, List, ◌++◌, length, take, drop, true, false, refl, sym, ap, subst, ◌∙◌, arith, length-append, length-drop}
+use Rattle.std.proofs.Common.{◌≡◌, ◌⊎◌, inr, ℕ, ◌+◌, ◌-◌, ◌<◌, ◌≤◌, List, ◌++◌, length, take, drop, true, false, refl, sym, ap, subst, ◌∙◌, arith, length-append, length-drop}
 use Rattle.std.proofs.lemmas.List.{drop-append-le, take-append-le, drop-drop, take_all}
 use Rattle.std.specs.Prelude.{Result, Ok, Err}
 use Rattle.outside.proofs.Moving.{grows_by, moves_by_moment}
 use Rattle.outside.proofs.Telling.{told_same, told_then, told_weaker}
 use Rattle.outside.specs.Content.{Gives}
-use Rattle.outside.specs.Count.{HasOneCause, NeverFalls}
+use Rattle.outside.specs.Count.{HasOneCause, NeverFalls, Rose}
 use Rattle.outside.specs.Moment.{Moves}
 use Rattle.outside.specs.Reading.{file_of, bytes_if, Reads}
 use Rattle.outside.specs.TreeMeaning.{TreeMeaning}
@@ -16,7 +16,9 @@ use Rattle.standing.proofs.MomentLemmas.{bytes_grow, later_none, later_then}
 use Rattle.standing.specs.Moments.{IsLater}
 use Rattle.tree_walk.specs.Calls.{KeepsHandles, Lasts}
 use Rattle.folder_audit.specs.Open.{GoesOn}
-use Rattle.folder_audit.specs.Inner.ReadsRange.{AreBytes, HasBytes, ReadsRange}
+use Rattle.folder_audit.specs.Inner.ReadsRange.{AreBytes, EndsBefore, HasBytes, ReadsRange}
+use Rattle.folder_audit.specs.Inner.Tried.{RoseBy, UnlessRose}
+use Rattle.folder_audit.proofs.UnlessLemmas.{unless_rose}
 use borrow.Rule.Slice.PartMut.{put_mid}
 
 -- ---- the tree goes on
@@ -125,8 +127,29 @@ all_read handle from buffer filled x y whole far = λ file has.
     sym (take_all filled buffer (omega (arith, whole))) ∙ far.1 file has ∙ ap (λ (n : ℕ). take n (drop from (bytes x.history file))) whole
 
 -- a range that wasn't read whole
-pub cut_short : {T : Type 0} (meaning : TreeMeaning T) {handle from : ℕ} {buffer : List ℕ} {old new : T} → GoesOn meaning old new → ReadsRange meaning handle from buffer false old new
-cut_short meaning {handle} {from} {buffer} {old} {new} goes = record {
+pub cut_short : {T : Type 0} (meaning : TreeMeaning T) {handle from : ℕ} {buffer : List ℕ} {old new : T} → GoesOn meaning old new → UnlessRose meaning (EndsBefore handle (from + length buffer)) old new → ReadsRange meaning handle from buffer false old new
+cut_short meaning {handle} {from} {buffer} {old} {new} goes ends = record {
   goes_on = goes;
   given = λ is. absurd {A = Told (AreBytes handle from buffer) (meaning.world old) (meaning.world new)} (let never : false ≡ true = is in cc);
+  failed = λ is. ends;
 }
+
+-- a read that gives nothing stands at the file's end
+ended : (handle from : ℕ) (buffer piece : List ℕ) (filled : ℕ) (x y z : World) → filled < length buffer → 0 < length piece → SoFar handle from buffer filled x y → Reads handle (from + filled) piece (Ok 0) y z → EndsBefore handle (from + length buffer) x z
+ended handle from buffer piece filled x y z less some far reads = λ file has.
+    let mid = still_has handle (from + length buffer) x y file far.0 has in
+    let at = reads.history in
+    let grown = grows_by at.before.steps y.history file in
+    let then_bytes : bytes at.moment file ≡ bytes y.history file ++ grown.0 = ap (λ (h : History). bytes h file) at.before.goes_on ∙ grown.1 in
+    let gives : Gives (bytes y.history file ++ grown.0) (from + filled) piece 0 = subst (λ (l : List ℕ). Gives l (from + filled) piece 0) (ap (bytes_if at.moment) mid.is ∙ then_bytes) at.holds in
+    omega (arith, gives.ends refl some, mid.long, length-append (bytes y.history file) grown.0, less)
+
+module _ {T : Type 0} (meaning : TreeMeaning T) (handle from : ℕ) (buffer piece : List ℕ) (filled last : ℕ) (old mid new : T) (same : last ≡ length buffer) (less : filled < length buffer) (far : Told (SoFar handle from buffer filled) (meaning.world old) (meaning.world mid)) where
+  pub ends_before : 0 < length piece → Told (Reads handle (from + filled) piece (Ok 0)) (meaning.world mid) (meaning.world new) → UnlessRose meaning (EndsBefore handle (from + last)) old new
+  ends_before some reads =
+      told_then (SoFar handle from buffer filled) (Reads handle (from + filled) piece (Ok 0)) (λ x y. RoseBy meaning old new 1 ⊎ EndsBefore handle (from + last) x y) (meaning.world old) (meaning.world mid) (meaning.world new)
+      (λ x y z so_far read. inr (subst (λ (n : ℕ). EndsBefore handle (from + n) x z) (sym same) (ended handle from buffer piece filled x y z less some so_far read))) far reads
+
+-- a read that failed raised the count
+pub read_failed : {T : Type 0} (meaning : TreeMeaning T) (holds : World → World → Type 0) (old mid new : T) → GoesOn meaning old mid → Rose (meaning.faults mid) (meaning.faults new) → GoesOn meaning old new → UnlessRose meaning holds old new
+read_failed meaning holds old mid new first rose goes = unless_rose meaning KeepsHandles holds old new (omega (arith, first.faults.later, rose.1)) goes.world

@@ -2,3 +2,4 @@
 pub mod KeptOf
 pub mod ReadsRange
 pub mod Steps
+pub mod Tried

@@ -1,3 +1,4 @@
+pub mod Absences
 pub mod Audited
 pub mod Cause
 pub mod Findings

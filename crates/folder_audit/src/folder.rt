@@ -3,6 +3,7 @@ ghost use Rattle.std.specs.Prelude.{◌≡◌, ℕ, IsTrue, Err, IfOk, IfErr};
 ghost use Rattle.folder_audit.specs.Audited.{IsAudited, IsDiffering};
 ghost use Rattle.folder_audit.specs.Cause.{HasAuditCause};
 ghost use Rattle.folder_audit.specs.Findings.{HasFound};
+ghost use Rattle.folder_audit.specs.Inner.Tried.{FindsDue};
 ghost use Rattle.folder_audit.specs.KeptFiles.{IsFit};
 ghost use Rattle.folder_audit.specs.Open.{GoesOn};
 ghost use Rattle.folder_audit.specs.Refusals.{IsAuditRefusal};
@@ -14,6 +15,7 @@ use crate::fault::AuditFault;
 use crate::findings::{Finding, tally};
 use crate::kept::{Kept, kept_on};
 use crate::looking::look_at_all;
+use glob_match::laws::text_spells_one_pattern;
 use outside::{Disk, Tree};
 use std::alloc::{AllocError, Global};
 use tree_walk::paths;
@@ -38,6 +40,7 @@ pub fn audit<T: Tree, D: Disk>(
     ensures cause { HasAuditCause result (D.meaning.faults disk.old) (D.meaning.faults disk.new) }
     ensures tree { GoesOn T.meaning tree.old tree.new }
 {
+    text_spells_one_pattern();
     let kept = kept_on(alloc, disk)?;
     let found = found_of(alloc, tree, &kept)?;
     tally(kept.rows.as_slice(), &found)
@@ -47,6 +50,7 @@ pub fn audit<T: Tree, D: Disk>(
 fn found_of<T: Tree>(alloc: Global, tree: &mut T, kept: &Kept) -> Result<Vec<Finding>, AllocError>
     requires { IsFit kept.now }
     ensures found { IfOk result (λ found. HasFound kept.now found.items (T.meaning.world tree.old) (T.meaning.world tree.new)) }
+    ensures due { IfOk result (λ found. FindsDue T.meaning kept.now found.items tree.old tree.new) }
     ensures tree { GoesOn T.meaning tree.old tree.new }
 {
     let last = last_of(&kept.pipes);

@@ -1,5 +1,6 @@
 // Judging the row of an open file.
 ghost use Rattle.std.specs.Prelude.{◌≡◌, ◌+◌, ◌-◌, ◌<◌, ◌≤◌, IsTrue, All, min, length, IfOk, IfSome};
+ghost use Rattle.folder_audit.specs.Inner.Tried.{FindsOpen, JudgesOpen, KnowsOpen, UnlessRose};
 ghost use Rattle.folder_audit.specs.KeptFiles.{IsFit, IsLast};
 ghost use Rattle.folder_audit.specs.Limits.{largest_read};
 ghost use Rattle.folder_audit.specs.Open.{GoesOn, IsOpenFound, IsPlaced, IsRead};
@@ -37,6 +38,7 @@ pub(crate) fn judge_file<T: Tree>(
     requires fit { IsFit kept.now }
     requires size { file.size ≤ largest_size }
     ensures ok { IfOk result (λ judged. IfSome judged (λ one. IsOpenFound kept.now file one.0 one.1 (T.meaning.world tree.old) (T.meaning.world tree.new))) }
+    ensures finds { IfOk result (λ judged. UnlessRose T.meaning (FindsOpen kept.now file judged) tree.old tree.new) }
     ensures tree { GoesOn T.meaning tree.old tree.new }
 {
     let Some(place) = place_of(alloc, tree, kept, file)? else {
@@ -56,6 +58,7 @@ fn place_of<T: Tree>(
     requires fit { IsFit kept.now }
     requires size { file.size ≤ largest_size }
     ensures ok { IfOk result (λ found. IfSome found (λ place. IsPlaced kept.now file place (T.meaning.world tree.old) (T.meaning.world tree.new))) }
+    ensures knows { IfOk result (λ found. UnlessRose T.meaning (KnowsOpen kept.now file found) tree.old tree.new) }
     ensures tree { GoesOn T.meaning tree.old tree.new }
 {
     let size = front_size(&kept.pipes, file.size);
@@ -87,6 +90,7 @@ fn judge<T: Tree>(
     requires size { file.size ≤ largest_size }
     requires within { place < length kept.now.rows }
     ensures ok { IfOk result (λ finding. IsRead kept.now file place finding (T.meaning.world tree.old) (T.meaning.world tree.new)) }
+    ensures judges { IfOk result (λ finding. UnlessRose T.meaning (JudgesOpen kept.now file place finding) tree.old tree.new) }
     ensures tree { GoesOn T.meaning tree.old tree.new }
 {
     let row = kept.rows.row(place);

@@ -1,5 +1,6 @@
 -- A range of an open file's bytes that is read while the world moves.
-use Rattle.std.specs.Prelude.{◌≡◌, ℕ, ◌+◌, ◌≤◌, List, Bool, true, length, take, drop, Some}
+use Rattle.std.specs.Prelude.{◌≡◌, ℕ, ◌+◌, ◌≤◌, List, Bool, true, false, length, take, drop, Some}
+use Rattle.folder_audit.specs.Inner.Tried.{UnlessRose}
 use Rattle.folder_audit.specs.Open.{GoesOn}
 use Rattle.outside.specs.Reading.{file_of}
 use Rattle.outside.specs.TreeMeaning.{TreeMeaning}
@@ -14,6 +15,11 @@ pub record HasBytes (handle last : ℕ) (world : World) (file : ℕ) : Type 0 wh
 abbrev pub AreBytes : ℕ → ℕ → List ℕ → World → World → Type 0
 AreBytes handle from given old new = (file : ℕ) → HasBytes handle (from + length given) old file → given ≡ take (length given) (drop from (bytes old.history file))
 
+-- and the file ends before that place
+abbrev pub EndsBefore : ℕ → ℕ → World → World → Type 0
+EndsBefore handle last old new = (file : ℕ) → HasBytes handle last old file → ⊥
+
 pub record ReadsRange {T : Type 0} (meaning : TreeMeaning T) (handle from : ℕ) (buffer : List ℕ) (whole : Bool) (old new : T) : Type 0 where
   pub goes_on : GoesOn meaning old new
   pub given : whole ≡ true → Told (AreBytes handle from buffer) (meaning.world old) (meaning.world new)
+  pub failed : whole ≡ false → UnlessRose meaning (EndsBefore handle (from + length buffer)) old new

@@ -2,7 +2,7 @@ use Rattle.std.proofs.Common.{ℕ, sym, ◌∙◌, ap}
 use Rattle.std.specs.Prelude.{Err}
 use Rattle.outside.proofs.Telling.{told_weaker}
 use Rattle.file_pass.specs.TreeTerms.{GoesLater}
-use Rattle.agent_commands.proofs.AuditLemmas.{agrees_by_fault}
+use Rattle.agent_commands.proofs.AuditLemmas.{agrees_by_fault, few_where_it_stands}
 use Rattle.agent_commands.proofs.StatusLemmas.{auditing_count, some_fault}
 use Rattle.agent_commands.specs.Audit.{failed, no_memory, not_audited, tells}
 use Rattle.agent_commands.specs.Status.{status_of}
@@ -44,7 +44,12 @@ returns-in-Err-clause-report_stood g c = λ is. absurd ((some_fault c.from.resul
 -- ---- it was
 
 pub returns-in-Ok-report_audited-clause-ends : goal.returns-in-Ok-report_audited-clause-ends
-returns-in-Ok-report_audited-clause-ends g c = tells (record { audited = c.in-Ok.audited; has = c.in-Ok.ensures.audited; told = c.in-Ok-report_audited.ensures.ok })
+returns-in-Ok-report_audited-clause-ends g c = tells (record {
+  audited = c.in-Ok.audited;
+  has = c.in-Ok.ensures.audited;
+  few_absent = λ so. few_where_it_stands g.T.Tree.meaning (g.D.Disk.meaning.images.seen c.args.disk.now) c.in-Ok.audited c.args.tree.now c.audit.new.tree (c.in-Ok.ensures.audited so);
+  told = c.in-Ok-report_audited.ensures.ok;
+})
 
 pub returns-in-Err-Failed-clause-ends : goal.returns-in-Err-Failed-clause-ends
 returns-in-Err-Failed-clause-ends g c = failed (record { audited = c.in-Ok.audited; has = c.in-Ok.ensures.audited; told = c.report_audited.ensures.part })

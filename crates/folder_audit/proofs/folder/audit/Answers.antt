@@ -1,6 +1,7 @@
 use Rattle.std.proofs.Common.{◌≡◌, length, subst}
 use Rattle.std.proofs.lemmas.Result.{IfErr-at_err, IfOk-weaker, err_from_is_err_and}
 use Rattle.folder_audit.proofs.CourseLemmas.{audited_of, differing_of}
+use Rattle.folder_audit.proofs.RuleLemmas.{one_set}
 use Rattle.folder_audit.specs.Refusals.{IsRefusal}
 use Rattle.folder_audit.specs.Tally.{IsLeastOther, IsOtherFault}
 use Rattle.folder_audit.specs.declared.fault.AuditFault.{AuditFault}
@@ -21,7 +22,7 @@ returns-clause-audited g c =
     let seen = g.D.Disk.meaning.images.seen c.args.disk.now in
     let kept = c.in_ok-kept.kept in
     IfOk-weaker c.tally.result _ _ (λ audited tallied tells. audited_of seen kept (c.in_ok-kept.ensures.kept tells) c.in_ok-kept.ensures.fit c.in_ok-found.found.items g.T.Tree.meaning c.args.tree.now c.found_of.new.tree c.in_ok-found.ensures.found
-    audited (rw (c.as_slice.ensures, c.deref.ensures.value) at tallied)) c.tally.ensures.ok
+    (one_set c.text_spells_one_pattern.ensures) c.found_of.ensures.tree.world c.in_ok-found.ensures.due audited (rw (c.as_slice.ensures, c.deref.ensures.value) at tallied)) c.tally.ensures.ok
 
 pub returns-clause-differs : goal.returns-clause-differs
 returns-clause-differs g c = λ file line is tells.

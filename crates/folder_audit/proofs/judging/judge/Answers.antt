@@ -1,12 +1,15 @@
-use Rattle.std.proofs.Common.{◌≡◌, ◌+◌, ◌-◌, ◌≤◌, ◌++◌, ℕ, List, length, take, drop, Some, sym, ap, subst, ◌∙◌, arith, length-drop}
+use Rattle.std.proofs.Common.{◌≡◌, ◌+◌, ◌-◌, ◌≤◌, ◌++◌, ℕ, List, length, take, drop, true, false, Some, sym, ap, subst, ◌∙◌, arith, length-drop}
 use Rattle.std.specs.Prelude.{All, option_map, slice_get}
 use Rattle.std.proofs.lemmas.List.{take_at, take_all}
 use Rattle.std.proofs.lemmas.Option.{slice_get-get_or, slice_get-map}
+use Rattle.outside.proofs.Telling.{told_same}
 use Rattle.pipeline.specs.Parts.{settings_of}
 use Rattle.pipeline.specs.declared.Pipeline.{Pipeline}
+use Rattle.tree_walk.specs.Calls.{KeepsHandles}
 use Rattle.folder_audit.specs.Judged.{pipes_of}
 use Rattle.folder_audit.specs.KeptFiles.{texts_of}
 use Rattle.folder_audit.proofs.JudgeLemmas.{SaysOf, read_found}
+use Rattle.folder_audit.proofs.TriedLemmas.{judges_all, judges_none, judges_unfit}
 use Rattle.folder_audit.proofs.judging.judge.Goals as goal
 
 pub is_readable-requires : goal.is_readable-requires
@@ -70,3 +73,24 @@ returns-clause-ok g c =
     read_found kept c.args.file c.args.place row given c.deref-3.result.now c.in_ok-verdict.verdict c.of.result c.last_place.result c.min-last.result (trees.world c.args.tree.now) (trees.world c.read_range.new.tree)
     c.row-row.ensures fits.begun yes.0 c.last_place.ensures.past c.min-last.ensures each (omega (arith, many, c.in_ok-bytes.bytes.ok.0, c.in_ok-bytes.ensures.len)) text_at c.of.ensures says
     (c.read_range.ensures.range.given c.if-not-read_range.false)
+
+pub returns-then-not-is_readable-clause-judges : goal.returns-then-not-is_readable-clause-judges
+returns-then-not-is_readable-clause-judges g c =
+    let trees = g.T.Tree.meaning in
+    let none = c.is_readable.ensures.no in
+    judges_unfit trees c.args.kept.now c.args.file c.args.place c.row-row.result.now c.row-row.ensures (λ x y. Unit {0}) c.args.tree.now c.args.tree.now
+    (λ long small. let yes = none long small in let both : true ≡ false = sym yes ∙ c.if-not-is_readable.true in cc) (told_same (λ x y. Unit {0}) (trees.world c.args.tree.now) (λ world. tt))
+
+pub returns-then-not-read_range-clause-judges : goal.returns-then-not-read_range-clause-judges
+returns-then-not-read_range-clause-judges g c =
+    let row = c.row-row.result.now in
+    let fits = c.requires.fit.rows c.args.place row c.row-row.ensures in
+    let yes = c.is_readable.ensures.yes c.if-not-is_readable.false in
+    let given = c.read_range.new.buffer in
+    let many : length given ≡ length c.in_ok-bytes.bytes.items = c.read_range.ensures.long ∙ ap length c.deref_mut.ensures.value in
+    judges_none g.T.Tree.meaning c.args.kept.now c.args.file c.args.place row c.row-row.ensures (row.start + length given) c.args.tree.now c.read_range.new.tree
+    (omega (arith, many, c.in_ok-bytes.bytes.ok.0, c.in_ok-bytes.ensures.len, fits.begun, yes.0, c.last_place.ensures.past, c.min-last.ensures)) (c.read_range.ensures.range.failed c.if-not-read_range.true)
+
+pub returns-clause-judges : goal.returns-clause-judges
+returns-clause-judges g c =
+    judges_all g.T.Tree.meaning c.args.kept.now c.args.file c.args.place c.row-row.result.now c.row-row.ensures KeepsHandles c.in_ok-verdict.verdict c.of.result c.args.tree.now c.read_range.new.tree c.of.ensures c.read_range.ensures.range.goes_on.world

@@ -1,7 +1,9 @@
-use Rattle.std.proofs.Common.{◌≡◌, ◌++◌, length, take, drop, sym, ap, ◌∙◌, arith}
-use Rattle.std.proofs.lemmas.List.{take_at}
+use Rattle.std.proofs.Common.{◌≡◌, ◌++◌, ℕ, List, length, take, drop, sym, ap, subst, ◌∙◌, arith}
+use Rattle.std.proofs.lemmas.List.{take_at, take_all}
+use Rattle.folder_audit.specs.Inner.Tried.{FindsWalked}
 use Rattle.folder_audit.proofs.FindingLemmas.{found_noted}
 use Rattle.folder_audit.proofs.ReadLemmas.{goes_then}
+use Rattle.folder_audit.proofs.WalkedLemmas.{walked_more, walked_next}
 use Rattle.folder_audit.proofs.looking.look_at_all.Goals as goal
 
 pub look_at-requires-clause-included : goal.look_at-requires-clause-included
@@ -22,5 +24,13 @@ loop-path-preserved g c =
     rw whole (record {
       found = found_noted c.args.kept.now before after c.in_ok-judged.judged (trees.world c.args.tree.now) (trees.world c.loop-path.tree) (trees.world c.look_at.new.tree) inv.tree.world c.look_at.ensures.tree.world many
           (rw c.deref_mut.ensures.value at c.note_judged.ensures.each) c.in_ok-judged.ensures.ok inv.found;
+      walked = subst (λ (ps : List (List ℕ)). FindsWalked trees c.args.kept.now after ps c.args.tree.now c.look_at.new.tree) (walked_next c.args.paths.now c.loop-path.path-index c.path-item.result c.loop-path-test.true c.path-item.is)
+          (walked_more trees c.args.kept.now before after (take c.loop-path.path-index c.args.paths.now) c.path-item.result c.in_ok-judged.judged c.args.tree.now c.loop-path.tree c.look_at.new.tree inv.tree c.look_at.ensures.tree
+          inv.found.are.many (rw c.deref_mut.ensures.value at c.note_judged.ensures.stay) (rw c.deref_mut.ensures.value at c.note_judged.ensures.noted) inv.walked (rw c.as_str.ensures at c.in_ok-judged.ensures.finds));
       tree = goes_then trees c.args.tree.now c.loop-path.tree c.look_at.new.tree inv.tree c.look_at.ensures.tree;
     })
+
+pub returns-clause-walked : goal.returns-clause-walked
+returns-clause-walked g c =
+    subst (λ (ps : List (List ℕ)). FindsWalked g.T.Tree.meaning c.args.kept.now c.loop-path.found.items ps c.args.tree.now c.loop-path.tree)
+    (take_all c.loop-path.path-index c.args.paths.now (omega (arith, c.loop-path-test.false))) c.loop-path.invariant.walked
