@@ -114,7 +114,7 @@ check_completion() {
         [ "$(completed stanza_agent once '')" = '' ] || return 1
     # Behind `segments` those that the README's row of it names.
     commands=$(sed -n 's/^| `stanza_agent segments COMMAND` | is \(.*\) with .*/\1/p' "$root/README.md" | grep -o '`[a-z]*`' | tr -d '`')
-    [ "$(completed stanza_agent segments '' | tr ' ' '\n' | sort)" = "$(sort <<<"$commands")" ] && [ "$(completed stanza_agent segments a)" = adopt ] &&
+    [ "$(completed stanza_agent segments '' | tr ' ' '\n' | sort)" = "$(sort <<<"$commands")" ] && [ "$(completed stanza_agent segments ad)" = adopt ] &&
         [ "$(completed stanza_agent segments once '')" = '' ]
 }
 
