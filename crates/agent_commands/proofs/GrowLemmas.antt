@@ -3,6 +3,8 @@ use Rattle.std.proofs.Common.{◌≡◌, ℕ, ◌+◌, ◌≤◌, List, [], ◌+
 use Rattle.std.specs.Prelude.{◌⊎◌}
 use Rattle.std.proofs.lemmas.List.{append-nil}
 use Rattle.checkpoint_journal.specs.JournalOf.{HasJournal, log_of}
+use Rattle.checkpoint_journal.specs.Memory.{EndsWithMemory, HasMemory}
+use Rattle.checkpoint_journal.specs.Next.{sequence_after}
 use Rattle.checkpoint_journal.specs.declared.journal.Journal.{Journal}
 use Rattle.checkpoint_store.specs.declared.Checkpoint.{Checkpoint}
 use Rattle.file_pass.specs.Full.{lines_text}
@@ -21,9 +23,8 @@ use Rattle.poll_core.proofs.SafeLemmas.{gains_kept, stays_kept}
 use Rattle.poll_core.proofs.SoundLemmas.{gains_sound, image_still, stays_sound}
 use Rattle.poll_core.specs.Found.{IsFound}
 use Rattle.poll_core.specs.IsSession.{IsSession}
-use Rattle.poll_core.specs.Next.{sequence_after}
 use Rattle.poll_core.specs.Polled.{ComesAfter, Gains, MayGain, Stays, Steps}
-use Rattle.poll_core.specs.Remembers.{EndsWithMemory, HasMemory, IsLeftBy}
+use Rattle.poll_core.specs.Remembers.{IsLeftBy}
 use Rattle.poll_core.specs.Reopens.{Reopens}
 use Rattle.poll_core.specs.Sequence.{HasSequence, no_slot, of_log}
 use Rattle.poll_core.specs.SessionParts.{journal_of_session, checkpoint_of_session}

@@ -2,3 +2,4 @@ pub mod SaysLemmas
 pub mod WrittenLemmas
 pub mod JournalLaws
 pub mod ReadingLemmas
+pub mod PutLemmas

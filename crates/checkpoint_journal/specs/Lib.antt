@@ -2,4 +2,10 @@ pub mod Says
 pub mod JournalOf
 pub mod Written
 pub mod JournalCause
+pub mod Memory
+pub mod Due
+pub mod Short
+pub mod Next
+pub mod Puts
+pub mod Costs
 pub mod Inner

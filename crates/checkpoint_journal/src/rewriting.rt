@@ -1,6 +1,5 @@
 // A new checkpoint, without changes.
 ghost use Rattle.std.specs.Prelude.{◌≡◌, ◌↔◌, ℕ, ◌+◌, length, Err, IsTrue, OnOk, IfOk, IfErr};
-ghost use Rattle.std.specs.Option.{option_copied};
 ghost use Rattle.outside.specs.Crash.{Passes};
 ghost use Rattle.slot_store.specs.ChosenSlot.{IsSlotFile};
 ghost use Rattle.slot_store.specs.CommitCause.{HasCommitCause};
@@ -32,30 +31,30 @@ use std::alloc::Global;
 /// disk succeeded it leaves the old one. After a fault the disk is to be read again.
 pub fn rewrite<D: Disk>(
     alloc: Global,
-    before: Option<&Journal>,
+    before: Option<Journal>,
     disk: &mut D,
     checkpoint: &CheckpointParts<'_>,
 ) -> Result<Journal, CommitFault>
     requires { IsCheckpoint newest (checkpoint_of_parts checkpoint.now) }
-    ensures journal { IfOk result (λ journal. journal ≡ started (option_copied before.entry) (checkpoint_of_parts checkpoint.now)) }
+    ensures journal { IfOk result (λ journal. journal ≡ started before (checkpoint_of_parts checkpoint.now)) }
     ensures file { IfOk result (λ journal. IsSlotFile journal.slot.file) }
 
-    ensures crash { EachLeft D.meaning.images disk.old (StandsIn (option_copied before.entry))
-        → Passes D.meaning.images (Rewrites (option_copied before.entry) (checkpoint_of_parts checkpoint.now)) disk.old disk.new }
-    ensures rewritten { OnOk result (EachLeft D.meaning.images disk.old (StandsIn (option_copied before.entry))
-        → EachLeft D.meaning.images disk.new (EndsWith (started (option_copied before.entry) (checkpoint_of_parts checkpoint.now)) (checkpoint_of_parts checkpoint.now))) }
+    ensures crash { EachLeft D.meaning.images disk.old (StandsIn before)
+        → Passes D.meaning.images (Rewrites before (checkpoint_of_parts checkpoint.now)) disk.old disk.new }
+    ensures rewritten { OnOk result (EachLeft D.meaning.images disk.old (StandsIn before)
+        → EachLeft D.meaning.images disk.new (EndsWith (started before (checkpoint_of_parts checkpoint.now)) (checkpoint_of_parts checkpoint.now))) }
     ensures early { DoneFewer 4 (D.meaning.done disk.old) (D.meaning.done disk.new)
-        → EachLeft D.meaning.images disk.old (StandsIn (option_copied before.entry))
-        → Passes D.meaning.images (KeepsOld (option_copied before.entry)) disk.old disk.new }
+        → EachLeft D.meaning.images disk.old (StandsIn before)
+        → Passes D.meaning.images (KeepsOld before) disk.old disk.new }
     ensures one { OnOk result (LeavesOne D.meaning.images disk.old → LeavesOne D.meaning.images disk.new) }
     ensures seen { IsTrue (D.meaning.images.tells disk.old)
-        → KeepsOthers (written_file (option_copied before.entry)) (D.meaning.images.seen disk.old) (D.meaning.images.seen disk.new) }
+        → KeepsOthers (written_file before) (D.meaning.images.seen disk.old) (D.meaning.images.seen disk.new) }
 
-    ensures worn { (result ≡ Err (CommitFault.Worn last_number)) ↔ IsWorn (option_copied before.entry) }
+    ensures worn { (result ≡ Err (CommitFault.Worn last_number)) ↔ IsWorn before }
     ensures worn_only { (sequence : ℕ) → result ≡ Err (CommitFault.Worn sequence) → (sequence ≡ last_number) × (disk.new ≡ disk.old) }
     ensures cause { HasCommitCause result (D.meaning.faults disk.old) (D.meaning.faults disk.new) }
     ensures done { HasDone result 8 (D.meaning.done disk.old) (D.meaning.done disk.new) }
-    ensures counted { HasWritten result (written_file (option_copied before.entry)) (length (checkpoint_spelling newest (checkpoint_of_parts checkpoint.now)) + 18) (D.meaning.written disk.old) (D.meaning.written disk.new) }
+    ensures counted { HasWritten result (written_file before) (length (checkpoint_spelling newest (checkpoint_of_parts checkpoint.now)) + 18) (D.meaning.written disk.old) (D.meaning.written disk.new) }
     ensures terms { KeepsTerms D.meaning disk.old disk.new }
 {
     let before = log_before(before)?;
@@ -67,9 +66,9 @@ pub fn rewrite<D: Disk>(
 }
 
 // Where the bytes of the journal before stand, where a sequence number comes after its last.
-fn log_before(before: Option<&Journal>) -> Result<Option<Log>, CommitFault>
-    ensures log { IfOk result (λ log. log ≡ log_before (option_copied before.entry)) }
-    ensures worn { (result ≡ Err (CommitFault.Worn last_number)) ↔ IsWorn (option_copied before.entry) }
+fn log_before(before: Option<Journal>) -> Result<Option<Log>, CommitFault>
+    ensures log { IfOk result (λ log. log ≡ log_before before) }
+    ensures worn { (result ≡ Err (CommitFault.Worn last_number)) ↔ IsWorn before }
     ensures worn_only { IfErr result (λ fault. fault ≡ CommitFault.Worn last_number) }
 {
     match before {

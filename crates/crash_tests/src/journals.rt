@@ -393,7 +393,7 @@ fn crashed_rewrite(alloc: Global, fault: Fault, outcome: u32) -> Result<(bool, M
     let (journal, _) = peek(alloc, &mut disk)?.ok_or("no journal")?;
     let checkpoint = checkpoint_in(alloc, NEXT)?;
     fault.set(alloc, &mut disk)?;
-    let result = rewrite(alloc, Some(&journal), &mut disk, &checkpoint.parts());
+    let result = rewrite(alloc, Some(journal), &mut disk, &checkpoint.parts());
     Ok((result.is_ok(), disk.crash(alloc, outcome)?))
 }
 
@@ -479,7 +479,7 @@ fn a_worn_journal_is_left_as_it_is(rt: HostRuntime) -> Result<(), Fail> {
     let (result, mut disk) = append(alloc, opened, Fault::Stop(0))?;
     assert_eq!(rt; result, Err(CommitFault::Worn { sequence: u64::MAX }));
     let checkpoint = checkpoint_in(alloc, NEXT)?;
-    let result = rewrite(alloc, Some(&journal), &mut disk, &checkpoint.parts());
+    let result = rewrite(alloc, Some(journal), &mut disk, &checkpoint.parts());
     assert_eq!(rt; result, Err(CommitFault::Worn { sequence: u64::MAX }));
     assert_eq!(rt; disk.bytes(DiskFile::SlotA), worn.bytes(alloc)?.as_slice());
     assert!(rt; disk.bytes(DiskFile::SlotB).is_empty());

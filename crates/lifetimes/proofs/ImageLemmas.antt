@@ -1,6 +1,8 @@
 -- What an image may have come to, call by call.
 use Rattle.std.proofs.Common.{◌≡◌, ℕ, ◌+◌, ◌≤◌, ◌<◌, List, Bool, IsTrue, Option, Some, None, refl, subst, ◌∙◌, arith, inl, inr}
 use Rattle.checkpoint_journal.specs.JournalOf.{log_of, HasJournal}
+use Rattle.checkpoint_journal.specs.Memory.{EndsWithMemory, HasMemory}
+use Rattle.checkpoint_journal.specs.Next.{HasNext}
 use Rattle.checkpoint_journal.specs.Written.{IsWorn}
 use Rattle.checkpoint_journal.specs.declared.journal.Journal.{Journal}
 use Rattle.checkpoint_store.specs.declared.Checkpoint.{Checkpoint}
@@ -16,9 +18,8 @@ use Rattle.poll_core.proofs.SafeLemmas.{IsSoundByEras, stays_sound_by, steps_sou
 use Rattle.poll_core.proofs.SessionLemmas.{left_goes_on, found_first}
 use Rattle.poll_core.specs.Found.{IsFound}
 use Rattle.poll_core.specs.IsSession.{IsSession}
-use Rattle.poll_core.specs.Next.{HasNext}
 use Rattle.poll_core.specs.Polled.{AreErasIn, IsStanding, Stays, Steps, ComesAfter}
-use Rattle.poll_core.specs.Remembers.{HasMemory, EndsWithMemory, IsLeftBy}
+use Rattle.poll_core.specs.Remembers.{IsLeftBy}
 use Rattle.poll_core.specs.Reopens.{Reopens}
 use Rattle.poll_core.specs.Sequence.{HasSequence, no_slot, of_log}
 use Rattle.poll_core.specs.SessionParts.{checkpoint_of_session, journal_of_session}

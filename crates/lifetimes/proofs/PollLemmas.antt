@@ -4,6 +4,7 @@ use Rattle.std.specs.Option.{is_none}
 use Rattle.std.specs.Prelude.{◌⊎◌, IfSome, IfOk, OnOk, length}
 use Rattle.std.proofs.lemmas.Bool.{leb-true}
 use Rattle.checkpoint_journal.specs.JournalOf.{HasCheckpoint}
+use Rattle.checkpoint_journal.specs.Memory.{EndsWithMemory}
 use Rattle.checkpoint_journal.specs.Written.{IsWorn}
 use Rattle.checkpoint_journal.specs.declared.journal.Journal.{Journal}
 use Rattle.lifetimes.proofs.EraLemmas.{eras_of_one, one_era_laws, session_has, session_plain, session_polls}
@@ -53,7 +54,6 @@ use Rattle.poll_core.specs.IsSession.{IsSession}
 use Rattle.poll_core.specs.LeavesTree.{LeavesTree}
 use Rattle.poll_core.specs.Overflows.{Overflows}
 use Rattle.poll_core.specs.Polled.{MayGain, IsStanding, IsSummed, Stays, Polled, advance, counting, stretch_of}
-use Rattle.poll_core.specs.Remembers.{EndsWithMemory}
 use Rattle.poll_core.specs.Summed.{sums_of}
 use Rattle.poll_core.specs.declared.summary.Summary.{Summary}
 use Rattle.poll_core.specs.SessionParts.{checkpoint_of_session, is_first, journal_of_session, kept_of, rules_of_session, stamp_of_session}

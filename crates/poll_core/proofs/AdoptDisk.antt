@@ -4,6 +4,7 @@ use Rattle.std.proofs.lemmas.List.{append-nil, take_all}
 use Rattle.std.specs.Option.{is_none}
 use Rattle.std.specs.Prelude.{IsTrue}
 use Rattle.checkpoint_journal.specs.JournalOf.{HasCheckpoint, HasJournal, log_of}
+use Rattle.checkpoint_journal.specs.Memory.{HasMemory}
 use Rattle.checkpoint_journal.specs.Written.{IsWorn}
 use Rattle.checkpoint_journal.specs.declared.journal.Journal.{Journal}
 use Rattle.checkpoint_store.specs.declared.Checkpoint.{Checkpoint}
@@ -21,7 +22,7 @@ use Rattle.poll_core.specs.Adopting.{IsAdopted, IsAdoption, KeepsAll, MayAdopt, 
 use Rattle.poll_core.specs.Adoption.{HasPut}
 use Rattle.poll_core.specs.Found.{IsFound}
 use Rattle.poll_core.specs.Polled.{Stays, Steps}
-use Rattle.poll_core.specs.Remembers.{GoesOnFrom, HasMemory, IsLeftBy}
+use Rattle.poll_core.specs.Remembers.{GoesOnFrom, IsLeftBy}
 use Rattle.poll_core.specs.Reopens.{Reopens}
 use Rattle.poll_core.specs.Sequence.{HasSequence, of_log}
 use Rattle.poll_core.specs.SessionParts.{checkpoint_of_session, is_first, journal_of_session, kept_of, limit_of, settings_of_session}

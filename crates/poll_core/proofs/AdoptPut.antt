@@ -1,7 +1,9 @@
 -- What putting an adoption leaves of a disk.
-use Rattle.std.proofs.Common.{◌≡◌, ℕ, List, Option, None, Some, sym, ap, subst, ◌∙◌, inl}
+use Rattle.std.proofs.Common.{◌≡◌, ℕ, List, Option, sym, ap, subst, ◌∙◌, inl}
 use Rattle.std.specs.Prelude.{IsTrue}
+use Rattle.checkpoint_journal.proofs.PutLemmas.{beside_crash, stands_in}
 use Rattle.checkpoint_journal.specs.JournalOf.{EndsWith}
+use Rattle.checkpoint_journal.specs.Puts.{Puts}
 use Rattle.checkpoint_journal.specs.Written.{Rewrites, StandsIn, started}
 use Rattle.checkpoint_journal.specs.declared.journal.Journal.{Journal}
 use Rattle.checkpoint_store.specs.declared.Checkpoint.{Checkpoint}
@@ -15,12 +17,9 @@ use Rattle.outside.specs.Images.{Images}
 use Rattle.outside.specs.declared.disk.DiskFile.{DiskFile}
 use Rattle.outside.specs.declared.disk.DiskFile.TheVariants.{Output}
 use Rattle.poll_core.proofs.PollDisk.{mid_differs, mid_ends, stays_pass, steps_pass}
-use Rattle.poll_core.proofs.PutLemmas.{beside_crash}
 use Rattle.poll_core.proofs.SaveLemmas.{IsSynced, one_synced, saves_after}
 use Rattle.poll_core.specs.Adoption.{HasPut}
-use Rattle.poll_core.specs.Next.{Puts}
 use Rattle.poll_core.specs.Polled.{Stays, Steps}
-use Rattle.poll_core.specs.Remembers.{EndsWithMemory}
 use Rattle.poll_core.specs.SessionParts.{checkpoint_of_session, journal_of_session, kept_of}
 use Rattle.poll_core.specs.StandsOn.{StandsOn}
 use Rattle.poll_core.specs.declared.adoption.Adoption.{Adoption}
@@ -28,10 +27,6 @@ use Rattle.poll_core.specs.declared.session.Session.{Session}
 use Rattle.slot_store.specs.Committed.{LeavesOne}
 use Rattle.slot_store.specs.Synced.{EachLeft}
 use Rattle.standing.specs.Marks.{Mark}
-
-stands_in : (journal : Option Journal) (saved : Checkpoint) (image : Image DiskFile) → EndsWithMemory journal saved image → StandsIn journal image
-stands_in None saved image memory = memory.0
-stands_in (Some journal) saved image memory = (saved, memory)
 
 stays_or : (session : Session) (after : Checkpoint) (added : List Mark) (old new : Image DiskFile) → Stays session old new → Steps session after added old new
 stays_or session after added old new stays = inl stays
@@ -44,30 +39,30 @@ module _ {D : Type 0} (meaning : DiskMeaning D) (session : Session) (after : Che
   pub unsynced_crash : {new : D} → Passes meaning.images Same mid new → (added : List Mark) → Passes meaning.images (Steps session after added) disk new
   unsynced_crash same added = passes_weaker (passes_before_same (stays_pass meaning session disk mid stands keeps) same) (stays_or session after added)
 
-  module _ {synced : D} (sync : IsSynced meaning.images mid synced) (before : Option Journal) (before_is : before ≡ journal_of_session session) where
+  module _ {synced : D} (sync : IsSynced meaning.images mid synced) where
     abbrev images : Images DiskFile D
     images = meaning.images
 
+    abbrev before : Option Journal
+    before = journal_of_session session
+
     pub each_stands : EachLeft images synced (StandsIn before)
-    each_stands =
-        subst (λ (j : Option Journal). EachLeft images synced (StandsIn j)) (sym before_is)
-        (record {
-          each = λ image left.
-              let past = sync.crash.now_left image left in
-              let P : Image DiskFile → Type 0 = λ i. StandsIn (journal_of_session session) i in
-              subst P (sym past.2) (stands_in (journal_of_session session) (checkpoint_of_session session) past.0 (mid_ends meaning session disk mid stands keeps past.0 past.1));
-        })
+    each_stands = record {
+      each = λ image left.
+          let past = sync.crash.now_left image left in
+          subst (λ (i : Image DiskFile). StandsIn before i) (sym past.2) (stands_in before (checkpoint_of_session session) past.0 (mid_ends meaning session disk mid stands keeps past.0 past.1));
+    }
 
     pub leaves_one : LeavesOne images synced
     leaves_one = one_synced (mid_differs meaning session disk mid stands keeps) sync
 
     module _ (put : Checkpoint) (put_is : put ≡ after) {new : D} (rewrites : Passes images (Rewrites before put) synced new) where
-      puts : Passes images (Puts (journal_of_session session) after) synced new
-      puts = beside_crash (journal_of_session session) before after put (record { before_is = before_is; checkpoint_is = put_is }) rewrites
+      puts : Passes images (Puts before after) synced new
+      puts = subst (λ (c : Checkpoint). Passes images (Puts before c) synced new) put_is (beside_crash before put rewrites)
 
       module _ (told : (image : Image DiskFile) → images.may_leave disk image → IsTrue (images.tells disk)) (shown : IsTrue (images.tells disk) → images.may_leave disk (images.seen disk)) where
         pub put_crash : (added : List Mark) (end : ℕ) → Appends meaning (lines_text added) (kept_of session) end disk mid → Passes images (Steps session after added) disk new
-        put_crash added end appends = steps_pass meaning session disk mid stands keeps told shown added end appends after new (saves_after (journal_of_session session) after sync puts)
+        put_crash added end appends = steps_pass meaning session disk mid stands keeps told shown added end appends after new (saves_after before after sync puts)
 
         -- each image has the checkpoint that was put, beside the lines that were
         pub has_put : (adoption : Adoption) → adoption.checkpoint ≡ after → (end : ℕ) → Appends meaning adoption.lines.items (kept_of session) end disk mid → ((image : Image DiskFile) → images.may_leave new image → IsTrue (images.tells disk))

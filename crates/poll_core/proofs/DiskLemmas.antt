@@ -4,6 +4,7 @@ use Rattle.std.proofs.lemmas.List.{length-take-le}
 use Rattle.std.specs.Prelude.{◌⊎◌}
 use Rattle.checkpoint_journal.proofs.JournalLaws.{journal_cut, journal_of_slots}
 use Rattle.checkpoint_journal.specs.JournalOf.{log_of, HasJournal}
+use Rattle.checkpoint_journal.specs.Memory.{EndsWithMemory, HasMemory}
 use Rattle.checkpoint_journal.specs.declared.journal.Journal.{Journal}
 use Rattle.checkpoint_store.specs.declared.Checkpoint.{Checkpoint}
 use Rattle.outside.specs.Crash.{Passes, IsDurable}
@@ -12,7 +13,7 @@ use Rattle.outside.specs.Images.{Images}
 use Rattle.outside.specs.declared.disk.DiskFile.{DiskFile}
 use Rattle.outside.specs.declared.disk.DiskFile.TheVariants.{Settings, Output, SlotA, SlotB}
 use Rattle.poll_core.proofs.ImageLemmas.{no_journal}
-use Rattle.poll_core.specs.Remembers.{HasMemory, EndsWithMemory, IsLeftBy}
+use Rattle.poll_core.specs.Remembers.{IsLeftBy}
 use Rattle.poll_core.specs.Reopens.{KeepsLogs, Reopens, TrimsSlots}
 use Rattle.poll_core.specs.SessionParts.{checkpoint_of_session, journal_of_session, kept_of}
 use Rattle.poll_core.specs.Settled.{IsSettled}

@@ -23,7 +23,6 @@ pub mod PlanLemmas
 pub mod WholeLemmas
 pub mod PollWhole
 pub mod TakenLemmas
-pub mod PutLemmas
 pub mod SaveLemmas
 pub mod PassLemmas
 pub mod StoodLemmas

@@ -3,6 +3,7 @@ use Rattle.std.proofs.Common.{◌≡◌, ℕ, ◌<◌, ◌≤◌, List, length, 
 use Rattle.std.proofs.lemmas.Bool.Decides.{nat_tests}
 use Rattle.std.specs.Prelude.{IfSome, nat_lt, if◌then◌else◌}
 use Rattle.checkpoint_journal.specs.JournalOf.{FoundIn, HasJournal, IsBadAt}
+use Rattle.checkpoint_journal.specs.Memory.{HasMemory}
 use Rattle.checkpoint_journal.specs.declared.fault.JournalFault.{JournalFault}
 use Rattle.checkpoint_journal.specs.declared.fault.JournalFault.TheVariants as journal
 use Rattle.checkpoint_journal.specs.declared.journal.Journal.{Journal}
@@ -20,7 +21,7 @@ use Rattle.poll_core.specs.MadeOf.{IsMadeOf}
 use Rattle.poll_core.specs.Making.{IsOfFound, IsRejected}
 use Rattle.poll_core.specs.OpenCause.{IsOfContents, journal_refusal}
 use Rattle.poll_core.specs.OpenFaults.{IsRefused, no_reading, other_settings, foreign_state, short_output}
-use Rattle.poll_core.specs.Remembers.{HasMemory, GoesOnFrom}
+use Rattle.poll_core.specs.Remembers.{GoesOnFrom}
 use Rattle.poll_core.specs.SessionParts.{checkpoint_of_session, journal_of_session, rules_of_session, settings_of_session, kept_of}
 use Rattle.poll_core.specs.declared.fault.OpenFault.{OpenFault}
 use Rattle.poll_core.specs.declared.fault.OpenFault.TheVariants.{Settings, Build, Disk, CheckpointBad, SettingsChanged, OutputShort, Memory}

@@ -2,6 +2,8 @@
 use Rattle.std.proofs.Common.{◌≡◌, ◌⊎◌, ℕ, ◌+◌, List, [], ◌∷◌, ◌++◌, length, Option, None, Some, refl, sym, ap, subst, ◌∙◌, arith, inl, inr}
 use Rattle.std.specs.Prelude.{IsTrue}
 use Rattle.std.proofs.lemmas.List.{length-append}
+use Rattle.checkpoint_journal.specs.Memory.{EndsWithMemory, HasMemory, KeepsMemory}
+use Rattle.checkpoint_journal.specs.Puts.{KeepsFiles}
 use Rattle.checkpoint_journal.specs.declared.journal.Journal.{Journal}
 use Rattle.checkpoint_store.specs.declared.Checkpoint.{Checkpoint}
 use Rattle.file_pass.specs.DiskTerms.{Appends, KeepsDisk, NoFewer}
@@ -14,9 +16,9 @@ use Rattle.outside.specs.Images.{Images}
 use Rattle.outside.specs.declared.disk.DiskFile.{DiskFile}
 use Rattle.outside.specs.declared.disk.DiskFile.TheVariants.{Settings, Output, SlotA, SlotB}
 use Rattle.poll_core.proofs.DiskLemmas.{ends_goes_on, ends_moved}
-use Rattle.poll_core.specs.Next.{DifferInOutput, IsSavedIn, KeepsFiles, KeepsMemory, Saves}
 use Rattle.poll_core.specs.Polled.{Stays, Steps}
-use Rattle.poll_core.specs.Remembers.{EndsWithMemory, HasMemory, IsLeftBy}
+use Rattle.poll_core.specs.Remembers.{IsLeftBy}
+use Rattle.poll_core.specs.Saves.{DifferInOutput, IsSavedIn, Saves}
 use Rattle.poll_core.specs.SessionParts.{checkpoint_of_session, journal_of_session, kept_of}
 use Rattle.poll_core.specs.StandsOn.{StandsOn}
 use Rattle.poll_core.specs.declared.session.Session.{Session}

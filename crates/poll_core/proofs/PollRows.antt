@@ -7,6 +7,8 @@ use Rattle.std.proofs.lemmas.Bool.{cases_lt, true≢false}
 use Rattle.std.proofs.lemmas.List.{same_lists}
 use Rattle.std.proofs.lemmas.List.Elements.{All-head, All-tail}
 use Rattle.std.proofs.lemmas.Option.{none-some, same_Some, get_or_from_slice_get, slice_get_within, unwrap_or-slice_get}
+use Rattle.checkpoint_journal.specs.Memory.{EndsWithMemory}
+use Rattle.checkpoint_journal.specs.Next.{AwaitsNext}
 use Rattle.checkpoint_store.proofs.Determined.{changed_alone}
 use Rattle.checkpoint_store.specs.Changed.{HasChanged}
 use Rattle.checkpoint_store.specs.Fits.{Fits, HasId}
@@ -33,8 +35,6 @@ use Rattle.poll_core.proofs.RowLemmas.{rows_in_order, all_fine}
 use Rattle.poll_core.specs.Inner.Begun.{IsBegun}
 use Rattle.poll_core.specs.IsSession.{IsSession}
 use Rattle.poll_core.specs.Inner.Kept.{KeepsTime}
-use Rattle.poll_core.specs.Next.{IsSavable}
-use Rattle.poll_core.specs.Remembers.{EndsWithMemory}
 use Rattle.poll_core.specs.SessionParts.{checkpoint_of_session, is_first, journal_of_session, poll_of_session, rules_of_session, settings_of_session, stamp_at, stamp_of_session, kept_of, limit_of}
 use Rattle.poll_core.proofs.TakenLemmas.{row_kept}
 use Rattle.poll_core.specs.Taken.{Keeping}
@@ -268,8 +268,8 @@ module _ (session : Session) (is : IsSession session) (setup : Setup) (observed 
       same_lists taking.tracker session.tracker size (λ place d within.
       sym (unwrap_or-slice_get taking.tracker place d) ∙ ap (λ (o : Option Row). unwrap_or o d) (old_place place within).1 ∙ unwrap_or-slice_get session.tracker place d)
 
-  pub next_savable : (image : Image DiskFile) → EndsWithMemory (journal_of_session session) (checkpoint_of_session session) image → IsSavable (journal_of_session session) (keeping_in session observed taking) image
-  next_savable image ends = record {
+  pub next_awaited : (image : Image DiskFile) → EndsWithMemory (journal_of_session session) (checkpoint_of_session session) image → AwaitsNext (journal_of_session session) (next_of_session session observed taking) (change_of_session observed taking) image
+  next_awaited image ends = record {
     before = checkpoint_of_session session;
     ends = ends;
     fits = next_fits;

@@ -2,6 +2,10 @@
 use Rattle.std.proofs.Common.{◌≡◌, ◌≢◌, ℕ, ◌+◌, ◌≤◌, List, length, Bool, true, false, Option, None, Some, refl, sym, ap, subst, ◌∙◌, arith, inl, inr}
 use Rattle.std.specs.Option.{is_none, is_some}
 use Rattle.std.specs.Prelude.{IfSome, IsTrue, max, not}
+use Rattle.checkpoint_journal.specs.Costs.{Costs}
+use Rattle.checkpoint_journal.specs.Memory.{KeepsMemory}
+use Rattle.checkpoint_journal.specs.Next.{AwaitsNext}
+use Rattle.checkpoint_journal.specs.Short.{IsShort}
 use Rattle.checkpoint_journal.specs.declared.journal.Journal.{Journal}
 use Rattle.checkpoint_store.specs.Limits.{newest}
 use Rattle.checkpoint_store.specs.Rules.{IsCheckpoint}
@@ -18,14 +22,14 @@ use Rattle.outside.specs.declared.disk.DiskFile.{DiskFile}
 use Rattle.outside.specs.declared.disk.DiskFile.TheVariants.{Output}
 use Rattle.poll_core.proofs.PollDisk.{early_pass, fewer_then, left_stands, mid_differs, mid_ends, none_added, saved_stands, steps_pass}
 use Rattle.poll_core.proofs.PollLines.{no_lines, within_own}
-use Rattle.poll_core.proofs.PollRows.{IsSetUp, begins, change_of_session, keeping_in, next_of_session, next_differ, next_fits, next_lawful, next_named, next_savable, next_stand, next_states, none_flagged, same_rows}
+use Rattle.poll_core.proofs.PollRows.{IsSetUp, begins, change_of_session, keeping_in, next_of_session, next_differ, next_fits, next_lawful, next_named, next_awaited, next_stand, next_states, none_flagged, same_rows}
 use Rattle.poll_core.proofs.PollTold.{IsTimed, is_pass, is_summed, lines_by, rose_by}
 use Rattle.poll_core.specs.Inner.Begun.{IsQuiet}
-use Rattle.poll_core.specs.IsSession.{IsSession, IsShort}
+use Rattle.poll_core.specs.IsSession.{IsSession}
 use Rattle.poll_core.specs.Inner.Kept.{Keeps, KeepsTime, to_keep}
-use Rattle.poll_core.specs.Next.{Costs, DifferInOutput, IsSavable, KeepsMemory, Saves}
 use Rattle.poll_core.specs.Inner.Passed.{Passed}
 use Rattle.poll_core.specs.Polled.{ChangesNothing, ComesAfter, HasCost, HasNextJournal, HasToKeep, LeavesAll, MayGain, Polled, Stays}
+use Rattle.poll_core.specs.Saves.{DifferInOutput, Saves}
 use Rattle.poll_core.specs.SessionParts.{checkpoint_of_session, poll_of_session, rules_of_session, journal_of_session, kept_of, limit_of, stamp_at, stamp_of_session}
 use Rattle.poll_core.specs.StandsOn.{StandsOn}
 use Rattle.poll_core.specs.Summed.{IsSummaryOf}
@@ -113,9 +117,9 @@ module _ {T D : Type 0} (means : Meanings T D) (session : Session) (is : IsSessi
     states = next_states session is setup observed by passed.begun taking passed.is_begun passed.sane passed.flags grown;
   }
 
-  pub savable_own : EachLeft means.disks.images new.disk (IsSavable (journal_of_session session) (keeping_in session observed taking))
-  savable_own = record {
-    each = λ image left. next_savable session is setup observed by passed.begun taking passed.is_begun passed.sane passed.flags grown image (mid_ends means.disks session old.disk new.disk stands keeps image left);
+  pub awaits_own : EachLeft means.disks.images new.disk (AwaitsNext (journal_of_session session) (next_of_session session observed taking) (change_of_session observed taking))
+  awaits_own = record {
+    each = λ image left. next_awaited session is setup observed by passed.begun taking passed.is_begun passed.sane passed.flags grown image (mid_ends means.disks session old.disk new.disk stands keeps image left);
   }
 
   pub slots_after : (one other : Image DiskFile) → means.disks.images.may_leave new.disk one → means.disks.images.may_leave new.disk other → DifferInOutput one other

@@ -4,6 +4,7 @@ use Rattle.std.specs.Prelude.{IsTrue}
 use Rattle.std.proofs.lemmas.Option.{get_or_from_slice_get, slice_get_within}
 use Rattle.checkpoint_journal.proofs.JournalLaws.{one_said, one_bad, bad_no_journal, bad_slot}
 use Rattle.checkpoint_journal.specs.JournalOf.{HasCheckpoint, IsBadAt}
+use Rattle.checkpoint_journal.specs.Memory.{HasMemory}
 use Rattle.checkpoint_journal.specs.declared.journal.Journal.{Journal}
 use Rattle.outside.specs.Image.{Image}
 use Rattle.outside.specs.declared.disk.DiskFile.{DiskFile}
@@ -17,7 +18,7 @@ use Rattle.poll_core.specs.Found.{IsFound}
 use Rattle.poll_core.specs.IsSession.{IsSession}
 use Rattle.poll_core.specs.MadeOf.{EndsWithRules, HasRules}
 use Rattle.poll_core.specs.OpenFaults.{IsOfText, HasOtherSettings, IsLeastForeign, HasForeignState, HasShortOutput, IsRefused, no_reading, other_settings, foreign_state, short_output}
-use Rattle.poll_core.specs.Remembers.{HasMemory, GoesOnFrom}
+use Rattle.poll_core.specs.Remembers.{GoesOnFrom}
 use Rattle.poll_core.specs.SessionParts.{checkpoint_of_session, rules_of_session, settings_of_session, journal_of_session, last_text}
 use Rattle.poll_core.specs.declared.fault.OpenFault.{OpenFault}
 use Rattle.poll_core.specs.declared.fault.OpenFault.TheVariants.{CheckpointBad, SettingsChanged, OutputShort}

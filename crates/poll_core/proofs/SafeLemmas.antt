@@ -1,6 +1,7 @@
 -- Whatever a poll leaves of a disk, it is sound by eras that end with the session's, and keeps what was kept.
 use Rattle.std.proofs.Common.{◌≡◌, ℕ, ◌+◌, ◌≤◌, List, ◌++◌, length, take, Option, None, Some, refl, sym, ap, subst, ◌∙◌, arith, inl, inr}
 use Rattle.std.proofs.lemmas.List.{take_all, length-append}
+use Rattle.checkpoint_journal.specs.Memory.{HasMemory}
 use Rattle.checkpoint_journal.specs.declared.journal.Journal.{Journal}
 use Rattle.checkpoint_store.specs.Limits.{newest}
 use Rattle.checkpoint_store.specs.Rules.{beside_of}
@@ -16,7 +17,7 @@ use Rattle.poll_core.proofs.RowLemmas.{rows_in_order}
 use Rattle.poll_core.specs.Found.{IsFound}
 use Rattle.poll_core.specs.IsSession.{IsSession}
 use Rattle.poll_core.specs.Polled.{ComesAfter, Gains, Stays, Steps}
-use Rattle.poll_core.specs.Remembers.{HasMemory, IsLeftBy}
+use Rattle.poll_core.specs.Remembers.{IsLeftBy}
 use Rattle.poll_core.specs.SessionParts.{checkpoint_of_session, rules_of_session, journal_of_session, kept_of}
 use Rattle.poll_core.specs.declared.session.Session.{Session}
 use Rattle.standing.specs.Eras.{Eras, last_era, texts_of}

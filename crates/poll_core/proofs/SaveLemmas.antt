@@ -2,6 +2,8 @@
 use Rattle.std.proofs.Common.{◌≡◌, ◌≢◌, ℕ, ◌+◌, List, Option, Some, None, refl, sym, ap, ◌∙◌, arith, inl, inr}
 use Rattle.std.specs.Option.{unwrap_or}
 use Rattle.std.specs.Prelude.{option_map}
+use Rattle.checkpoint_journal.specs.Memory.{KeepsMemory}
+use Rattle.checkpoint_journal.specs.Puts.{Puts}
 use Rattle.checkpoint_journal.specs.declared.journal.Journal.{Journal}
 use Rattle.checkpoint_store.specs.declared.Checkpoint.{Checkpoint}
 use Rattle.outside.proofs.Passing.{passes_after_same, passes_by}
@@ -10,7 +12,7 @@ use Rattle.outside.specs.Image.{Image, Same}
 use Rattle.outside.specs.Images.{Images}
 use Rattle.outside.specs.declared.disk.DiskFile.{DiskFile}
 use Rattle.outside.specs.declared.disk.DiskFile.TheVariants.{Settings, Output, SlotA, SlotB}
-use Rattle.poll_core.specs.Next.{DifferInOutput, KeepsMemory, Puts, Saves}
+use Rattle.poll_core.specs.Saves.{DifferInOutput, Saves}
 use Rattle.slot_store.specs.Committed.{LeavesOne}
 use Rattle.slot_store.specs.Counted.{DoneFewer}
 use Rattle.standing.specs.Pass.{time_of}

@@ -3,11 +3,12 @@ use Rattle.std.proofs.Common.{◌≡◌, ℕ, suc, ◌+◌, ◌-◌, ◌<◌, �
 use Rattle.std.proofs.lemmas.List.Elements.{All-cons, All-nil}
 use Rattle.std.proofs.lemmas.Option.{none-some, same_Some}
 use Rattle.std.specs.Prelude.{IfSome, slice_get}
+use Rattle.checkpoint_journal.specs.Memory.{HasMemory, IsEmpty}
+use Rattle.checkpoint_journal.specs.Short.{IsShort}
 use Rattle.checkpoint_journal.specs.declared.journal.Journal.{Journal}
 use Rattle.checkpoint_store.specs.Rules.{AreEras, IsCheckpoint, KeepRules, beside_of}
 use Rattle.checkpoint_store.specs.Limits.{newest, output_limit}
 use Rattle.poll_core.proofs.MakingLemmas.{short_text}
-use Rattle.poll_core.specs.IsSession.{IsShort}
 use Rattle.poll_core.specs.MadeOf.{IsMadeOf}
 use Rattle.outside.specs.Image.{Image}
 use Rattle.outside.specs.declared.disk.DiskFile.{DiskFile}
@@ -15,7 +16,7 @@ use Rattle.outside.specs.declared.disk.DiskFile.TheVariants.{Output}
 use Rattle.poll_core.proofs.DiskLemmas.{ends_goes_on}
 use Rattle.poll_core.proofs.RowLemmas.{rows_in_order}
 use Rattle.poll_core.specs.IsSession.{IsSession}
-use Rattle.poll_core.specs.Remembers.{GoesOnFrom, IsLeftBy, IsEmpty, HasMemory}
+use Rattle.poll_core.specs.Remembers.{GoesOnFrom, IsLeftBy}
 use Rattle.poll_core.specs.SessionParts.{checkpoint_of_session, rules_of_session, journal_of_session, kept_of, last_text}
 use Rattle.poll_core.specs.declared.session.Session.{Session}
 use Rattle.standing.specs.Eras.{Eras, last_era, texts_of}

@@ -5,6 +5,7 @@ use Rattle.std.proofs.lemmas.List.Elements.{All-append, All-cons, All-head, All-
 use Rattle.std.specs.List.{All}
 use Rattle.checkpoint_journal.proofs.JournalLaws.{journal_lawful}
 use Rattle.checkpoint_journal.specs.JournalOf.{HasCheckpoint, IsBadAt}
+use Rattle.checkpoint_journal.specs.Memory.{HasMemory}
 use Rattle.checkpoint_journal.specs.declared.journal.Journal.{Journal}
 use Rattle.checkpoint_store.specs.Limits.{newest}
 use Rattle.checkpoint_store.specs.Rules.{beside_of}
@@ -32,7 +33,7 @@ use Rattle.poll_core.specs.IsSession.{IsSession}
 use Rattle.poll_core.specs.MadeOf.{HasRules}
 use Rattle.poll_core.specs.OpenFaults.{HasOtherSettings, IsRefused, no_reading, other_settings, foreign_state, short_output}
 use Rattle.poll_core.specs.Polled.{ComesAfter, Gains, Stays, Steps}
-use Rattle.poll_core.specs.Remembers.{HasMemory, IsLeftBy}
+use Rattle.poll_core.specs.Remembers.{IsLeftBy}
 use Rattle.poll_core.specs.Reopens.{Reopens}
 use Rattle.poll_core.specs.SessionParts.{checkpoint_of_session, journal_of_session, kept_of, last_text, rules_of_session, settings_of_session}
 use Rattle.poll_core.specs.Sound.{IsOfOthers, IsSettings, IsSoundCheckpoint, IsSoundImage, IsSoundWith, KeepStatesOf}

@@ -1,6 +1,7 @@
 -- Whatever a poll leaves, it stands where the image before it stood.
 use Rattle.std.proofs.Common.{◌≡◌, ℕ, ◌+◌, ◌≤◌, List, [], ◌∷◌, ◌++◌, length, take, Option, Some, None, refl, sym, ap, subst, ◌∙◌, arith, inl, inr}
 use Rattle.std.proofs.lemmas.List.{take_all, length-append}
+use Rattle.checkpoint_journal.specs.Memory.{EndsWithMemory, HasMemory}
 use Rattle.checkpoint_journal.specs.declared.journal.Journal.{Journal}
 use Rattle.file_pass.specs.Full.{lines_text}
 use Rattle.file_pass.specs.TreeTerms.{GoesLater}
@@ -16,7 +17,7 @@ use Rattle.poll_core.proofs.SessionLemmas.{left_goes_on, begins_with, found_firs
 use Rattle.poll_core.specs.Found.{IsFound}
 use Rattle.poll_core.specs.Polled.{AreErasIn, ComesAfter, Gains, IsPass, IsStanding, Stays, Steps, Counting, advance, stretch_of}
 use Rattle.poll_core.specs.MadeOf.{AreErasOf}
-use Rattle.poll_core.specs.Remembers.{HasMemory, EndsWithMemory, IsLeftBy}
+use Rattle.poll_core.specs.Remembers.{IsLeftBy}
 use Rattle.poll_core.specs.SessionParts.{checkpoint_of_session, is_first, poll_of_session, rules_of_session, journal_of_session, kept_of, stamp_of_session}
 use Rattle.poll_core.specs.declared.session.Session.{Session}
 use Rattle.poll_core.specs.Since.{KeepsStandingSince}

@@ -14,7 +14,7 @@ pub mod OpenCause
 pub mod OpenFaults
 pub mod Making
 pub mod Taken
-pub mod Next
+pub mod Saves
 pub mod PollCause
 pub mod Summed
 pub mod Polled

@@ -1,11 +1,13 @@
 -- What a poll is: a pass of the rules over the files, and what it makes of a disk.
 use Rattle.std.specs.Prelude.{◌≡◌, ◌≢◌, ◌⊎◌, ℕ, ◌+◌, ◌-◌, ◌≤◌, All, false, Contains, List, [], ◌++◌, length, Some, slice_get, ⊤}
+use Rattle.checkpoint_journal.specs.Costs.{Costs}
+use Rattle.checkpoint_journal.specs.Memory.{HasMemory}
+use Rattle.checkpoint_journal.specs.Next.{HasNext, IsNext, change_to}
 use Rattle.checkpoint_journal.specs.Written.{IsWorn}
 use Rattle.checkpoint_store.specs.Fits.{Ascend, HasId}
 use Rattle.checkpoint_store.specs.Rules.{IsCheckpoint, beside_of}
 use Rattle.checkpoint_store.specs.Limits.{newest}
 use Rattle.checkpoint_journal.specs.declared.journal.Journal.{Journal}
-use Rattle.checkpoint_store.specs.declared.Change.{Change}
 use Rattle.checkpoint_store.specs.declared.Checkpoint.{Checkpoint}
 use Rattle.file_pass.specs.Cost.{cost_of}
 use Rattle.file_pass.specs.Full.{lines_text}
@@ -21,8 +23,6 @@ use Rattle.outside.specs.declared.disk.DiskFile.{DiskFile}
 use Rattle.outside.specs.declared.disk.DiskFile.TheVariants.{Settings, Output}
 use Rattle.poll_core.specs.Found.{IsFound}
 use Rattle.poll_core.specs.MadeOf.{AreErasOf}
-use Rattle.poll_core.specs.Next.{HasNext, Costs, IsNext}
-use Rattle.poll_core.specs.Remembers.{HasMemory}
 use Rattle.poll_core.specs.SessionParts.{checkpoint_of_session, is_first, poll_of_session, rules_of_session, journal_of_session, kept_of, limit_of, time_of_session}
 use Rattle.poll_core.specs.StandsOn.{StandsOn}
 use Rattle.poll_core.specs.Summed.{IsDeep, HasDeepFolder, sums_of}
@@ -138,10 +138,6 @@ pub record HasCost {D : Type 0} (meaning : DiskMeaning D) (session : Session) (a
   pub rows : List Row
   pub changed : AreChanged session after rows
   pub costs : Costs (journal_of_session session) after rows (meaning.written disk) (meaning.written disk_after)
-
--- the change to this checkpoint by these rows
-abbrev pub change_to : Checkpoint → List Row → Change
-change_to after rows = record { output_length = after.output_length; observed = after.observed; next_id = after.next_id; rows = rows }
 
 -- The session that goes on has the journal that comes next.
 abbrev pub HasNextJournal : Session → Session → List Row → Type 0

@@ -1,5 +1,6 @@
 -- What a pass leaves, as a checkpoint and as a change.
 use Rattle.std.specs.Prelude.{◌+◌, length}
+use Rattle.checkpoint_journal.specs.Next.{change_to}
 use Rattle.checkpoint_store.specs.Parts.{flagged}
 use Rattle.checkpoint_store.specs.declared.Change.{Change}
 use Rattle.checkpoint_store.specs.declared.Checkpoint.{Checkpoint}
@@ -17,7 +18,7 @@ taken_checkpoint heading taking = record {
 }
 
 abbrev pub taken_change : Heading → Taking → Change
-taken_change heading taking = record { output_length = taking.end; observed = heading.observed; next_id = length taking.tracker + 1; rows = flagged taking.changed.items taking.tracker }
+taken_change heading taking = change_to (taken_checkpoint heading taking) (flagged taking.changed.items taking.tracker)
 
 -- what is to be kept: the next checkpoint, and the change to it
 pub record Keeping : Type 0 where

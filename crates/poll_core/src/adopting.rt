@@ -1,6 +1,7 @@
 // Other settings are adopted.
 ghost use Rattle.std.specs.Prelude.{◌≡◌, ◌≢◌, ◌+◌, ◌≤◌, ℕ, List, Some, false, length, IsTrue, IfOk, IfErr, OnOk};
 ghost use Rattle.checkpoint_journal.specs.JournalOf.{HasCheckpoint, HasJournal};
+ghost use Rattle.checkpoint_journal.specs.Short.{IsShort};
 ghost use Rattle.checkpoint_journal.specs.Written.{IsWorn};
 ghost use Rattle.checkpoint_store.specs.Limits.{newest, output_limit};
 ghost use Rattle.checkpoint_store.specs.Rules.{IsCheckpoint};
@@ -14,7 +15,7 @@ ghost use Rattle.poll_core.specs.AdoptFaults.{IsKeptRefusal, IsNextRefusal, IsUn
 ghost use Rattle.poll_core.specs.Adopting.{IsAdopted, KeepsStandingIn, MayAdopt};
 ghost use Rattle.poll_core.specs.Adoption.{HasPut};
 ghost use Rattle.poll_core.specs.Calls.{CutsAndSyncs};
-ghost use Rattle.poll_core.specs.IsSession.{IsSession, IsShort};
+ghost use Rattle.poll_core.specs.IsSession.{IsSession};
 ghost use Rattle.poll_core.specs.MadeOf.{IsMadeOf};
 ghost use Rattle.poll_core.specs.Making.{IsOfFound};
 ghost use Rattle.poll_core.specs.Polled.{Steps};
@@ -225,12 +226,7 @@ impl Session {
     {
         write_behind(alloc, disk, self.kept, &adoption.lines)?;
         disk.sync(alloc, DiskFile::Output)?;
-        let _journal = rewrite(
-            alloc,
-            self.journal.as_ref(),
-            disk,
-            &adoption.checkpoint.parts(),
-        )?;
+        let _journal = rewrite(alloc, self.journal, disk, &adoption.checkpoint.parts())?;
         Ok(())
     }
 }

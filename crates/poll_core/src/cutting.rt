@@ -1,10 +1,11 @@
 // What stands behind the journal and behind the output that is kept is cut off.
 ghost use Rattle.std.specs.Prelude.{◌≡◌, length, IsTrue, IfOk, OnOk};
+ghost use Rattle.checkpoint_journal.specs.Memory.{EndsWithMemory};
 ghost use Rattle.outside.specs.Count.{HasCause};
 ghost use Rattle.outside.specs.Crash.{Passes};
 ghost use Rattle.outside.specs.Image.{AtFile, IsCut, MayCut};
 ghost use Rattle.poll_core.specs.Calls.{CutsAndSyncs};
-ghost use Rattle.poll_core.specs.Remembers.{EndsWithMemory, GoesOnFrom};
+ghost use Rattle.poll_core.specs.Remembers.{GoesOnFrom};
 ghost use Rattle.poll_core.specs.Reopens.{Reopens, TrimsSlots};
 ghost use Rattle.poll_core.specs.SessionParts.{checkpoint_of_session, journal_of_session, kept_of};
 ghost use Rattle.poll_core.specs.Settled.{IsSettled};

@@ -1,11 +1,12 @@
 // A session of a checkpoint that was found.
 ghost use Rattle.std.specs.Prelude.{◌≡◌, ℕ, ◌≤◌, List, [], ◌∷◌, length, Some, IfOk, IfErr, IfSome, IfNone, OnOk};
+ghost use Rattle.checkpoint_journal.specs.Short.{IsShort};
 ghost use Rattle.checkpoint_store.specs.Rules.{IsCheckpoint};
 ghost use Rattle.checkpoint_store.specs.Limits.{newest, output_limit};
 ghost use Rattle.file_tracker.specs.Limits.{row_limit};
 ghost use Rattle.pipeline.specs.AsRules.{rules_of};
 ghost use Rattle.poll_core.specs.Differs.{DiffersAt};
-ghost use Rattle.poll_core.specs.IsSession.{IsSession, IsShort};
+ghost use Rattle.poll_core.specs.IsSession.{IsSession};
 ghost use Rattle.poll_core.specs.MadeOf.{IsMadeOf};
 ghost use Rattle.poll_core.specs.OpenFaults.{IsLeastForeign};
 ghost use Rattle.poll_core.specs.Making.{IsOfFound, IsUnfit, IsRejected};

@@ -1,21 +1,21 @@
 // What a pass left is kept: the output is synced, and then the checkpoint follows it.
-ghost use Rattle.std.specs.Prelude.{◌≡◌, ℕ, ◌+◌, ◌^◌, ◌≤◌, false, length, Err, Some, IsTrue, IfOk, IfSome, OnOk};
-ghost use Rattle.checkpoint_journal.specs.JournalOf.{EndsWith};
+ghost use Rattle.std.specs.Prelude.{◌≡◌, ℕ, Err, IsTrue, IfOk, IfSome, OnOk};
+ghost use Rattle.checkpoint_journal.specs.Costs.{Costs};
+ghost use Rattle.checkpoint_journal.specs.Memory.{KeepsMemory};
+ghost use Rattle.checkpoint_journal.specs.Next.{AwaitsNext, IsNext, change_of_next};
+ghost use Rattle.checkpoint_journal.specs.Short.{IsShort};
 ghost use Rattle.checkpoint_journal.specs.Written.{IsWorn};
 ghost use Rattle.checkpoint_store.specs.Rules.{IsCheckpoint};
 ghost use Rattle.checkpoint_store.specs.Limits.{newest};
-ghost use Rattle.checkpoint_store.specs.Parts.{change_of_parts, checkpoint_of_parts};
-ghost use Rattle.checkpoint_store.specs.Spelling.{checkpoint_spelling};
+ghost use Rattle.checkpoint_store.specs.Parts.{checkpoint_of_parts};
 ghost use Rattle.outside.specs.Crash.{Passes};
 ghost use Rattle.outside.specs.Image.{Image};
 ghost use Rattle.outside.specs.declared.disk.DiskFile.{DiskFile};
 ghost use Rattle.poll_core.specs.Inner.Begun.{IsQuiet};
-ghost use Rattle.poll_core.specs.IsSession.{IsShort};
 ghost use Rattle.poll_core.specs.Inner.Kept.{Keeps, KeepsTime, to_keep};
-ghost use Rattle.poll_core.specs.Next.{Costs, DifferInOutput, IsDue, IsNext, IsSavable, IsSavedIn, KeepsMemory, Puts, Saves, WrittenAtMost, cost_of_rows};
 ghost use Rattle.poll_core.specs.PollCause.{HasPollCause};
+ghost use Rattle.poll_core.specs.Saves.{DifferInOutput, IsSavedIn, Saves};
 ghost use Rattle.poll_core.specs.Taken.{keeping_of, taken_change, taken_checkpoint};
-ghost use Rattle.slot_store.specs.CommitCause.{HasCommitCause};
 ghost use Rattle.slot_store.specs.Committed.{LeavesOne};
 ghost use Rattle.slot_store.specs.Counted.{DoneFewer};
 ghost use Rattle.slot_store.specs.Frame.{last_number};
@@ -24,16 +24,12 @@ ghost use Rattle.slot_store.specs.Synced.{EachLeft};
 
 use crate::PollFault;
 use crate::heading::Heading;
-use checkpoint_journal::{Journal, rewrite};
-use checkpoint_store::{ChangeParts, CheckpointParts, Eras, NEWEST_VERSION, checkpoint_size};
+use checkpoint_journal::{Journal, Next, put};
+use checkpoint_store::{CheckpointParts, Eras};
 use file_pass::Taking;
 use file_tracker::Bytes;
 use outside::{Disk, DiskFile};
-use slot_store::CommitFault;
 use std::alloc::{AllocError, Global};
-
-// How many bytes of changes stand behind a small checkpoint before it is written anew.
-const SPARE: u64 = 65_536;
 
 /// Keeps what was taken: where something changed, or no checkpoint stood, the output is synced and the checkpoint
 /// written. Answers the journal that stands then.
@@ -47,7 +43,7 @@ pub(crate) fn keep<D: Disk>(
 ) -> Result<Option<Journal>, PollFault>
     requires lawful { IsCheckpoint newest (taken_checkpoint heading.now taking.now) }
     requires short { IfSome journal IsShort }
-    requires savable { EachLeft D.meaning.images disk.old (IsSavable journal (keeping_of heading.now taking.now)) }
+    requires awaits { EachLeft D.meaning.images disk.old (AwaitsNext journal (taken_checkpoint heading.now taking.now) (taken_change heading.now taking.now)) }
     requires slots { (one other : Image DiskFile) → D.meaning.images.may_leave disk.old one → D.meaning.images.may_leave disk.old other → DifferInOutput one other }
     ensures kept { IfOk result (λ after. Keeps D.meaning.images (to_keep journal kept taking.now (keeping_of heading.now taking.now)) after disk.old disk.new) }
     ensures crash { Passes D.meaning.images (Saves journal (taken_checkpoint heading.now taking.now) (D.meaning.images.seen disk.old DiskFile.Output)) disk.old disk.new }
@@ -101,7 +97,7 @@ fn save<D: Disk>(
 ) -> Result<Journal, PollFault>
     requires lawful { IsCheckpoint newest (taken_checkpoint heading.now taking.now) }
     requires short { IfSome journal IsShort }
-    requires savable { EachLeft D.meaning.images disk.old (IsSavable journal (keeping_of heading.now taking.now)) }
+    requires awaits { EachLeft D.meaning.images disk.old (AwaitsNext journal (taken_checkpoint heading.now taking.now) (taken_change heading.now taking.now)) }
     requires slots { (one other : Image DiskFile) → D.meaning.images.may_leave disk.old one → D.meaning.images.may_leave disk.old other → DifferInOutput one other }
     ensures saved { IfOk result (λ next. EachLeft D.meaning.images disk.new (IsSavedIn next (taken_checkpoint heading.now taking.now) (D.meaning.images.seen disk.old DiskFile.Output))) }
     ensures one { OnOk result (LeavesOne D.meaning.images disk.new) }
@@ -116,147 +112,24 @@ fn save<D: Disk>(
     ensures terms { KeepsTerms D.meaning disk.old disk.new }
 {
     disk.sync(alloc, DiskFile::Output)?;
-    let next = put(alloc, disk, journal, heading, taking)?;
-    Ok(next)
+    let next = next_of(heading, taking);
+    let journal = put(alloc, disk, journal, &next)?;
+    Ok(journal)
 }
 
-// Puts what changed behind the checkpoint or, where that is due, a whole one beside it.
-fn put<D: Disk>(
-    alloc: Global,
-    disk: &mut D,
-    journal: Option<Journal>,
-    heading: &Heading<'_>,
-    taking: &Taking,
-) -> Result<Journal, CommitFault>
-    requires lawful { IsCheckpoint newest (taken_checkpoint heading.now taking.now) }
-    requires short { IfSome journal IsShort }
-    requires savable { EachLeft D.meaning.images disk.old (IsSavable journal (keeping_of heading.now taking.now)) }
-    ensures put { IfOk result (λ next. EachLeft D.meaning.images disk.new (EndsWith next (taken_checkpoint heading.now taking.now))) }
-    ensures one { OnOk result (LeavesOne D.meaning.images disk.old → LeavesOne D.meaning.images disk.new) }
-    ensures next { IfOk result (IsNext journal (taken_checkpoint heading.now taking.now) (taken_change heading.now taking.now)) }
-    ensures not_worn { OnOk result (IsWorn journal → ⊥) }
-    ensures crash { Passes D.meaning.images (Puts journal (taken_checkpoint heading.now taking.now)) disk.old disk.new }
-    ensures early { DoneFewer 4 (D.meaning.done disk.old) (D.meaning.done disk.new) → Passes D.meaning.images (KeepsMemory journal) disk.old disk.new }
-    ensures worn { (sequence : ℕ) → result ≡ Err (CommitFault.Worn sequence) → (sequence ≡ last_number) × IsWorn journal }
-    ensures costs { Costs journal (taken_checkpoint heading.now taking.now) (taken_change heading.now taking.now).rows (D.meaning.written disk.old) (D.meaning.written disk.new) }
-    ensures cause { HasCommitCause result (D.meaning.faults disk.old) (D.meaning.faults disk.new) }
-    ensures terms { KeepsTerms D.meaning disk.old disk.new }
+// What was taken, as the next checkpoint and what of it is new or differs.
+fn next_of<'c>(heading: &Heading<'c>, taking: &'c Taking) -> Next<'c>
+    ensures checkpoint { checkpoint_of_parts result.checkpoint ≡ taken_checkpoint heading.now taking.now }
+    ensures change { change_of_next result ≡ taken_change heading.now taking.now }
 {
-    match journal {
-        Some(behind) => {
-            if needs_rewrite(behind, heading, taking) {
-                put_beside(alloc, disk, journal, heading, taking)
-            } else {
-                put_behind(alloc, disk, behind, heading, taking)
-            }
-        }
-        None => put_beside(alloc, disk, None, heading, taking),
-    }
-}
-
-// Puts what changed behind the checkpoint.
-fn put_behind<D: Disk>(
-    alloc: Global,
-    disk: &mut D,
-    journal: Journal,
-    heading: &Heading<'_>,
-    taking: &Taking,
-) -> Result<Journal, CommitFault>
-    requires lawful { IsCheckpoint newest (taken_checkpoint heading.now taking.now) }
-    requires short { IsShort journal }
-    requires newest { journal.version ≡ newest }
-    requires ends { journal.end ≤ 2 ^ 55 }
-    requires not_due { IsDue (Some journal) (taken_checkpoint heading.now taking.now) → ⊥ }
-    requires savable { EachLeft D.meaning.images disk.old (IsSavable (Some journal) (keeping_of heading.now taking.now)) }
-    ensures put { IfOk result (λ next. EachLeft D.meaning.images disk.new (EndsWith next (taken_checkpoint heading.now taking.now))) }
-    ensures one { OnOk result (LeavesOne D.meaning.images disk.old → LeavesOne D.meaning.images disk.new) }
-    ensures next { IfOk result (IsNext (Some journal) (taken_checkpoint heading.now taking.now) (taken_change heading.now taking.now)) }
-    ensures not_worn { OnOk result (IsWorn (Some journal) → ⊥) }
-    ensures crash { Passes D.meaning.images (Puts (Some journal) (taken_checkpoint heading.now taking.now)) disk.old disk.new }
-    ensures early { DoneFewer 4 (D.meaning.done disk.old) (D.meaning.done disk.new) → Passes D.meaning.images (KeepsMemory (Some journal)) disk.old disk.new }
-    ensures worn { (sequence : ℕ) → result ≡ Err (CommitFault.Worn sequence) → (sequence ≡ last_number) × IsWorn (Some journal) }
-    ensures costs { WrittenAtMost (cost_of_rows (taken_change heading.now taking.now).rows) (D.meaning.written disk.old) (D.meaning.written disk.new) }
-    ensures cause { HasCommitCause result (D.meaning.faults disk.old) (D.meaning.faults disk.new) }
-    ensures terms { KeepsTerms D.meaning disk.old disk.new }
-{
-    let change = change_parts(heading, taking);
-    journal.append(alloc, disk, &change)
-}
-
-// Puts a whole checkpoint into the slot that doesn't count.
-fn put_beside<D: Disk>(
-    alloc: Global,
-    disk: &mut D,
-    journal: Option<Journal>,
-    heading: &Heading<'_>,
-    taking: &Taking,
-) -> Result<Journal, CommitFault>
-    requires lawful { IsCheckpoint newest (taken_checkpoint heading.now taking.now) }
-    requires savable { EachLeft D.meaning.images disk.old (IsSavable journal (keeping_of heading.now taking.now)) }
-    requires due { IsDue journal (taken_checkpoint heading.now taking.now) }
-    ensures put { IfOk result (λ next. EachLeft D.meaning.images disk.new (EndsWith next (taken_checkpoint heading.now taking.now))) }
-    ensures one { OnOk result (LeavesOne D.meaning.images disk.old → LeavesOne D.meaning.images disk.new) }
-    ensures next { IfOk result (IsNext journal (taken_checkpoint heading.now taking.now) (taken_change heading.now taking.now)) }
-    ensures not_worn { OnOk result (IsWorn journal → ⊥) }
-    ensures crash { Passes D.meaning.images (Puts journal (taken_checkpoint heading.now taking.now)) disk.old disk.new }
-    ensures early { DoneFewer 4 (D.meaning.done disk.old) (D.meaning.done disk.new) → Passes D.meaning.images (KeepsMemory journal) disk.old disk.new }
-    ensures worn { (sequence : ℕ) → result ≡ Err (CommitFault.Worn sequence) → (sequence ≡ last_number) × IsWorn journal }
-    ensures costs { WrittenAtMost (length (checkpoint_spelling newest (taken_checkpoint heading.now taking.now)) + 18) (D.meaning.written disk.old) (D.meaning.written disk.new) }
-    ensures cause { HasCommitCause result (D.meaning.faults disk.old) (D.meaning.faults disk.new) }
-    ensures terms { KeepsTerms D.meaning disk.old disk.new }
-{
-    let checkpoint = checkpoint_parts(heading, taking);
-    rewrite(alloc, journal.as_ref(), disk, &checkpoint)
-}
-
-// Whether the whole checkpoint is to be written: its version is an older one, or the changes behind it have become longer
-// than twice what it would be now.
-fn needs_rewrite(journal: Journal, heading: &Heading<'_>, taking: &Taking) -> bool
-    requires lawful { IsCheckpoint newest (taken_checkpoint heading.now taking.now) }
-    requires short { IsShort journal }
-    ensures due { IsTrue result → IsDue (Some journal) (taken_checkpoint heading.now taking.now) }
-    ensures not_due { IsDue (Some journal) (taken_checkpoint heading.now taking.now) → IsTrue result }
-    ensures newest { result ≡ false → journal.version ≡ newest }
-    ensures ends { result ≡ false → journal.end ≤ 2 ^ 55 }
-{
-    if journal.version != NEWEST_VERSION {
-        return true;
-    }
-    let changes = journal.end.saturating_sub(17 + journal.slot.length);
-    changes > 2 * spelled_size(heading, taking) + SPARE
-}
-
-// How many bytes the whole checkpoint takes.
-fn spelled_size(heading: &Heading<'_>, taking: &Taking) -> u64
-    requires { IsCheckpoint newest (taken_checkpoint heading.now taking.now) }
-    ensures is { result ≡ length (checkpoint_spelling newest (taken_checkpoint heading.now taking.now)) }
-    ensures short { result ≤ 2 ^ 52 }
-{
-    checkpoint_size(&checkpoint_parts(heading, taking))
-}
-
-// The checkpoint of what was taken.
-fn checkpoint_parts<'c>(heading: &Heading<'c>, taking: &'c Taking) -> CheckpointParts<'c>
-    ensures { checkpoint_of_parts result ≡ taken_checkpoint heading.now taking.now }
-{
-    CheckpointParts {
-        eras: heading.eras,
-        output_length: taking.end,
-        observed: heading.observed,
-        next_id: taking.tracker.len() as u32 + 1,
-        rows: taking.tracker.as_slice(),
-    }
-}
-
-// What changed by what was taken.
-fn change_parts<'c>(heading: &Heading<'_>, taking: &'c Taking) -> ChangeParts<'c>
-    ensures { change_of_parts result ≡ taken_change heading.now taking.now }
-{
-    ChangeParts {
-        output_length: taking.end,
-        observed: heading.observed,
-        next_id: taking.tracker.len() as u32 + 1,
-        rows: taking.tracker.as_slice(),
+    Next {
+        checkpoint: CheckpointParts {
+            eras: heading.eras,
+            output_length: taking.end,
+            observed: heading.observed,
+            next_id: taking.tracker.len() as u32 + 1,
+            rows: taking.tracker.as_slice(),
+        },
         changed: taking.changed.as_slice(),
     }
 }

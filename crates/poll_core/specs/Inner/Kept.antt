@@ -1,5 +1,6 @@
 -- What keeping a pass makes of a disk.
 use Rattle.std.specs.Prelude.{◌≡◌, ◌⊎◌, ℕ, Option, Some}
+use Rattle.checkpoint_journal.specs.Next.{IsNext}
 use Rattle.checkpoint_journal.specs.Written.{IsWorn}
 use Rattle.checkpoint_journal.specs.declared.journal.Journal.{Journal}
 use Rattle.file_pass.specs.declared.taking.Taking.{Taking}
@@ -7,7 +8,7 @@ use Rattle.outside.specs.Images.{Images}
 use Rattle.outside.specs.declared.disk.DiskFile.{DiskFile}
 use Rattle.outside.specs.declared.disk.DiskFile.TheVariants.{Output}
 use Rattle.poll_core.specs.Inner.Begun.{IsQuiet}
-use Rattle.poll_core.specs.Next.{IsNext, IsSavedIn}
+use Rattle.poll_core.specs.Saves.{IsSavedIn}
 use Rattle.poll_core.specs.Taken.{Keeping}
 use Rattle.standing.specs.Pass.{time_of}
 use Rattle.slot_store.specs.Committed.{LeavesOne}

@@ -10,7 +10,7 @@ use Rattle.poll_core.proofs.PassLemmas.{cause_of_pass, cause_of_poll, full_of_pa
 use Rattle.poll_core.proofs.PollDisk.{stays_pass}
 use Rattle.poll_core.proofs.PollFull.{overflows_by}
 use Rattle.poll_core.proofs.PollRows.{later_by, poll_by, sane_rows, set_up, times_of}
-use Rattle.poll_core.proofs.PollWhole.{early, first_of, has_to_keep, lawful_own, may_gain, next_session, polled, savable_own, slots_after}
+use Rattle.poll_core.proofs.PollWhole.{early, first_of, has_to_keep, lawful_own, may_gain, next_session, polled, awaits_own, slots_after}
 use Rattle.poll_core.proofs.session.Session.poll_once.Goals as goal
 use Rattle.poll_core.specs.SessionParts.{poll_of_session}
 use Rattle.poll_core.specs.declared.poll_fault.PollFault.TheVariants.{OutputFull, Worn}
@@ -94,12 +94,12 @@ pub keep-requires-clause-short : goal.keep-requires-clause-short
 keep-requires-clause-short g c =
     c.requires.session.journal
 
-pub keep-requires-clause-savable : goal.keep-requires-clause-savable
-keep-requires-clause-savable g c =
+pub keep-requires-clause-awaits : goal.keep-requires-clause-awaits
+keep-requires-clause-awaits g c =
     let session = c.args.self in
     let same = poll_by session _ _ _ _ c.last_text.ensures (ap length c.as_slice.ensures) (first_of session.journal c.is_none.result c.is_none.ensures) c.stamp_of-stamp.ensures in
     let times = times_of session _ _ _ c.stamp_of-stamp.ensures c.kept_time.ensures in
-    savable_own (meanings g.T.Tree.meaning g.D.Disk.meaning) session c.requires.session c.requires.rules _ c.in_ok-walk.walk c.in_ok-walk.taking (moment c.args.tree.now c.args.disk.now) (moment c.pass.new.tree c.pass.new.disk) c.in_ok-walk.ensures.ok _ (set_up session _ _ c.requires.session same c.max.ensures (later_by session _ _ c.requires.session times)) times c.max.ensures c.requires.stands c.pass.ensures.disk
+    awaits_own (meanings g.T.Tree.meaning g.D.Disk.meaning) session c.requires.session c.requires.rules _ c.in_ok-walk.walk c.in_ok-walk.taking (moment c.args.tree.now c.args.disk.now) (moment c.pass.new.tree c.pass.new.disk) c.in_ok-walk.ensures.ok _ (set_up session _ _ c.requires.session same c.max.ensures (later_by session _ _ c.requires.session times)) times c.max.ensures c.requires.stands c.pass.ensures.disk
 
 pub keep-requires-clause-slots : goal.keep-requires-clause-slots
 keep-requires-clause-slots g c =
