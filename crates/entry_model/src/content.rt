@@ -1,33 +1,36 @@
 // Where the bytes of texts lie.
 ghost use Rattle.std.specs.Prelude.{◌≡◌, IfOk, string_bytes};
-ghost use Rattle.entry_model.specs.Content.{bytes_in};
+ghost use Rattle.entry_model.specs.Content.{bytes_in, bytes_counted};
 
+use crate::short::ShortText;
 use arrayvec::ArrayString;
 use std::alloc::{AllocError, Global};
 use std::rc::{Rc, RcStr};
 
-/// The most bytes that stand in the text itself. Names, numbers and times of RFC 3339 to the millisecond are no longer.
-const ROOM: usize = 24;
-
 /// The most bytes that stand beside their count, so that they take one allocation. A longer text takes two.
 const SHARED_ROOM: usize = 104;
 
+#[derive(Drop)]
 pub(crate) enum Content {
     /// In the text itself.
-    Short(ArrayString<ROOM>),
-    /// In one piece of memory that texts share.
+    Short(ShortText),
+    /// In memory that texts share.
+    Counted(Counted),
+}
+
+pub(crate) enum Counted {
+    /// In one piece, beside their count.
     Shared(Rc<ArrayString<SHARED_ROOM>>),
-    /// In memory of their own, which texts share.
+    /// In a piece of their own.
     Long(RcStr),
 }
 
 /// By hand, so that what drops a text goes by one call.
-impl Drop for Content {
+impl Drop for Counted {
     fn drop(self) {
         match self {
-            Content::Short(_text) => {}
-            Content::Shared(_text) => {}
-            Content::Long(_text) => {}
+            Counted::Shared(_text) => {}
+            Counted::Long(_text) => {}
         }
     }
 }
@@ -36,28 +39,19 @@ impl Content {
     pub(crate) fn from_str(alloc: Global, text: &str) -> Result<Content, AllocError>
         ensures { IfOk result (λ content. bytes_in content ≡ text.now) }
     {
-        match ArrayString::from(text) {
-            Ok(short) => Ok(Content::Short(short)),
-            Err(_) => Content::in_memory(alloc, text),
-        }
-    }
-
-    fn in_memory(alloc: Global, text: &str) -> Result<Content, AllocError>
-        ensures { IfOk result (λ content. bytes_in content ≡ text.now) }
-    {
-        match ArrayString::from(text) {
-            Ok(shared) => Ok(Content::Shared(Rc::new(alloc, shared)?)),
-            Err(_) => Ok(Content::Long(RcStr::from_str(alloc, text)?)),
+        match ShortText::from_str(text) {
+            Some(short) => Ok(Content::Short(short)),
+            None => Ok(Content::Counted(Counted::from_str(alloc, text)?)),
         }
     }
 
     pub(crate) fn from_string(text: String) -> Result<Content, AllocError>
         ensures { IfOk result (λ content. bytes_in content ≡ string_bytes text) }
     {
-        if let Ok(short) = ArrayString::from(text.as_str()) {
+        if let Some(short) = ShortText::from_str(text.as_str()) {
             return Ok(Content::Short(short));
         }
-        Ok(Content::Long(RcStr::from_string(text)?))
+        Ok(Content::Counted(Counted::Long(RcStr::from_string(text)?)))
     }
 
     pub(crate) fn share(&self) -> Result<Content, AllocError>
@@ -65,8 +59,7 @@ impl Content {
     {
         match self {
             Content::Short(text) => Ok(Content::Short(*text)),
-            Content::Shared(text) => Ok(Content::Shared(text.clone()?)),
-            Content::Long(text) => Ok(Content::Long(text.clone()?)),
+            Content::Counted(text) => Ok(Content::Counted(text.share()?)),
         }
     }
 
@@ -75,8 +68,36 @@ impl Content {
     {
         match self {
             Content::Short(text) => text.as_str(),
-            Content::Shared(text) => text.as_ref().as_str(),
-            Content::Long(text) => text.as_str(),
+            Content::Counted(text) => text.as_str(),
+        }
+    }
+}
+
+impl Counted {
+    fn from_str(alloc: Global, text: &str) -> Result<Counted, AllocError>
+        ensures { IfOk result (λ counted. bytes_counted counted ≡ text.now) }
+    {
+        match ArrayString::from(text) {
+            Ok(shared) => Ok(Counted::Shared(Rc::new(alloc, shared)?)),
+            Err(_) => Ok(Counted::Long(RcStr::from_str(alloc, text)?)),
+        }
+    }
+
+    fn share(&self) -> Result<Counted, AllocError>
+        ensures { IfOk result (λ counted. bytes_counted counted ≡ bytes_counted self.now) }
+    {
+        match self {
+            Counted::Shared(text) => Ok(Counted::Shared(text.clone()?)),
+            Counted::Long(text) => Ok(Counted::Long(text.clone()?)),
+        }
+    }
+
+    fn as_str(&self) -> &str
+        ensures { result.now ≡ bytes_counted self.now }
+    {
+        match self {
+            Counted::Shared(text) => text.as_ref().as_str(),
+            Counted::Long(text) => text.as_str(),
         }
     }
 }

@@ -11,6 +11,7 @@ mod copy;
 mod depth;
 mod entry;
 pub mod laws;
+mod short;
 mod text;
 mod value;
 

@@ -4,27 +4,27 @@ ghost use Rattle.std.specs.Ordering.{nat_cmp};
 ghost use Rattle.std.specs.Prelude.{◌≡◌, IfOk, IsTrue, ◌↔◌, [], length, string_bytes};
 
 use crate::content::Content;
+use crate::short::ShortText;
 use std::alloc::{AllocError, Global};
 use std::cmp::Ordering;
 use std::fmt;
 use std::marker::Model;
 
-/// A text in UTF-8. Texts are ordered by their bytes. One of at most 24 bytes takes no memory besides its own place. Longer
+/// A text in UTF-8. Texts are ordered by their bytes. One of at most 22 bytes takes no memory besides its own place. Longer
 /// ones that were shared have their bytes in one place of memory: a copy of at most 104 bytes is one allocation, and one of
 /// more is two.
 #[derive(Drop)]
 pub struct Text {
-    /// None stands for the empty text.
-    content: Option<Content>,
+    content: Content,
 }
 
 impl Model for Text {
     ghost use Rattle.std.specs.Prelude.{List, ℕ};
-    ghost use Rattle.entry_model.specs.Content.{bytes_of};
+    ghost use Rattle.entry_model.specs.Content.{bytes_in};
 
     ghost Value = { List ℕ };
 
-    ghost view = { λ text. bytes_of text.content };
+    ghost view = { λ text. bytes_in text.content };
 }
 
 impl Text {
@@ -32,28 +32,24 @@ impl Text {
     pub fn empty() -> Text
         ensures { result ≡ [] }
     {
-        Text { content: None }
+        Text {
+            content: Content::Short(ShortText::empty()),
+        }
     }
 
     pub fn new(content: String) -> Result<Text, AllocError>
         ensures { IfOk result (λ text. text ≡ string_bytes content) }
     {
-        if content.is_empty() {
-            return Ok(Text::empty());
-        }
         Ok(Text {
-            content: Some(Content::from_string(content)?),
+            content: Content::from_string(content)?,
         })
     }
 
     pub fn from_str(alloc: Global, content: &str) -> Result<Text, AllocError>
         ensures { IfOk result (λ text. text ≡ content.now) }
     {
-        if content.is_empty() {
-            return Ok(Text::empty());
-        }
         Ok(Text {
-            content: Some(Content::from_str(alloc, content)?),
+            content: Content::from_str(alloc, content)?,
         })
     }
 
@@ -62,21 +58,15 @@ impl Text {
     pub fn share(&self) -> Result<Text, AllocError>
         ensures { IfOk result (λ text. text ≡ self.now) }
     {
-        match &self.content {
-            None => Ok(Text::empty()),
-            Some(content) => Ok(Text {
-                content: Some(content.share()?),
-            }),
-        }
+        Ok(Text {
+            content: self.content.share()?,
+        })
     }
 
     pub fn as_str(&self) -> &str
         ensures { result.now ≡ self.now }
     {
-        match &self.content {
-            None => "",
-            Some(content) => content.as_str(),
-        }
+        self.content.as_str()
     }
 
     /// The number of bytes.
