@@ -1,4 +1,5 @@
 pub mod Appended
+pub mod Blocks
 pub mod Digits
 pub mod Escapes
 pub mod Members

@@ -12,7 +12,7 @@ use lib.Count.{count_trailing_zeros}
 use lib.Lanes.{chunk, mask_l, top}
 use Rattle.otlp_json.specs.Escaped.{needs_escape}
 
-abbrev plain : ℕ → Bool
+abbrev pub plain : ℕ → Bool
 plain byte = not (needs_escape byte)
 
 -- ---- the lanes of a look

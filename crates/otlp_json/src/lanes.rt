@@ -7,6 +7,7 @@ ghost use Rattle.otlp_json.specs.Escaped.{needs_escape};
 
 use std::simd::prelude::*;
 
+#[inline(always)]
 pub fn first_escape(text: &[u8]) -> Option<usize>
     ensures { result ≡ position needs_escape text.now }
 {
@@ -15,6 +16,7 @@ pub fn first_escape(text: &[u8]) -> Option<usize>
 }
 
 /// How many bytes in front stand for themselves.
+#[inline(always)]
 fn plain_length(text: &[u8]) -> usize
     ensures { result ≡ position_or_len needs_escape text.now }
 {
@@ -37,7 +39,7 @@ fn plain_length_of_few(text: &[u8]) -> usize
 }
 
 #[inline(always)]
-fn is_escaped(byte: u8) -> bool
+pub fn is_escaped(byte: u8) -> bool
     ensures { result ≡ needs_escape byte }
 {
     byte == b'"' || byte == b'\\' || byte < 0x20
@@ -95,6 +97,19 @@ fn plain_length_by_32(text: &[u8]) -> usize
         return last + found.trailing_zeros() as usize;
     }
     text.len()
+}
+
+/// How many of 16 bytes in front stand for themselves.
+#[inline(always)]
+pub fn plain_of_16(lanes: u8x16) -> usize
+    ensures run { result ≡ position_or_len needs_escape lanes }
+    ensures fits { result ≤ 16 }
+{
+    let found = escaped_of_16(lanes);
+    if found == 0 {
+        return 16;
+    }
+    found.trailing_zeros() as usize
 }
 
 // The lanes of bytes that are escaped, as the bits of a number.

@@ -13,6 +13,8 @@ ghost use Rattle.otlp_json.specs.HasFront.{HasFront};
 ghost use Rattle.otlp_json.specs.OutputLine.{output_line};
 ghost use Rattle.otlp_json.specs.Scope.{entry_text, scope_text, end_text};
 
+mod block;
+mod escape;
 pub mod integers;
 mod lanes;
 pub mod laws;

@@ -1,10 +1,11 @@
 // What stands between the quotes of a JSON string, and numbers.
-ghost use Rattle.std.specs.Prelude.{◌≡◌, ◌++◌, ◌<◌, OnOk, IsTrue, decimal};
+ghost use Rattle.std.specs.Prelude.{◌≡◌, ◌++◌, ◌<◌, ◌≤◌, IfOk, OnOk, IsTrue, Some, decimal, length, drop, position};
 ghost use Rattle.std.specs.Fmt.{signed_decimal};
-ghost use Rattle.std.specs.Char.{digit_char};
 ghost use Rattle.otlp_json.specs.Escaped.{needs_escape, escaped_byte, escaped};
 ghost use Rattle.otlp_json.specs.HasFront.{HasFront};
 
+use crate::block::{BLOCK, escape_block};
+use crate::escape::{escape_letter, long_escape};
 use crate::lanes::first_escape;
 use itoa::Buffer;
 use std::alloc::AllocError;
@@ -25,52 +26,79 @@ pub fn append_integer(number: i64, out: &mut Vec<u8>) -> Result<(), AllocError>
     out.extend_from_slice(buffer.format(number).as_bytes())
 }
 
-/// Copies each run of bytes that stand for themselves at once.
+/// Copies a text that stands for itself at once.
 pub fn append_escaped(text: &[u8], out: &mut Vec<u8>) -> Result<(), AllocError>
     ensures ok { OnOk result (out.new.items ≡ out.old.items ++ escaped text.now) }
     ensures front { HasFront out.old.items out.new.items }
 {
-    let mut rest = text;
-    while let Some(at) = first_escape(rest) {
-        out.extend_from_slice(&rest[..at])?;
-        append_escape(rest[at], out)?;
-        rest = &rest[at + 1..];
+    match first_escape(text) {
+        None => out.extend_from_slice(text),
+        Some(first) => append_escapes(text, first, out),
     }
-    out.extend_from_slice(rest)
 }
 
-#[tactic(auto, unfolding(crate::specs::Escaped::escaped_byte))]
+// `first` is where the first byte stands that is escaped.
+#[inline(never)]
+fn append_escapes(text: &[u8], first: usize, out: &mut Vec<u8>) -> Result<(), AllocError>
+    requires { position needs_escape text.now ≡ Some first }
+    ensures ok { OnOk result (out.new.items ≡ out.old.items ++ escaped text.now) }
+    ensures front { HasFront out.old.items out.new.items }
+{
+    let mut rest = &text[append_first(text, first, out)?..];
+    while let Some(at) = first_escape(rest) {
+        rest = &rest[append_first(rest, at, out)?..];
+    }
+    append_run(rest, out)
+}
+
+// Escapes bytes in front of the text, the one at `first` too, and answers how many.
+#[inline(always)]
+fn append_first(text: &[u8], first: usize, out: &mut Vec<u8>) -> Result<usize, AllocError>
+    requires { position needs_escape text.now ≡ Some first }
+    ensures ok { IfOk result (λ taken. (0 < taken) × (taken ≤ length text.now)
+        × (out.new.items ++ escaped (drop taken text.now) ≡ out.old.items ++ escaped text.now)) }
+    ensures front { HasFront out.old.items out.new.items }
+{
+    if first < 16 {
+        return append_block(text, out);
+    }
+    out.extend_from_slice(&text[..first])?;
+    append_escape(text[first], out)?;
+    Ok(first + 1)
+}
+
+#[inline(always)]
+fn append_block(text: &[u8], out: &mut Vec<u8>) -> Result<usize, AllocError>
+    requires { 0 < length text.now }
+    ensures ok { IfOk result (λ taken. (0 < taken) × (taken ≤ length text.now)
+        × (out.new.items ++ escaped (drop taken text.now) ≡ out.old.items ++ escaped text.now)) }
+    ensures front { HasFront out.old.items out.new.items }
+{
+    let mut block = [0; BLOCK];
+    let (taken, made) = escape_block(text, &mut block);
+    out.extend_from_slice(&block[..made])?;
+    Ok(taken)
+}
+
+#[inline(always)]
 fn append_escape(byte: u8, out: &mut Vec<u8>) -> Result<(), AllocError>
     requires { IsTrue (needs_escape byte) }
     ensures ok { OnOk result (out.new.items ≡ out.old.items ++ escaped_byte byte) }
     ensures front { HasFront out.old.items out.new.items }
 {
-    match byte {
-        b'"' => out.extend_from_slice(b"\\\""),
-        b'\\' => out.extend_from_slice(b"\\\\"),
-        0x08 => out.extend_from_slice(b"\\b"),
-        0x0c => out.extend_from_slice(b"\\f"),
-        b'\n' => out.extend_from_slice(b"\\n"),
-        b'\r' => out.extend_from_slice(b"\\r"),
-        b'\t' => out.extend_from_slice(b"\\t"),
-        _ => out.extend_from_slice(&[
-            b'\\',
-            b'u',
-            b'0',
-            b'0',
-            hex_digit(byte / 16),
-            hex_digit(byte % 16),
-        ]),
+    match escape_letter(byte) {
+        Some(letter) => out.extend_from_slice(&[b'\\', letter]),
+        None => out.extend_from_slice(&long_escape(byte)),
     }
 }
 
-fn hex_digit(digit: u8) -> u8
-    requires { digit < 16 }
-    ensures { result ≡ digit_char digit }
+// Appending nothing costs as much as appending a byte.
+fn append_run(run: &[u8], out: &mut Vec<u8>) -> Result<(), AllocError>
+    ensures ok { OnOk result (out.new.items ≡ out.old.items ++ run.now) }
+    ensures front { HasFront out.old.items out.new.items }
 {
-    if digit < 10 {
-        b'0' + digit
-    } else {
-        b'a' - 10 + digit
+    if run.is_empty() {
+        return Ok(());
     }
+    out.extend_from_slice(run)
 }
