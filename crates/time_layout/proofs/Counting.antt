@@ -1,8 +1,7 @@
 -- Numbers of few digits, and names that a text begins with.
 use Rattle.std.proofs.Common.{◌≡◌, ◌+◌, ◌-◌, ◌*◌, ◌^◌, ◌<◌, ◌≤◌, ◌∙◌, ap, ℕ, List, [], ◌∷◌, refl, length, fold, take, drop, get_or, false, arith}
-use Rattle.std.proofs.Math.Nat.{pow-le-pow_right, mul_assoc}
+use Rattle.std.proofs.Math.Nat.{pow-le-pow_right}
 use Rattle.std.proofs.lemmas.List.{drop_all, take-append-drop}
-use Rattle.std.proofs.lemmas.Grind.{common_steps}
 use Rattle.std.proofs.lemmas.List.Sums.{common_prefix_len-drop_no, fold_more, fold-append}
 use Rattle.std.specs.Char.{eq_ignore_ascii_case}
 use Rattle.time_layout.specs.Atoms.{common_fold, value_of}
@@ -11,15 +10,6 @@ use Rattle.time_layout.specs.Atoms.{common_fold, value_of}
 pub room : (value count : ℕ) → value < 10 ^ count → count ≤ 8 → value < 100_000_000
 room value count small few =
     let most : 10 ^ count ≤ 10 ^ 8 = pow-le-pow_right (omega arith) few in omega arith
-
-pub one_more : (count : ℕ) → 10 ^ (count + 1) ≡ 10 ^ count * 10
-one_more count = grind (arith, common_steps)
-
--- one digit 0 more behind a number
-pub scale_more : (scaled value digits at : ℕ) → digits ≤ at → scaled ≡ value * 10 ^ (at - digits) → scaled * 10 ≡ value * 10 ^ (at + 1 - digits)
-scale_more scaled value digits at within is =
-    let e : at + 1 - digits ≡ at - digits + 1 = omega arith in
-    rw (e, one_more) (ap (λ n. n * 10) is ∙ mul_assoc value (10 ^ (at - digits)) 10)
 
 -- the name and the text part at this place
 pub parts_here : (name text : List ℕ) (at : ℕ) → common_fold name text ≡ at + common_fold (drop at name) (drop at text)

@@ -18,6 +18,7 @@ pub mod Instants
 pub mod Layouts
 pub mod Letters
 pub mod Numbers
+pub mod PlainTimes
 pub mod Prints
 pub mod SoundForms
 pub mod SoundParts

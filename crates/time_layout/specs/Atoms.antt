@@ -1,6 +1,6 @@
 -- Numbers, names and zones that stand in a text at a place: what they are and the place behind them, or the first place
 -- at which there is none.
-use Rattle.std.specs.Prelude.{ℕ, ◌+◌, ◌-◌, ◌*◌, ◌^◌, max, List, [], ◌∷◌, length, take, drop, fold, slice_index, codes, Bool, ◌==◌, ◌&&◌, nat_lt, nat_le, if◌then◌else◌, ℤ, pos, neg_ℤ, Option, Some, None, Result, Ok, Err}
+use Rattle.std.specs.Prelude.{◌≡◌, ℕ, ◌+◌, ◌-◌, ◌*◌, ◌^◌, max, List, [], ◌∷◌, length, take, drop, fold, slice_index, codes, Bool, true, ◌==◌, ◌&&◌, nat_lt, nat_le, if◌then◌else◌, ℤ, pos, neg_ℤ, Option, Some, None, Result, Ok, Err}
 use Rattle.std.specs.Char.{is_ascii_digit, eq_ignore_ascii_case}
 use Rattle.std.specs.List.{prefix_len, common_prefix_len}
 use Rattle.std.specs.Str.{str_eq_ignore_ascii_case}
@@ -42,6 +42,12 @@ number digits low high text at =
     if may_lie (digits - count) low high value then
     (if nat_lt count digits then Err (Mismatch (at + count)) else Ok (value, at + digits))
     else Err (Mismatch at)
+
+-- two digits stand there, and spell this number
+pub record IsPair (text : List ℕ) (at value : ℕ) : Type 0 where
+  pub tens : is_ascii_digit (slice_index text at) ≡ true
+  pub ones : is_ascii_digit (slice_index text (at + 1)) ≡ true
+  pub value_is : value ≡ (slice_index text at - 48) * 10 + (slice_index text (at + 1) - 48)
 
 -- one or more digits of a second's fraction, as many as stand there up to the most, in nanoseconds
 unfoldable pub fraction : ℕ → List ℕ → ℕ → Reading ℕ

@@ -1,10 +1,10 @@
 // Numbers, names and zones at a place of a text.
-ghost use Rattle.std.specs.Prelude.{◌≡◌, ◌<◌, ◌≤◌, ◌-◌, ◌*◌, ◌^◌, ℕ, min, length, take, drop, IfOk, IfSome, OnSome};
+ghost use Rattle.std.specs.Prelude.{◌≡◌, ◌<◌, ◌≤◌, ◌+◌, ◌-◌, ◌*◌, ◌^◌, ℕ, min, length, take, drop, IfOk, IfSome, OnSome, Ok};
 ghost use Rattle.std.specs.Bool.{OnTrue};
 ghost use Rattle.std.specs.Char.{is_ascii_digit};
 ghost use Rattle.std.specs.List.{prefix_len};
 ghost use Rattle.case_table.specs.Rows.{table_of};
-ghost use Rattle.time_layout.specs.Atoms.{value_of, stands, may_lie, number, fraction, optional_fraction, fixed_fraction, fraction_point, unpadded, padded_day, name_at, full_name_at, code_at, begins_with, begun, reach, common_fold, signed, zone, offset, minutes_behind, letters, zone_name};
+ghost use Rattle.time_layout.specs.Atoms.{value_of, stands, may_lie, IsPair, number, fraction, optional_fraction, fixed_fraction, fraction_point, unpadded, padded_day, name_at, full_name_at, code_at, begins_with, begun, reach, common_fold, signed, zone, offset, minutes_behind, letters, zone_name};
 
 use crate::TimeFault;
 use crate::parts::Colon;
@@ -45,6 +45,51 @@ pub(crate) fn read_number(
         return Err(TimeFault::Mismatch { at: at + count });
     }
     Ok((value, at + digits))
+}
+
+/// The same for two digits, which nearly always are such a number.
+#[inline(always)]
+fn read_pair(low: u8, high: u8, text: &[u8], at: usize) -> Reading<u32>
+    requires { at ≤ length text.now }
+    ensures is { result ≡ number 2 low high text.now at }
+    ensures within { IfOk result (λ read. read.1 ≤ length text.now) }
+    ensures bounded { IfOk result (λ read. read.0 ≤ high) }
+{
+    if at + 1 < text.len() {
+        if let Some(value) = number_at(low, high, text, at) {
+            return Ok((u32::from(value), at + 2));
+        }
+    }
+    read_number(2, u32::from(low), u32::from(high), text, at)
+}
+
+/// Two digits whose number lies within the bounds.
+#[inline(always)]
+pub(crate) fn number_at(low: u8, high: u8, text: &[u8], at: usize) -> Option<u8>
+    requires { at + 1 < length text.now }
+    ensures is { IfSome result (λ value. number 2 low high text.now at ≡ Ok (value, at + 2)) }
+    ensures bounded { IfSome result (λ value. value ≤ high) }
+{
+    let value = pair_at(text, at)?;
+    if value < low || high < value {
+        return None;
+    }
+    Some(value)
+}
+
+/// The number that two digits spell.
+#[inline(always)]
+pub(crate) fn pair_at(text: &[u8], at: usize) -> Option<u8>
+    requires { at + 1 < length text.now }
+    ensures is { IfSome result (IsPair text.now at) }
+    ensures bounded { IfSome result (λ value. value ≤ 99) }
+{
+    let tens = text[at];
+    let ones = text[at + 1];
+    if !tens.is_ascii_digit() || !ones.is_ascii_digit() {
+        return None;
+    }
+    Some((tens - b'0') * 10 + (ones - b'0'))
 }
 
 /// Whether digits of this value, with so many more behind them, can spell a number within the bounds.
@@ -244,7 +289,7 @@ fn read_offset(colon: Colon, text: &[u8], at: usize) -> Reading<u32>
     ensures within { IfOk result (λ read. read.1 ≤ length text.now) }
     ensures bounded { IfOk result (λ read. read.0 < 86400) }
 {
-    let (hours, behind) = read_number(2, 0, 23, text, at)?;
+    let (hours, behind) = read_pair(0, 23, text, at)?;
     let (minutes, next) = read_minutes(colon, text, behind)?;
     Ok((hours * 3600 + minutes * 60, next))
 }
@@ -257,10 +302,10 @@ fn read_minutes(colon: Colon, text: &[u8], at: usize) -> Reading<u32>
     ensures bounded { IfOk result (λ read. read.0 ≤ 59) }
 {
     if colon.may_stand() && stands(b':', text, at) {
-        return read_number(2, 0, 59, text, at + 1);
+        return read_pair(0, 59, text, at + 1);
     }
     match colon {
-        Colon::Optional | Colon::Missing => read_number(2, 0, 59, text, at),
+        Colon::Optional | Colon::Missing => read_pair(0, 59, text, at),
         Colon::Required => Err(TimeFault::Mismatch { at }),
     }
 }
@@ -330,11 +375,18 @@ fn scaled(value: u32, digits: usize) -> u32
     ensures is { result ≡ value * 10 ^ (9 - digits) }
     ensures bounded { result < 10 ^ 9 }
 {
-    let mut scaled = value;
-    for _digit in digits..9 {
-        scaled *= 10;
+    match digits {
+        0 => value * 1_000_000_000,
+        1 => value * 100_000_000,
+        2 => value * 10_000_000,
+        3 => value * 1_000_000,
+        4 => value * 100_000,
+        5 => value * 10_000,
+        6 => value * 1_000,
+        7 => value * 100,
+        8 => value * 10,
+        _ => value,
     }
-    scaled
 }
 
 /// How many bytes of the text a name of the rows begins with at most, with the case of letters ignored.
