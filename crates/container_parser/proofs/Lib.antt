@@ -1,5 +1,6 @@
 pub mod Splits
 pub mod Words
+pub mod Spaces
 pub mod Streams
 pub mod Contents
 pub mod CriLaws
@@ -10,4 +11,5 @@ pub mod Ends
 pub mod Options
 pub mod LinesRead
 pub mod PodsTold
+pub mod Resources
 pub mod TimeForms

@@ -1,9 +1,11 @@
 -- The stream that a text names.
 use Rattle.std.proofs.Common.{◌≡◌, ◌≢◌, ℕ, suc, ◌+◌, ◌<◌, ◌≤◌, max, List, [], ◌∷◌, ◌++◌, length, take, drop, get_or, ap, ap₂, sym, refl, subst, ◌∙◌, false, not, ◌==◌, ◌⊎◌, inl, inr, append_assoc, length-append, arith}
 use Rattle.std.proofs.lemmas.Bool.{cases_lt}
-use Rattle.std.proofs.lemmas.List.{get_or_default, take_all, get_or-take, get_or_append_left, length-take-le, same_lists, take-append-drop}
+use Rattle.std.proofs.lemmas.List.{get_or_default, take_all, get_or-take, get_or_at, get_or_append_left, length-take-le, same_lists, take-append-drop}
 use Rattle.std.proofs.Math.Seq.{take-append-add}
+use Rattle.std.proofs.lemmas.Str.{IsCharBoundary-after_ascii}
 use Rattle.std.specs.List.{after_first}
+use Rattle.std.specs.Str.{IsUtf8, IsCharBoundary}
 use Rattle.std.specs.Prelude.{codes}
 use Rattle.json_text.specs.Leftmost.{Begins, IsLeftmostFault}
 use Rattle.container_parser.specs.Inner.Common.{IsCommon}
@@ -141,6 +143,25 @@ out_is text bytes n e c whole =
 pub err_is : (text bytes : List ℕ) (n : ℕ) → bytes ≡ text → IsCommon err_word bytes n → n ≡ 7 → text ≡ codes "stderr" ++ 32 ∷ after_first is_space text
 err_is text bytes n e c whole =
     err_found text (subst (λ (t : List ℕ). IsCommon err_word t 7) e (subst (λ (k : ℕ). IsCommon err_word bytes k) whole c))
+
+-- the sixth byte is the space
+cut : (text stream rest : List ℕ) → IsUtf8 text → length stream ≡ 6 → text ≡ stream ++ 32 ∷ rest → IsCharBoundary text 7
+cut text stream rest utf8 six e =
+    let space : get_or text 6 0 ≡ 32 = ap (λ (t : List ℕ). get_or t 6 0) e ∙ get_or_at stream 32 rest 0 6 six in
+    let size : length text ≡ 6 + suc (length rest) = ap length e ∙ length-append stream (32 ∷ rest) ∙ ap (λ (n : ℕ). n + suc (length rest)) six in
+    IsCharBoundary-after_ascii text 6 utf8 (omega arith) (omega arith)
+
+pub out_cut : (text bytes : List ℕ) (n : ℕ) → IsUtf8 text → bytes ≡ text → IsCommon out_word bytes n → n ≡ 7 → IsCharBoundary text 7
+out_cut text bytes n utf8 e c whole = cut text (codes "stdout") (after_first is_space text) utf8 refl (out_is text bytes n e c whole)
+
+pub err_cut : (text bytes : List ℕ) (n : ℕ) → IsUtf8 text → bytes ≡ text → IsCommon err_word bytes n → n ≡ 7 → IsCharBoundary text 7
+err_cut text bytes n utf8 e c whole = cut text (codes "stderr") (after_first is_space text) utf8 refl (err_is text bytes n e c whole)
+
+pub out_behind : (text bytes : List ℕ) (n : ℕ) → bytes ≡ text → IsCommon out_word bytes n → n ≡ 7 → drop 7 text ≡ after_first is_space text
+out_behind text bytes n e c whole = ap (drop 7) (out_is text bytes n e c whole)
+
+pub err_behind : (text bytes : List ℕ) (n : ℕ) → bytes ≡ text → IsCommon err_word bytes n → n ≡ 7 → drop 7 text ≡ after_first is_space text
+err_behind text bytes n e c whole = ap (drop 7) (err_is text bytes n e c whole)
 
 pub neither_is : (text bytes : List ℕ) (n m k : ℕ) → bytes ≡ text → IsCommon out_word bytes n → IsCommon err_word bytes m → n ≢ 7 → m ≢ 7 → k ≡ max n m
     → IsLeftmostFault IsSaid text k

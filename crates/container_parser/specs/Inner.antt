@@ -1,2 +1,3 @@
 -- What only contracts within the crate cite.
+pub mod Asked
 pub mod Common

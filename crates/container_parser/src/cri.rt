@@ -6,7 +6,7 @@ ghost use Rattle.container_parser.specs.Lines.{IsLine, IsCriFaultOf};
 ghost use Rattle.container_parser.specs.Times.{IsTime, place_of};
 ghost use Rattle.container_parser.specs.declared.format.Format.TheVariants.{Crio};
 
-use crate::split::{behind_word, first_word};
+use crate::split::at_space;
 use crate::stream::stream_of;
 use crate::tag::{tag_fault, tagged_partial};
 use crate::{ContainerFault, ContainerLine};
@@ -26,7 +26,7 @@ pub fn cri_line(alloc: Global, line: &str) -> Result<ContainerLine, ContainerFau
     ensures ok { IfOk result (λ read. IsLine Crio line.now read) }
     ensures fault { IfErr result (IsCriFaultOf line.now) }
 {
-    let word = first_word(line);
+    let (word, behind) = at_space(line);
     let timestamp = match rfc3339(word, 9) {
         Ok(timestamp) => timestamp,
         Err(fault) => return Err(ContainerFault::NotCri {
@@ -36,7 +36,7 @@ pub fn cri_line(alloc: Global, line: &str) -> Result<ContainerLine, ContainerFau
     if word.len() == line.len() {
         return Err(ContainerFault::NotCri { at: line.len() });
     }
-    match said_of(behind_word(line)) {
+    match said_of(behind) {
         Ok(said) => Ok(line_of(alloc, timestamp, said)?),
         Err(at) => Err(ContainerFault::NotCri {
             at: word.len() + 1 + at,
@@ -71,11 +71,11 @@ fn said_of(text: &str) -> Result<Said, usize>
     ensures ok { IfOk result (λ said. IsSaid text.now (record { stream = said.stream.now; content = record { partial = said.partial; text = said.text.now } })) }
     ensures fault { IfErr result (IsLeftmostFault IsSaid text.now) }
 {
-    let stream = match stream_of(text) {
-        Ok(stream) => stream,
+    let (stream, behind) = match stream_of(text) {
+        Ok(parts) => parts,
         Err(at) => return Err(at),
     };
-    match content_of(behind_word(text)) {
+    match content_of(behind) {
         Ok((partial, content)) => Ok(Said {
             stream,
             partial,
@@ -91,8 +91,9 @@ fn content_of(text: &str) -> Result<(bool, &str), usize>
     ensures ok { IfOk result (λ content. IsContent text.now (record { partial = content.0; text = content.1.now })) }
     ensures fault { IfErr result (IsLeftmostFault IsContent text.now) }
 {
-    match tagged_partial(first_word(text)) {
-        Some(partial) => Ok((partial, behind_word(text))),
+    let (tag, behind) = at_space(text);
+    match tagged_partial(tag) {
+        Some(partial) => Ok((partial, behind)),
         None => Err(tag_fault(text)),
     }
 }

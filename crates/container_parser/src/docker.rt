@@ -95,7 +95,7 @@ fn value_of<'m>(members: &'m Fields, name: &Text) -> Option<&'m Value>
     members.get(name)
 }
 
-fn text_in(value: &Value) -> Option<&Text>
+pub fn text_in(value: &Value) -> Option<&Text>
     ensures { option_map (λ text. text.now) result ≡ text_in (datum value.now) }
 {
     match value {

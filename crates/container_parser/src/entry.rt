@@ -9,8 +9,10 @@ ghost use Rattle.entry_model.specs.Datum.{datum, fields, is_map};
 ghost use Rattle.entry_model.specs.LogRecord.{log_record, members_in};
 ghost use Rattle.field_paths.specs.MapOf.{members_seen};
 ghost use Rattle.field_paths.specs.Members.{with_member, member_at};
+ghost use Rattle.container_parser.specs.Inner.Asked.{pod_asked_in};
 ghost use Rattle.container_parser.specs.Told as told;
 
+use crate::docker::text_in;
 use crate::line::ContainerLine;
 use crate::pod::Pod;
 use crate::pods::Pods;
@@ -42,9 +44,9 @@ impl Pods {
     ) -> Result<Entry, AllocError>
         ensures { IfOk result (λ made. log_record made ≡ told.told_by by_path line (log_record entry)) }
     {
-        let pod = self.pod_asked(alloc, by_path, &entry)?;
-        let attributes = with_text(alloc, entry.attributes, "log.iostream", line.stream)?;
-        let resource = with_pod(alloc, entry.resource, pod)?;
+        let attributes = entry.attributes;
+        let resource = self.resource_told(alloc, by_path, &attributes, entry.resource)?;
+        let attributes = with_text(alloc, attributes, "log.iostream", line.stream)?;
         Ok(Entry {
             body: Value::Text(line.text),
             attributes,
@@ -55,32 +57,34 @@ impl Pods {
         })
     }
 
-    fn pod_asked(
+    /// The resource with the pod that the path of the file tells of, where that is asked for.
+    fn resource_told(
         &self,
         alloc: Global,
         by_path: bool,
-        entry: &Entry,
-    ) -> Result<Option<Pod>, AllocError>
-        ensures { IfOk result (λ pod. pod ≡ told.pod_asked by_path (log_record entry.now)) }
+        attributes: &Value,
+        resource: Value,
+    ) -> Result<Value, AllocError>
+        requires { IsTrue (is_map resource) }
+        ensures { IfOk result (λ value. datum value ≡ fields (told.with_pod (pod_asked_in by_path (members_in (datum attributes.now))) (members_in (datum resource)))) }
     {
         if !by_path {
-            return Ok(None);
+            return Ok(resource);
         }
-        match path_of(alloc, &entry.attributes)? {
-            Some(path) => self.pod_of(alloc, &path),
-            None => Ok(None),
+        match path_of(attributes, &self.path_name) {
+            Some(path) => self.put_pod_of(alloc, path, resource),
+            None => Ok(resource),
         }
     }
 }
 
-/// The path of the file, where the attributes have it.
-fn path_of(alloc: Global, attributes: &Value) -> Result<Option<Text>, AllocError>
-    ensures { IfOk result (λ path. path ≡ option_and_then text_in (member_at (codes "log.file.path") (members_in (datum attributes.now)))) }
+/// The path of the file, where the attributes have it at this name.
+fn path_of<'v>(attributes: &'v Value, name: &Text) -> Option<&'v Text>
+    ensures { option_map (λ path. path.now) result ≡ option_and_then text_in (member_at name.now (members_in (datum attributes.now))) }
 {
-    let name = Text::from_str(alloc, "log.file.path")?;
-    match member_of(attributes, &name) {
+    match member_of(attributes, name) {
         Some(value) => text_in(value),
-        None => Ok(None),
+        None => None,
     }
 }
 
@@ -93,16 +97,8 @@ fn member_of<'v>(map: &'v Value, name: &Text) -> Option<&'v Value>
     members.get(name)
 }
 
-fn text_in(value: &Value) -> Result<Option<Text>, AllocError>
-    ensures { IfOk result (λ found. found ≡ text_in (datum value.now)) }
-{
-    match value {
-        Value::Text(text) => Ok(Some(text.share()?)),
-        Value::Null | Value::Bool(_) | Value::Int(_) | Value::List(_) | Value::Map(_) => Ok(None),
-    }
-}
-
-fn with_pod(alloc: Global, resource: Value, pod: Option<Pod>) -> Result<Value, AllocError>
+/// The map with the pod.
+pub(crate) fn put_pod(alloc: Global, resource: Value, pod: Option<Pod>) -> Result<Value, AllocError>
     requires { IsTrue (is_map resource) }
     ensures { IfOk result (λ value. datum value ≡ fields (told.with_pod pod (members_in (datum resource)))) }
 {

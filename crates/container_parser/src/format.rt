@@ -2,7 +2,7 @@
 ghost use Rattle.std.specs.Prelude.{◌≡◌};
 ghost use Rattle.container_parser.specs.Formats.{format_of};
 
-use crate::split::first_word;
+use crate::split::at_space;
 
 /// Who wrote a line.
 #[derive(Clone, Copy, Debug, PartialEq, Eq)]
@@ -24,7 +24,8 @@ pub fn detect(text: &str) -> Format
     if text.starts_with('{') {
         return Format::Docker;
     }
-    if first_word(text).ends_with('Z') {
+    let (word, _) = at_space(text);
+    if word.ends_with('Z') {
         Format::Containerd
     } else {
         Format::Crio

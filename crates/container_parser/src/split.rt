@@ -4,23 +4,16 @@ ghost use Rattle.std.specs.List.{before_first, after_first};
 ghost use Rattle.container_parser.specs.Pods.{IsFront, IsComponent};
 ghost use Rattle.container_parser.specs.Words.{is_space, Lacks};
 
-/// What stands before the first space, or all of it where there is none.
-pub fn first_word(text: &str) -> &str
-    ensures { result.now ≡ before_first is_space text.now }
-{
-    match text.split_once(' ') {
-        Some((word, _)) => word,
-        None => text,
-    }
-}
+use memchr::memchr;
 
-/// What stands behind the first space, or nothing where there is none.
-pub fn behind_word(text: &str) -> &str
-    ensures { result.now ≡ after_first is_space text.now }
+/// What stands before the first space, and what stands behind it: all of the text and nothing where there is none.
+pub fn at_space(text: &str) -> (&str, &str)
+    ensures word { result.0.now ≡ before_first is_space text.now }
+    ensures behind { result.1.now ≡ after_first is_space text.now }
 {
-    match text.split_once(' ') {
-        Some((_, rest)) => rest,
-        None => "",
+    match memchr(b' ', text.as_bytes()) {
+        Some(at) => (&text[..at], &text[at + 1..]),
+        None => (text, ""),
     }
 }
 

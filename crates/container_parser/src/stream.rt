@@ -6,20 +6,21 @@ ghost use Rattle.container_parser.specs.Inner.Common.{IsCommon};
 ghost use Rattle.container_parser.specs.CriLines.{IsStream, IsSaid};
 ghost use Rattle.container_parser.specs.Words.{is_space};
 
-/// The stream that the text names, with a space behind it, or the first byte from which the text can't go on.
-pub fn stream_of(text: &str) -> Result<&'static str, usize>
-    ensures stream { IfOk result (λ stream. IsStream stream.now) }
-    ensures ok { IfOk result (λ stream. text.now ≡ stream.now ++ 32 ∷ after_first is_space text.now) }
+/// The stream that the text names, and what stands behind it and a space; or the first byte from which the text can't go on.
+pub fn stream_of(text: &str) -> Result<(&'static str, &str), usize>
+    ensures stream { IfOk result (λ parts. IsStream parts.0.now) }
+    ensures ok { IfOk result (λ parts. text.now ≡ parts.0.now ++ 32 ∷ after_first is_space text.now) }
+    ensures behind { IfOk result (λ parts. parts.1.now ≡ after_first is_space text.now) }
     ensures fault { IfErr result (IsLeftmostFault IsSaid text.now) }
 {
     let bytes = text.as_bytes();
     let out = common(b"stdout ", bytes);
     if out == 7 {
-        return Ok("stdout");
+        return Ok(("stdout", &text[7..]));
     }
     let err = common(b"stderr ", bytes);
     if err == 7 {
-        return Ok("stderr");
+        return Ok(("stderr", &text[7..]));
     }
     Err(out.max(err))
 }

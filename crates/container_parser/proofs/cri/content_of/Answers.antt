@@ -8,5 +8,5 @@ use Rattle.container_parser.proofs.cri.content_of.Goals as goal
 
 pub returns-in-None-clause-fault : goal.returns-in-None-clause-fault
 returns-in-None-clause-fault c =
-    let none : tagged_partial (before_first is_space c.args.text.now) ≡ None = ap tagged_partial (sym c.first_word.ensures) ∙ sym c.tagged_partial.ensures ∙ c.in-None.is in
+    let none : tagged_partial (before_first is_space c.args.text.now) ≡ None = ap tagged_partial (sym c.at_space.ensures.word) ∙ sym c.tagged_partial.ensures ∙ c.in-None.is in
     subst (λ (n : ℕ). IsLeftmostFault IsContent c.args.text.now n) (sym c.tag_fault.ensures) (content_fault c.args.text.now none)

@@ -3,5 +3,5 @@ use Rattle.container_parser.proofs.cri.said_of.Goals as goal
 
 pub returns-in-Err-content_of-clause-fault : goal.returns-in-Err-content_of-clause-fault
 returns-in-Err-content_of-clause-fault c =
-    fault_behind_is c.args.text.now c.in-Ok.stream.now c.behind_word.result.now c.in-Err-content_of.at c.in-Ok.ensures.stream c.in-Ok.ensures.ok
-    c.behind_word.ensures c.in-Err-content_of.ensures.fault
+    fault_behind_is c.args.text.now c.in-Ok.parts.0.now c.in-Ok.parts.1.now c.in-Err-content_of.at c.in-Ok.ensures.stream c.in-Ok.ensures.ok
+    c.in-Ok.ensures.behind c.in-Err-content_of.ensures.fault
