@@ -23,8 +23,8 @@ use crate::setup::Setup;
 use entry_model::Text;
 use idle_flush::Idle;
 use outside::{Disk, Tree};
-use pipeline::FileState;
 use pipeline::laws::{a_pipeline_is_rules, a_row_is_fed_by_the_rules, a_row_tells_its_state};
+use pipeline::{FileState, LogFile, Piece};
 use std::alloc::AllocError;
 
 /// The most bytes past its offset that are taken of a file in one pass: 16 MiB.
@@ -203,17 +203,20 @@ fn feed_bytes(
 {
     a_pipeline_is_rules(setup.pipeline);
     a_row_is_fed_by_the_rules(setup.pipeline);
-    let path = feeding.path.as_str();
-    let count = setup.pipeline.feed_behind(
-        setup.alloc,
-        &mut feeding.state,
-        feeding.id,
-        path,
-        setup.observed,
-        &feeding.carried,
-        &mut feeding.searched,
-        lines,
-    )?;
-    feeding.offset += count as u64;
-    Ok(count)
+    let file = LogFile {
+        id: feeding.id,
+        path: feeding.path.as_str(),
+        observed: setup.observed,
+    };
+    let piece = Piece {
+        bytes: &feeding.carried,
+        searched: feeding.searched,
+    };
+    let state = &mut feeding.state;
+    let taken = setup
+        .pipeline
+        .feed_behind(setup.alloc, state, &file, &piece, lines)?;
+    feeding.searched = taken.searched;
+    feeding.offset += taken.used as u64;
+    Ok(taken.used)
 }

@@ -9,6 +9,8 @@ use std::alloc::{AllocError, Global};
 /// The memory in which entries go through the graph, for one entry after another.
 #[derive(Drop)]
 pub(crate) struct Buffers {
+    /// Where memory is had from.
+    pub(crate) alloc: Global,
     /// What an operator emits: nothing, between two entries.
     pub(crate) emitted: Vec<(u16, Record)>,
     /// What came out for the last entry.
@@ -20,6 +22,7 @@ impl Buffers {
         ensures { result.emitted.items ≡ [] }
     {
         Buffers {
+            alloc,
             emitted: Vec::new(alloc),
             made: Vec::new(alloc),
         }

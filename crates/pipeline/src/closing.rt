@@ -6,7 +6,8 @@ ghost use Rattle.pipeline.specs.Closed.{Closed, Finished};
 ghost use Rattle.pipeline.specs.Origin.{origin_of};
 ghost use Rattle.pipeline.specs.Parts.{network, HaveKinds};
 
-use crate::feed::{Cutting, append_lines};
+use crate::feed::{Cutting, Piece, Stretch, append_lines};
+use crate::source::LogFile;
 use crate::{FileState, Pipeline};
 use graph_core::laws as graph;
 use op_kinds::is_fresh;
@@ -60,17 +61,21 @@ impl Pipeline {
         graph::begin(&self.graph);
         graph::go_on(&self.graph);
         lines_append();
-        let source = self.source(alloc, id, path, observed)?;
-        let used = self.feed_by(alloc, state, &source, Cutting::Whole, bytes, &mut 0, out)?;
-        self.feed_by(
-            alloc,
-            state,
-            &source,
-            Cutting::Rest,
-            &bytes[used..],
-            &mut 0,
-            out,
-        )?;
+        let source = self.source(alloc, &LogFile { id, path, observed })?;
+        let whole = Stretch {
+            piece: Piece { bytes, searched: 0 },
+            cutting: Cutting::Whole,
+        };
+        let taken = self.feed_by(alloc, state, &source, &whole, out)?;
+        let left = &bytes[taken.used..];
+        let rest = Stretch {
+            piece: Piece {
+                bytes: left,
+                searched: 0,
+            },
+            cutting: Cutting::Rest,
+        };
+        self.feed_by(alloc, state, &source, &rest, out)?;
         self.close(alloc, state, id, observed, out)
     }
 

@@ -18,7 +18,7 @@ ghost use Rattle.pipeline.specs.Tokens.{first_cut_of, rule_of, tokens_of, used_o
 ghost use Rattle.pipeline.specs.declared.source.Source.TheVariants.{Lines};
 
 use crate::buffers::Buffers;
-use crate::source::{Shared, Source};
+use crate::source::{LogFile, Shared, Source};
 use crate::text::text_in;
 use crate::{FileState, Pipeline};
 use graph_core::laws as graph;
@@ -29,6 +29,24 @@ use otlp_json::laws::{line_is_one_line, lines_append};
 use otlp_json::{Scope, Template};
 use std::alloc::{AllocError, Global};
 
+/// Bytes of a file, from the first one that no token used.
+#[derive(Clone, Copy)]
+pub struct Piece<'p> {
+    pub bytes: &'p [u8],
+    /// How many of them needn't be searched again for the end of their first token: 0 where none were searched, else what
+    /// [`Taken::searched`] says of the bytes that these begin with.
+    pub searched: usize,
+}
+
+/// What was taken of a piece.
+#[derive(Clone, Copy)]
+pub struct Taken {
+    /// How many of its bytes the tokens used.
+    pub used: usize,
+    /// How many of those behind them needn't be searched again.
+    pub searched: usize,
+}
+
 /// Which tokens of some bytes are taken.
 #[derive(Clone, Copy)]
 pub(crate) enum Cutting {
@@ -36,6 +54,13 @@ pub(crate) enum Cutting {
     Whole,
     /// Those of bytes behind which none come any more.
     Rest,
+}
+
+/// A piece, and which of its tokens are taken.
+#[derive(Clone, Copy)]
+pub(crate) struct Stretch<'p> {
+    pub(crate) piece: Piece<'p>,
+    pub(crate) cutting: Cutting,
 }
 
 impl Pipeline {
@@ -72,73 +97,74 @@ impl Pipeline {
             → GoesOn (settings_of self.now) (network self.now) (origin_of id path.now observed) earlier
             (tokens_of (settings_of self.now) bytes.now) state.new out.old.items out.new.items) }
     {
-        self.feed_behind(alloc, state, id, path, observed, bytes, &mut 0, out)
+        let file = LogFile { id, path, observed };
+        let piece = Piece { bytes, searched: 0 };
+        let taken = self.feed_behind(alloc, state, &file, &piece, out)?;
+        Ok(taken.used)
     }
 
-    /// As [`Pipeline::feed`], for bytes that come in pieces: `searched` is 0 for bytes of which none were searched, and else
-    /// what a call left there for the bytes that its tokens didn't use, which these begin with. So no line is searched again.
-    /// After want of memory nothing is said of it.
+    /// As [`Pipeline::feed`], for bytes that come in pieces, each from the first byte that the tokens before didn't use. No
+    /// line is searched again.
     pub fn feed_behind(
         &self,
         alloc: Global,
         state: &mut FileState,
-        id: u32,
-        path: &str,
-        observed: Option<u64>,
-        bytes: &[u8],
-        searched: &mut usize,
+        file: &LogFile<'_>,
+        piece: &Piece<'_>,
         out: &mut Vec<u8>,
-    ) -> Result<usize, AllocError>
+    ) -> Result<Taken, AllocError>
         requires states { HaveKinds self.now state.old.states.items }
         requires lines { state.old.lines ≤ 2 ^ 40 }
-        requires records { state.old.records + length bytes.now ≤ 2 ^ 62 }
-        requires searched { IsSearched (settings_of self.now) bytes.now searched.old }
-        ensures used { IfOk result (λ count. count ≡ used_of (settings_of self.now) bytes.now) }
-        ensures searched { IfOk result (λ count. StaysSearched (settings_of self.now) (drop count bytes.now) searched.new) }
+        requires records { state.old.records + length piece.now.bytes.now ≤ 2 ^ 62 }
+        requires searched { IsSearched (settings_of self.now) piece.now.bytes.now piece.now.searched }
+        ensures used { IfOk result (λ taken. taken.used ≡ used_of (settings_of self.now) piece.now.bytes.now) }
+        ensures searched { IfOk result (λ taken. StaysSearched (settings_of self.now) (drop taken.used piece.now.bytes.now) taken.searched) }
 
         // From any state.
-        ensures fed { OnOk result (Fed (settings_of self.now) (network self.now) (origin_of id path.now observed)
-            (tokens_of (settings_of self.now) bytes.now) state.old state.new out.old.items out.new.items) }
-        ensures records { OnOk result (state.new.records ≤ state.old.records + used_of (settings_of self.now) bytes.now) }
+        ensures fed { OnOk result (Fed (settings_of self.now) (network self.now) (origin_of file.now.id file.now.path.now file.now.observed)
+            (tokens_of (settings_of self.now) piece.now.bytes.now) state.old state.new out.old.items out.new.items) }
+        ensures records { OnOk result (state.new.records ≤ state.old.records + used_of (settings_of self.now) piece.now.bytes.now) }
         ensures lines { OnOk result (state.new.lines + length out.old.items ≤ state.old.lines + length out.new.items) }
         ensures states { OnOk result (HaveKinds self.now state.new.states.items) }
         ensures many { length state.new.states.items ≡ length state.old.states.items }
 
         // From a state that stands for the tokens before.
         ensures goes_on { OnOk result ((earlier : List (List ℕ))
-            → StandsFor (settings_of self.now) (network self.now) path.now earlier state.old
-            → GoesOn (settings_of self.now) (network self.now) (origin_of id path.now observed) earlier
-            (tokens_of (settings_of self.now) bytes.now) state.new out.old.items out.new.items) }
+            → StandsFor (settings_of self.now) (network self.now) file.now.path.now earlier state.old
+            → GoesOn (settings_of self.now) (network self.now) (origin_of file.now.id file.now.path.now file.now.observed) earlier
+            (tokens_of (settings_of self.now) piece.now.bytes.now) state.new out.old.items out.new.items) }
     {
         graph::begin(&self.graph);
         graph::go_on(&self.graph);
-        let source = self.source(alloc, id, path, observed)?;
-        self.feed_by(alloc, state, &source, Cutting::Whole, bytes, searched, out)
+        let source = self.source(alloc, file)?;
+        let whole = Stretch {
+            piece: *piece,
+            cutting: Cutting::Whole,
+        };
+        self.feed_by(alloc, state, &source, &whole, out)
     }
 
-    // Takes these tokens of the bytes, and answers how many bytes they used. `searched` is as for `feed_behind`.
+    // Takes these tokens of the piece.
     pub(crate) fn feed_by(
         &self,
         alloc: Global,
         state: &mut FileState,
         source: &Source,
-        cutting: Cutting,
-        bytes: &[u8],
-        searched: &mut usize,
+        stretch: &Stretch<'_>,
         out: &mut Vec<u8>,
-    ) -> Result<usize, AllocError>
+    ) -> Result<Taken, AllocError>
         requires source { (origin : Origin) × IsSource self.now origin source.now }
         requires states { HaveKinds self.now state.old.states.items }
         requires lines { state.old.lines ≤ 2 ^ 40 + length out.old.items }
-        requires records { state.old.records + length bytes.now ≤ 2 ^ 62 }
-        requires searched { IsSearched (settings_of self.now) bytes.now searched.old }
-        ensures searched { IfOk result (λ count. StaysSearched (settings_of self.now) (drop count bytes.now) searched.new) }
-        ensures used { IfOk result (λ count. count ≡ used_by (cuts (rule_of (settings_of self.now) cutting) bytes.now)) }
-        ensures within { IfOk result (λ count. count ≤ length bytes.now) }
+        requires records { state.old.records + length stretch.now.piece.bytes.now ≤ 2 ^ 62 }
+        requires searched { IsSearched (settings_of self.now) stretch.now.piece.bytes.now stretch.now.piece.searched }
+        ensures searched { IfOk result (λ taken. StaysSearched (settings_of self.now) (drop taken.used stretch.now.piece.bytes.now) taken.searched) }
+        ensures used { IfOk result (λ taken. taken.used ≡ used_by (cuts (rule_of (settings_of self.now) stretch.now.cutting) stretch.now.piece.bytes.now)) }
+        ensures within { IfOk result (λ taken. taken.used ≤ length stretch.now.piece.bytes.now) }
         ensures fed { OnOk result ((origin : Origin) → IsSource self.now origin source.now
             → Fed (settings_of self.now) (network self.now) origin
-            (texts (cuts (rule_of (settings_of self.now) cutting) bytes.now)) state.old state.new out.old.items out.new.items) }
-        ensures records { IfOk result (λ count. state.new.records ≤ state.old.records + count) }
+            (texts (cuts (rule_of (settings_of self.now) stretch.now.cutting) stretch.now.piece.bytes.now)) state.old state.new out.old.items out.new.items) }
+        ensures records { IfOk result (λ taken. state.new.records ≤ state.old.records + taken.used) }
         ensures lines { OnOk result (state.new.lines + length out.old.items ≤ state.old.lines + length out.new.items) }
         ensures states { OnOk result (HaveKinds self.now state.new.states.items) }
         ensures many { length state.new.states.items ≡ length state.old.states.items }
@@ -146,14 +172,16 @@ impl Pipeline {
         graph::begin(&self.graph);
         graph::go_on(&self.graph);
         lines_append();
+        let (bytes, cutting) = (stretch.piece.bytes, stretch.cutting);
         let mut buffers = Buffers::new(alloc);
         let mut at = 0;
-        while let Some(token) = self.next_token(alloc, cutting, &bytes[at..], searched)? {
+        let mut searched = stretch.piece.searched;
+        while let Some(token) = self.next_token(alloc, cutting, &bytes[at..], &mut searched)? {
             let text = &bytes[at..][token.from..token.to];
-            self.feed_token(alloc, state, source, &mut buffers, text, out)?;
+            self.feed_token(state, source, &mut buffers, text, out)?;
             at += token.after;
         }
-        Ok(at)
+        Ok(Taken { used: at, searched })
     }
 
     /// The first token of the bytes; `None` where more bytes are needed to decide it.
@@ -164,6 +192,7 @@ impl Pipeline {
     }
 
     // The first of these tokens of the bytes. `searched` is as for the splitter.
+    #[inline(always)]
     #[tactic(auto, using(crate::proofs::Cutting::nothing_searched))]
     fn next_token(
         &self,
@@ -189,7 +218,6 @@ impl Pipeline {
 
     fn feed_token(
         &self,
-        alloc: Global,
         state: &mut FileState,
         source: &Source,
         buffers: &mut Buffers,
@@ -210,10 +238,8 @@ impl Pipeline {
         ensures empty { OnOk result (buffers.new.emitted.items ≡ []) }
     {
         match source {
-            Source::Lines(template) => self.feed_text(alloc, state, template, token, out),
-            Source::Entries(shared) => {
-                self.feed_entry(alloc, state, shared, buffers, token, out)
-            }
+            Source::Lines(template) => self.feed_text(buffers.alloc, state, template, token, out),
+            Source::Entries(shared) => self.feed_entry(state, shared, buffers, token, out),
         }
     }
 
@@ -252,10 +278,10 @@ impl Pipeline {
         Ok(())
     }
 
-    // Through the operators.
+    // Through the operators. A call of its own, so that the loop over texts without operators is short.
+    #[inline(never)]
     fn feed_entry(
         &self,
-        alloc: Global,
         state: &mut FileState,
         shared: &Shared,
         buffers: &mut Buffers,
@@ -277,6 +303,7 @@ impl Pipeline {
         graph::begin(&self.graph);
         lines_append();
         state.records += 1;
+        let alloc = buffers.alloc;
         let leading = self.settings.preserve_leading_whitespaces;
         let trailing = self.settings.preserve_trailing_whitespaces;
         let Some(body) = entry_text(alloc, token, leading, trailing)? else {

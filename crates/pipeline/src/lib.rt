@@ -30,10 +30,12 @@ mod text;
 mod wiring;
 
 pub use fault::BuildFault;
+pub use feed::{Piece, Taken};
 use glob_match::Glob;
 use graph_core::Graph;
 use op_kinds::AnyOp;
 use settings_text::Settings;
+pub use source::LogFile;
 use splitter::Splitter;
 pub use state::FileState;
 

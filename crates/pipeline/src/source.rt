@@ -9,6 +9,15 @@ use entry_model::{Fields, Text};
 use otlp_json::{Scope, Template};
 use std::alloc::{AllocError, Global};
 
+/// The file whose tokens are taken.
+#[derive(Clone, Copy)]
+pub struct LogFile<'f> {
+    pub id: u32,
+    pub path: &'f str,
+    /// The time that its lines have, in nanoseconds since 1970, where they have one.
+    pub observed: Option<u64>,
+}
+
 /// How tokens become lines.
 pub(crate) enum Source {
     /// Without operators: each by what the lines share.
@@ -39,28 +48,22 @@ pub(crate) struct Shared {
 }
 
 impl Pipeline {
-    pub(crate) fn source(
-        &self,
-        alloc: Global,
-        id: u32,
-        path: &str,
-        observed: Option<u64>,
-    ) -> Result<Source, AllocError>
-        ensures { IfOk result (IsSource self.now (origin_of id path.now observed)) }
+    pub(crate) fn source(&self, alloc: Global, file: &LogFile<'_>) -> Result<Source, AllocError>
+        ensures { IfOk result (IsSource self.now (origin_of file.now.id file.now.path.now file.now.observed)) }
     {
-        let attributes = self.file_attributes(alloc, path)?;
+        let attributes = self.file_attributes(alloc, file.path)?;
         let number = self.number_name(alloc)?;
         if !self.graph.nodes().is_empty() {
-            let scope = Scope::new(alloc, id)?;
+            let scope = Scope::new(alloc, file.id)?;
             return Ok(Source::Entries(Shared {
                 attributes,
                 number,
                 scope,
-                observed,
+                observed: file.observed,
             }));
         }
         let resource = self.settings.resource.as_fields();
-        let template = Template::new(alloc, id, observed, resource, attributes, number)?;
+        let template = Template::new(alloc, file.id, file.observed, resource, attributes, number)?;
         Ok(Source::Lines(template))
     }
 
