@@ -1,5 +1,5 @@
 // Entries of a file.
-ghost use Rattle.std.specs.Prelude.{◌≡◌, ℕ, pos, codes, ◌≤◌, ◌^◌, List, string_bytes, IfOk, OnOk};
+ghost use Rattle.std.specs.Prelude.{◌≡◌, ℕ, pos, codes, ◌≤◌, ◌^◌, List, IfOk, OnOk};
 ghost use Rattle.std.specs.BTreeMap.{insert_entry};
 ghost use Rattle.std.specs.Cmp.Lexicographic.{slice_cmp};
 ghost use Rattle.std.specs.Ordering.{nat_cmp};
@@ -73,14 +73,14 @@ impl Pipeline {
         alloc: Global,
         shared: &Shared,
         number: u64,
-        body: String,
+        body: Text,
     ) -> Result<Entry, AllocError>
         requires { number ≤ 2 ^ 62 }
         ensures { IfOk result (λ entry. (origin : Origin) → IsShared (settings_of self.now) origin shared.now
-            → log_record entry ≡ record_with (settings_of self.now) origin.path number (string_bytes body)) }
+            → log_record entry ≡ record_with (settings_of self.now) origin.path number body) }
     {
         Ok(Entry {
-            body: Value::Text(Text::new(body)?),
+            body: Value::Text(body),
             attributes: Value::Map(self.attributes_at(alloc, shared, number)?),
             resource: Value::Map(copy_fields(alloc, self.settings.resource.as_fields())?),
             timestamp: None,

@@ -19,7 +19,7 @@ ghost use Rattle.pipeline.specs.declared.source.Source.TheVariants.{Lines};
 
 use crate::buffers::Buffers;
 use crate::source::{LogFile, Shared, Source};
-use crate::text::text_in;
+use crate::text::{body_of, text_in};
 use crate::{FileState, Pipeline};
 use graph_core::laws as graph;
 use idle_flush::rest;
@@ -306,7 +306,7 @@ impl Pipeline {
         let alloc = buffers.alloc;
         let leading = self.settings.preserve_leading_whitespaces;
         let trailing = self.settings.preserve_trailing_whitespaces;
-        let Some(body) = entry_text(alloc, token, leading, trailing)? else {
+        let Some(body) = body_of(alloc, token, leading, trailing)? else {
             return Ok(());
         };
         let entry = self.entry(alloc, shared, state.records, body)?;

@@ -5,4 +5,4 @@ use Rattle.pipeline.proofs.Pipeline.entry.Goals as goal
 
 pub returns : goal.returns
 returns c = λ origin shared.
-    rw (datum_text c.in_ok-new.field-0, c.in_ok-new.ensures, datum_map c.in_ok-attributes_at.field-0, datum_map c.in_ok-copy_fields.field-0, c.in_ok-attributes_at.ensures origin shared, ap members_of c.in_ok-copy_fields.ensures, c.as_fields.ensures, c.empty.ensures) refl
+    rw (datum_text c.args.body, datum_map c.in_ok-attributes_at.field-0, datum_map c.in_ok-copy_fields.field-0, c.in_ok-attributes_at.ensures origin shared, ap members_of c.in_ok-copy_fields.ensures, c.as_fields.ensures, c.empty.ensures) refl

@@ -1,4 +1,3 @@
-use Rattle.std.specs.Prelude.{string_bytes}
 use Rattle.std.proofs.Common.{◌≡◌, ◌+◌, ◌<◌, [], ◌∷◌, ◌++◌, length, refl, sym, ap, subst, ◌∙◌, arith}
 use Rattle.std.proofs.lemmas.List.{append-nil}
 use Rattle.graph_core.specs.Traces.{inputs, Served}
@@ -23,7 +22,7 @@ returns-in_default-clause-fed c = λ origin shared.
 pub returns-clause-fed : goal.returns-clause-fed
 returns-clause-fed c = λ origin shared.
     let settings = settings_of c.args.self.now in
-    let text : string_bytes c.in-Some.body ≡ text_of settings c.args.token.now = rw c.in-Some.is at c.in_ok-body.ensures.some in
+    let text : c.in-Some.body ≡ text_of settings c.args.token.now = rw c.in-Some.is at c.in_ok-body.ensures.some in
     let some : 0 < length (text_of settings c.args.token.now) = rw c.in-Some.is at c.in_ok-body.ensures.not_empty in
     let entry = c.in_ok-entry.ensures origin shared ∙ ap (record_with settings origin.path (c.args.state.now.records + 1)) text in
     let net = network c.args.self.now in
