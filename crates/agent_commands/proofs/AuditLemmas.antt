@@ -1,6 +1,5 @@
 -- What an audit leaves, and that it agrees with what stands.
 use Rattle.std.proofs.Common.{◌≡◌, ◌≤◌, ℕ, List, Option, None, Some, IsTrue, take, length, refl, sym, subst, arith, inl, inr}
-use Rattle.std.proofs.lemmas.List.Elements.{All-weaker}
 use Rattle.checkpoint_journal.proofs.JournalLaws.{one_said}
 use Rattle.checkpoint_store.specs.declared.Checkpoint.{Checkpoint}
 use Rattle.checkpoint_store.specs.Limits.{newest}
@@ -11,7 +10,7 @@ use Rattle.folder_audit.specs.Audited.{Course, FewAbsent, Hold, IsAudited, IsDif
 use Rattle.folder_audit.specs.Judged.{Judged, pipes_of}
 use Rattle.folder_audit.specs.KeptFiles.{IsFitRow, IsLast}
 use Rattle.folder_audit.specs.Limits.{largest_kept}
-use Rattle.folder_audit.specs.Made as audited
+use Rattle.folder_audit.specs.Made.{ArePipesOf}
 use Rattle.folder_audit.specs.Absences.{AreAbsences}
 use Rattle.folder_audit.specs.declared.audited.Audited.{Audited}
 use Rattle.folder_audit.specs.declared.fault.AuditFault.{AuditFault}
@@ -28,13 +27,12 @@ use Rattle.outside.specs.declared.disk.DiskFile.TheVariants.{Output}
 use Rattle.pipeline.specs.declared.Pipeline.{Pipeline}
 use Rattle.poll_core.proofs.ImageLemmas.{no_journal}
 use Rattle.poll_core.specs.Found.{IsFound}
-use Rattle.poll_core.specs.MadeOf.{AreErasOf, HasRules}
+use Rattle.pipeline.specs.MadeOf.{AreErasOf}
 use Rattle.poll_core.specs.Polled.{AreErasIn, IsStanding}
 use Rattle.standing.proofs.StandsLemmas.{standing_lasts}
 use Rattle.standing.specs.Apart.{Apart}
-use Rattle.standing.specs.Eras.{Eras, AreEras, all_eras}
+use Rattle.standing.specs.Eras.{Eras}
 use Rattle.standing.specs.Rows.{IsRowAt, Row}
-use Rattle.standing.specs.Rules.{Rules}
 use Rattle.standing.specs.Standing.{Found, nothing, damaged, found, Standing}
 use Rattle.standing.specs.Stands.{CheckpointStands}
 use Rattle.agent_commands.proofs.StandLemmas.{CountsNow}
@@ -42,19 +40,6 @@ use Rattle.agent_commands.specs.Audit.{AgreesWhereItStands, FewWhereItStands}
 use Rattle.agent_commands.specs.Faults.{auditing_fault}
 use Rattle.agent_commands.specs.Headline.{KeepsStanding}
 use Rattle.agent_commands.specs.Status.{status_of}
-
--- ---- eras, as either crate says of them
-
-as_audited : (text : List ℕ) (rules : Rules) → HasRules text rules → audited.HasRules text rules
-as_audited text rules has =
-    let made = has.1 in
-    (has.0, record { said = made.said; network_is = made.network_is; include = made.include; exclude = made.exclude; multiline = made.multiline }, has.2)
-
-audited_eras : (texts : List (List ℕ)) (eras : Eras) → AreErasOf texts eras → audited.AreErasOf texts eras
-audited_eras texts eras are = record {
-  texts_are = are.texts_are;
-  each = All-weaker (λ (r : Rules). HasRules r.settings r) (λ (r : Rules). audited.HasRules r.settings r) (λ r. as_audited r.settings r) (all_eras eras) are.each;
-}
 
 -- ---- few rows that stand are absent
 
@@ -64,7 +49,7 @@ module _ (image : Image DiskFile) (course : Course image) (faults faults_after :
   few_saved saved eras same are stands apart places absences =
       let own : AreErasOf course.checkpoint.eras eras = subst (λ (c : Checkpoint). AreErasOf c.eras eras) same are in
       let its : CheckpointStands eras old.history course.checkpoint (image Output) = subst (λ (c : Checkpoint). CheckpointStands eras old.history c (image Output)) same stands in
-      few eras places (audited_eras course.checkpoint.eras eras own) own.laws its apart absences
+      few eras places own its apart absences
 
   few_found : (there : Found) (eras : Eras) → IsFound image there → AreErasIn there eras → Standing eras old.history there (image Output) → Apart eras.first.front_size new.history
       → (places : List ℕ) → AreAbsences eras course.checkpoint.rows course.found places old.history new.history → raised faults (length places) ≤ faults_after
@@ -87,8 +72,8 @@ few_where_it_stands trees image given tree tree_after audit =
 -- the law of audits
 abbrev pub NoneDiffers : Type 0
 NoneDiffers = (eras : Eras) (checkpoint : Checkpoint) (file : List ℕ) (pipes : List Pipeline) (last : Pipeline) (place : ℕ) (row : Row) (line : ℕ) (old new : World)
-    → audited.AreErasOf checkpoint.eras eras → AreEras eras → CheckpointStands eras old.history checkpoint file → IsCheckpoint newest checkpoint
-    → checkpoint.output_length ≤ largest_kept → Apart eras.first.front_size new.history → audited.ArePipesOf checkpoint.eras pipes → IsLast pipes last
+    → AreErasOf checkpoint.eras eras → CheckpointStands eras old.history checkpoint file → IsCheckpoint newest checkpoint
+    → checkpoint.output_length ≤ largest_kept → Apart eras.first.front_size new.history → ArePipesOf checkpoint.eras pipes → IsLast pipes last
     → IsRowAt checkpoint.rows place row → IsFitRow (length pipes) place row
     → Judged (pipes_of pipes row) last row (take checkpoint.output_length file) (Differs line) old new → ⊥
 
@@ -98,7 +83,7 @@ module _ (law : NoneDiffers) (image : Image DiskFile) (course : Course image) (o
   agreed saved eras same are stands apart place row line at judged =
       let own : AreErasOf course.checkpoint.eras eras = subst (λ (c : Checkpoint). AreErasOf c.eras eras) same are in
       let its : CheckpointStands eras old.history course.checkpoint (image Output) = subst (λ (c : Checkpoint). CheckpointStands eras old.history c (image Output)) same stands in
-      law eras course.checkpoint (image Output) course.pipes course.last place row line old new (audited_eras course.checkpoint.eras eras own) own.laws its course.lawful course.small apart
+      law eras course.checkpoint (image Output) course.pipes course.last place row line old new own its course.lawful course.small apart
       course.whole.ready.made course.whole.ready.is_last at (course.fit place row at) judged
 
   by_found : (there : Found) (eras : Eras) → IsFound image there → AreErasIn there eras → Standing eras old.history there (image Output) → Apart eras.first.front_size new.history

@@ -12,7 +12,8 @@ use Rattle.outside.specs.World.{Told}
 use Rattle.outside.specs.declared.disk.DiskFile.{DiskFile}
 use Rattle.outside.specs.declared.disk.DiskFile.TheVariants as file
 use Rattle.poll_core.specs.OpenCause.{IsOfContents, IsOfSettings}
-use Rattle.poll_core.specs.OpenFaults.{IsNotBuilt, IsRefused, IsSettingsRefusal}
+use Rattle.pipeline.specs.BuildFaults.{IsNotBuilt}
+use Rattle.poll_core.specs.OpenFaults.{IsRefused, IsSettingsRefusal}
 use Rattle.poll_core.specs.Overflows.{Overflows}
 use Rattle.poll_core.specs.Reopens.{Reopens}
 use Rattle.poll_core.specs.SessionParts.{journal_of_session}

@@ -18,7 +18,7 @@ use Rattle.outside.specs.DiskMeaning.{DiskMeaning}
 use Rattle.outside.specs.declared.disk.DiskFile.{DiskFile}
 use Rattle.outside.specs.declared.disk.DiskFile.TheVariants.{Output}
 use Rattle.poll_core.proofs.ImageLemmas.{found_kept, kept_stays, one_sequence, sequence_kept}
-use Rattle.poll_core.proofs.RuleLemmas.{OneSet}
+use Rattle.pipeline.proofs.OfText.{OneSet}
 use Rattle.poll_core.proofs.SafeLemmas.{gains_kept, stays_kept}
 use Rattle.poll_core.proofs.SoundLemmas.{gains_sound, image_still, stays_sound}
 use Rattle.poll_core.specs.Found.{IsFound}

@@ -15,7 +15,7 @@ use Rattle.poll_core.proofs.ImageLemmas.{found_kept, standing_still}
 use Rattle.poll_core.proofs.StoodLemmas.{StandsBefore, stands_before}
 use Rattle.poll_core.specs.Adopting.{KeepsStandingIn}
 use Rattle.poll_core.specs.IsSession.{IsSession}
-use Rattle.poll_core.specs.MadeOf.{AreErasOf, HasRules}
+use Rattle.pipeline.specs.MadeOf.{HasRules, AreErasOf}
 use Rattle.poll_core.specs.Polled.{IsStanding, IsSummed, Advance, Counting, advance}
 use Rattle.poll_core.specs.Reopens.{Reopens}
 use Rattle.poll_core.specs.SessionParts.{checkpoint_of_session, rules_of_session, stamp_of_session}

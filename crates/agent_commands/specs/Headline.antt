@@ -9,7 +9,7 @@ use Rattle.outside.specs.Lawful.{IsLawful}
 use Rattle.outside.specs.World.{History, Told, World}
 use Rattle.outside.specs.declared.disk.DiskFile.{DiskFile}
 use Rattle.outside.specs.declared.disk.DiskFile.TheVariants.{Settings}
-use Rattle.poll_core.specs.MadeOf.{AreErasOf, HasRules}
+use Rattle.pipeline.specs.MadeOf.{HasRules, AreErasOf}
 use Rattle.poll_core.specs.Polled.{IsStanding, IsSummed, Counting, advance}
 use Rattle.poll_core.specs.SessionParts.{rules_of_session}
 use Rattle.poll_core.specs.Since.{KeepsStandingSince}

@@ -5,7 +5,8 @@ use Rattle.outside.specs.Images.{Images}
 use Rattle.outside.specs.declared.disk.DiskFile.{DiskFile}
 use Rattle.outside.specs.declared.disk.DiskFile.TheVariants as file
 use Rattle.poll_core.specs.IsSession.{IsSession}
-use Rattle.poll_core.specs.OpenFaults.{IsNotBuilt, IsRefused}
+use Rattle.pipeline.specs.BuildFaults.{IsNotBuilt}
+use Rattle.poll_core.specs.OpenFaults.{IsRefused}
 use Rattle.poll_core.specs.Remembers.{GoesOnFrom}
 use Rattle.poll_core.specs.SessionParts.{checkpoint_of_session, limit_of, settings_of_session, time_of_session}
 use Rattle.poll_core.specs.StandsOn.{StandsOn}

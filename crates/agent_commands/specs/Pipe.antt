@@ -8,8 +8,8 @@ use Rattle.outside.specs.declared.disk.DiskFile.{DiskFile}
 use Rattle.outside.specs.declared.disk.DiskFile.TheVariants as file
 use Rattle.pipeline.specs.Parts.{settings_of}
 use Rattle.pipeline.specs.declared.Pipeline.{Pipeline}
-use Rattle.poll_core.specs.MadeOf.{IsMadeOf}
-use Rattle.poll_core.specs.OpenFaults.{IsNotBuilt}
+use Rattle.pipeline.specs.MadeOf.{IsMadeOf}
+use Rattle.pipeline.specs.BuildFaults.{IsNotBuilt}
 use Rattle.poll_core.specs.declared.fault.OpenFault.{OpenFault}
 use Rattle.poll_core.specs.declared.fault.OpenFault.TheVariants as opening
 use Rattle.settings_text.specs.Grammar as grammar

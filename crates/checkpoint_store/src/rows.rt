@@ -1,7 +1,9 @@
 // Rows that contracts see as a list.
-ghost use Rattle.std.specs.Prelude.{◌≡◌};
+ghost use Rattle.std.specs.Prelude.{◌≡◌, ◌≤◌, length, IfOk};
+ghost use Rattle.file_tracker.specs.Limits.{row_limit};
 
-use file_tracker::Row;
+use file_tracker::{AdmitFault, Row, Tracker};
+use std::alloc::{AllocError, Global};
 use std::marker::Model;
 
 /// The rows of a checkpoint or a change, in order.
@@ -37,5 +39,21 @@ impl Rows {
     {
         let Rows { content } = self;
         content
+    }
+
+    /// The rows as they are searched by fronts.
+    pub fn into_tracker(self, alloc: Global) -> Result<Tracker, AllocError>
+        requires { length self ≤ row_limit }
+        ensures { IfOk result (λ tracker. tracker ≡ self) }
+    {
+        let mut tracker = Tracker::new(alloc);
+        for row in self.into_vec() {
+            match tracker.admit(alloc, row) {
+                Ok(_) => {}
+                Err(AdmitFault::Full) => unreachable!(),
+                Err(AdmitFault::Memory) => return Err(AllocError),
+            }
+        }
+        Ok(tracker)
     }
 }

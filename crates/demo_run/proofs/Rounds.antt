@@ -30,8 +30,8 @@ use Rattle.outside.specs.World.{History}
 use Rattle.outside.specs.declared.disk.DiskFile.{DiskFile}
 use Rattle.outside.specs.declared.disk.DiskFile.TheVariants.{Output}
 use Rattle.poll_core.proofs.ImageLemmas.{no_journal, one_found}
-use Rattle.poll_core.proofs.RuleLemmas.{OneSet}
-use Rattle.poll_core.specs.MadeOf.{HasRules}
+use Rattle.pipeline.proofs.OfText.{OneSet}
+use Rattle.pipeline.specs.MadeOf.{HasRules}
 use Rattle.poll_core.specs.Polled.{IsStanding}
 use Rattle.standing.proofs.OwnerLemmas.{one_owner}
 use Rattle.standing.specs.Apart.{Apart}

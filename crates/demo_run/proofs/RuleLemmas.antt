@@ -26,7 +26,7 @@ use Rattle.pipeline.specs.Parts.{network, settings_of}
 use Rattle.pipeline.specs.Tokens.{cuts_of}
 use Rattle.pipeline.specs.Wired.{IsNetwork}
 use Rattle.pipeline.specs.declared.Pipeline.{Pipeline}
-use Rattle.poll_core.specs.MadeOf.{HasRules, IsMadeOf}
+use Rattle.pipeline.specs.MadeOf.{HasRules, IsMadeOf}
 use Rattle.settings_text.specs.declared.settings.Settings.{Settings}
 use Rattle.standing.proofs.ExampleLemmas.{all_used}
 use Rattle.standing.specs.Included.{IsIncluded}

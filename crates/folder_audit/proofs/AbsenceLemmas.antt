@@ -21,7 +21,7 @@ use Rattle.standing.proofs.MomentLemmas.{apart_before, bytes_grow, later_none, l
 use Rattle.standing.proofs.OwnerLemmas.{one_owner, owners_differ}
 use Rattle.standing.proofs.PrefixLemmas.{begins-false, begins-true, front_of_both, prefix-append, prefix-take}
 use Rattle.standing.specs.Apart.{Apart}
-use Rattle.standing.specs.Eras.{Eras, AreEras, all_eras, last_era}
+use Rattle.standing.specs.Eras.{Eras, all_eras, last_era}
 use Rattle.standing.specs.Included.{IsIncluded}
 use Rattle.standing.specs.Marks.{Mark}
 use Rattle.standing.specs.Moments.{IsLater}
@@ -34,7 +34,8 @@ use Rattle.tree_walk.proofs.Lists.{contains_behind, contains_cases, contains_fir
 use Rattle.folder_audit.specs.Findings.{is_absent}
 use Rattle.folder_audit.specs.KeptFiles.{IsLast, IsToRead}
 use Rattle.folder_audit.specs.Limits.{largest_read}
-use Rattle.folder_audit.specs.Made.{AreErasOf, ArePipesOf}
+use Rattle.pipeline.specs.MadeOf.{AreErasOf}
+use Rattle.folder_audit.specs.Made.{ArePipesOf}
 use Rattle.folder_audit.specs.Absences.{AreAbsences, IsAbsence}
 use Rattle.folder_audit.specs.Inner.Tried.{FindsAll, IsDue, IsReadable}
 use Rattle.folder_audit.specs.declared.findings.Finding.{Finding}
@@ -42,7 +43,7 @@ use Rattle.folder_audit.specs.declared.findings.Finding.TheVariants.{Absent}
 use Rattle.folder_audit.specs.declared.kept.Kept.{Kept}
 use Rattle.folder_audit.proofs.EraLemmas.{era_is, last_front_size, many_eras}
 use Rattle.folder_audit.proofs.KeptLemmas.{one_last}
-use Rattle.folder_audit.proofs.RuleLemmas.{OneSet}
+use Rattle.pipeline.proofs.OfText.{OneSet}
 
 -- ---- a file is known by its row
 
@@ -77,7 +78,7 @@ known_by rows place row text apart at own =
 
 -- ---- such a row is found, or its path failed
 
-module _ (one_set : OneSet) (kept : Kept) (last : Pipeline) (is_last : IsLast kept.pipes.items last) (eras : Eras) (texts : List (List ℕ)) (are : AreErasOf texts eras) (made : ArePipesOf texts kept.pipes.items) (laws : AreEras eras) where
+module _ (one_set : OneSet) (kept : Kept) (last : Pipeline) (is_last : IsLast kept.pipes.items last) (eras : Eras) (texts : List (List ℕ)) (are : AreErasOf texts eras) (made : ArePipesOf texts kept.pipes.items) where
   last_rules : (text : List ℕ) × (last_era eras ≡ rules_of text last)
   last_rules =
       let found = era_is one_set texts eras kept.pipes.items are made is_last.0 last is_last.2 in
@@ -95,7 +96,7 @@ module _ (one_set : OneSet) (kept : Kept) (last : Pipeline) (is_last : IsLast ke
     readable place row file moment at owner small after =
         let stood = stand.each_row place row at in
         let same : stood.file ≡ file = one_owner eras old.history row stood.file file (apart_before eras.first.front_size old.history new.history later apart) stood.owner owner in
-        let size : (settings_of last).fingerprint_size ≡ eras.first.front_size = last_front_size one_set texts eras kept.pipes.items are made last laws is_last in
+        let size : (settings_of last).fingerprint_size ≡ eras.first.front_size = last_front_size one_set texts eras kept.pipes.items are made last is_last in
         let grown = bytes_grow old.history moment file after in
         let seen = bytes_grow owner.seen_at moment file (later_then owner.seen_at old.history moment (look_later old.history file owner.seen_at owner.seen) after) in
         let own : IsPrefix (take eras.first.front_size (bytes owner.seen_at file)) (take eras.first.front_size (bytes moment file)) =

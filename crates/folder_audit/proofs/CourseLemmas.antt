@@ -32,7 +32,7 @@ use Rattle.folder_audit.specs.declared.findings.Finding.{Finding}
 use Rattle.folder_audit.specs.declared.findings.Finding.TheVariants.{Absent, Same, Differs}
 use Rattle.folder_audit.specs.declared.kept.Kept.{Kept}
 use Rattle.folder_audit.proofs.AbsenceLemmas.{few_absences}
-use Rattle.folder_audit.proofs.RuleLemmas.{OneSet}
+use Rattle.pipeline.proofs.OfText.{OneSet}
 use Rattle.folder_audit.proofs.UnlessLemmas.{told_and}
 
 -- a row's own lines are enough
@@ -99,12 +99,12 @@ module _ (image : Image DiskFile) (kept : Kept) (is : IsKept image kept) (fit : 
   module _ {T : Type 0} (meaning : TreeMeaning T) (old new : T) (has : HasFound kept found (meaning.world old) (meaning.world new)) where
     few_absent : OneSet → (x y : World) → KeepsHandles x y × FindsAll kept found (IsDue kept x y) (RoseBy meaning old new) x y → FewAbsent (course_of has.are) (meaning.faults old) (meaning.faults new) x y
     unfolding course_of
-    few_absent one_set x y both = λ eras places are laws stands apart absences.
+    few_absent one_set x y both = λ eras places are stands apart absences.
         let own : AreAbsences eras kept.rows found places x.history y.history = subst (λ (rs : List Row). AreAbsences eras rs found places x.history y.history) (sym is.rows) absences in
         let marks = stands.stands.marks in
         let stand : LinesStand eras x.history kept.rows is.checkpoint.next_id marks = subst (λ (rs : List Row). LinesStand eras x.history rs is.checkpoint.next_id marks) (sym is.rows) stands.stands.lines_stand in
         let fewer : length places ≤ length both.1.failed =
-        few_absences one_set kept is.last is.whole.ready.is_last eras is.checkpoint.eras are is.whole.ready.made laws x y both.0.later is.checkpoint.next_id marks stand apart found (RoseBy meaning old new) both.1 places own in
+        few_absences one_set kept is.last is.whole.ready.is_last eras is.checkpoint.eras are is.whole.ready.made x y both.0.later is.checkpoint.next_id marks stand apart found (RoseBy meaning old new) both.1 places own in
         omega (arith, fewer, both.1.counted)
 
     pub audited_of : OneSet → Told KeepsHandles (meaning.world old) (meaning.world new) → FindsDue meaning kept found old new → (audited : Audited) → IsTallied kept.rows found audited → IsAudited meaning image audited old new

@@ -6,12 +6,13 @@ use Rattle.std.proofs.lemmas.Option.{slice_get_within, slice_get-get_or, slice_g
 use Rattle.auditor.specs.RowHolds.{AreErasFrom}
 use Rattle.pipeline.specs.AsRules.{rules_of}
 use Rattle.pipeline.specs.declared.Pipeline.{Pipeline}
-use Rattle.standing.specs.Eras.{Eras, AreEras, all_eras, era_at}
+use Rattle.standing.specs.Eras.{Eras, all_eras, era_at}
 use Rattle.standing.specs.Rules.{Rules}
 use Rattle.standing.proofs.EraLemmas.{of_era}
 use Rattle.folder_audit.specs.KeptFiles.{IsLast}
-use Rattle.folder_audit.specs.Made.{AreErasOf, ArePipesOf, HasRules}
-use Rattle.folder_audit.proofs.RuleLemmas.{OneSet}
+use Rattle.pipeline.specs.MadeOf.{HasRules, AreErasOf}
+use Rattle.folder_audit.specs.Made.{ArePipesOf}
+use Rattle.pipeline.proofs.OfText.{OneSet}
 
 -- the element behind some that are left out
 pub at_drop : {A : Type 0} (n : ℕ) (xs : List A) (k : ℕ) (x : A) → slice_get (drop n xs) k ≡ Some x → slice_get xs (n + k) ≡ Some x
@@ -47,7 +48,7 @@ module _ (one_set : OneSet) (texts : List (List ℕ)) (eras : Eras) (pipes : Lis
   }
 
   -- files are known by as many bytes as the last pipeline asks for
-  pub last_front_size : (last : Pipeline) → AreEras eras → IsLast pipes last → last.settings.fingerprint_size ≡ eras.first.front_size
-  last_front_size last laws is_last =
+  pub last_front_size : (last : Pipeline) → IsLast pipes last → last.settings.fingerprint_size ≡ eras.first.front_size
+  last_front_size last is_last =
       let found = era_is is_last.0 last is_last.2 in
-      of_era eras (λ (r : Rules). r.front_size ≡ eras.first.front_size) laws.one_front_size (suc is_last.0) (rules_of found.0 last) found.1
+      of_era eras (λ (r : Rules). r.front_size ≡ eras.first.front_size) are.laws.one_front_size (suc is_last.0) (rules_of found.0 last) found.1

@@ -13,7 +13,7 @@ use Rattle.pipeline.specs.declared.Pipeline.{Pipeline}
 use Rattle.standing.proofs.MomentLemmas.{bytes_grow, look_later}
 use Rattle.standing.proofs.StandsLemmas.{checkpoint_lasts}
 use Rattle.standing.specs.Apart.{Apart}
-use Rattle.standing.specs.Eras.{Eras, AreEras}
+use Rattle.standing.specs.Eras.{Eras}
 use Rattle.standing.specs.Moments.{LookAt}
 use Rattle.standing.specs.Owner.{IsOwner}
 use Rattle.standing.specs.Prefixes.{IsPrefix}
@@ -22,9 +22,10 @@ use Rattle.standing.specs.Stands.{CheckpointStands}
 use Rattle.folder_audit.specs.Judged.{Judged, JudgedBytes, pipes_of}
 use Rattle.folder_audit.specs.KeptFiles.{IsFitRow, IsLast}
 use Rattle.folder_audit.specs.Limits.{largest_kept}
-use Rattle.folder_audit.specs.Made.{AreErasOf, ArePipesOf}
+use Rattle.pipeline.specs.MadeOf.{AreErasOf}
+use Rattle.folder_audit.specs.Made.{ArePipesOf}
 use Rattle.folder_audit.proofs.EraLemmas.{eras_from, last_front_size}
-use Rattle.folder_audit.proofs.RuleLemmas.{OneSet}
+use Rattle.pipeline.proofs.OfText.{OneSet}
 
 -- a row's pipelines are one for each of its parts
 pub row_many : (pipes : List Pipeline) (place : ℕ) (row : Row) → IsFitRow (length pipes) place row → length (pipes_of pipes row) ≡ length row.ends + 1
@@ -66,22 +67,22 @@ same_owner eras row moment new file owner apart looked owns begins = elim (cases
 ]
 
 pub never_differs : OneSet → (eras : Eras) (checkpoint : Checkpoint) (file : List ℕ) (pipes : List Pipeline) (last : Pipeline) (place : ℕ) (row : Row) (line : ℕ) (old new : World)
-    → AreErasOf checkpoint.eras eras → AreEras eras → CheckpointStands eras old.history checkpoint file → IsCheckpoint newest checkpoint
+    → AreErasOf checkpoint.eras eras → CheckpointStands eras old.history checkpoint file → IsCheckpoint newest checkpoint
     → checkpoint.output_length ≤ largest_kept → Apart eras.first.front_size new.history → ArePipesOf checkpoint.eras pipes → IsLast pipes last
     → IsRowAt checkpoint.rows place row → IsFitRow (length pipes) place row
     → Judged (pipes_of pipes row) last row (take checkpoint.output_length file) (Differs line) old new → ⊥
-never_differs one_set eras checkpoint file pipes last place row line old new are laws stands lawful small apart made is_last at fit judged =
+never_differs one_set eras checkpoint file pipes last place row line old new are stands lawful small apart made is_last at fit judged =
     let output = take checkpoint.output_length file in
     let moment = judged.moment in
-    let then_stands : CheckpointStands eras moment checkpoint file = checkpoint_lasts eras laws old.history moment checkpoint file judged.looked.later stands in
+    let then_stands : CheckpointStands eras moment checkpoint file = checkpoint_lasts eras are.laws old.history moment checkpoint file judged.looked.later stands in
     let stood = then_stands.stands.lines_stand.each_row place row at in
     let from = from_born one_set eras checkpoint.eras pipes place row are made fit in
-    let size : (settings_of last).fingerprint_size ≡ eras.first.front_size = last_front_size one_set checkpoint.eras eras pipes are made last laws is_last in
+    let size : (settings_of last).fingerprint_size ≡ eras.first.front_size = last_front_size one_set checkpoint.eras eras pipes are made last is_last in
     let begins : IsPrefix row.front (take eras.first.front_size (bytes moment judged.file)) = subst (λ (n : ℕ). IsPrefix row.front (take n (bytes moment judged.file))) size judged.begins in
     let same : judged.file ≡ stood.file = same_owner eras row moment new.history judged.file stood.file apart judged.looked.looked stood.owner begins in
     let observed = lawful.observed.told (omega arith) in
     let holds : RowHolds eras (bytes moment stood.file) row output =
-    stands_holds eras (pipes_of pipes row) moment checkpoint file place row then_stands at laws from
+    stands_holds eras (pipes_of pipes row) moment checkpoint file place row then_stands at are.laws from
     (omega (arith, row_many pipes place row fit)) (omega (arith, observed.1)) (omega (arith, lawful.count, lawful.next_id))
     (omega (arith, small, length-take checkpoint.output_length file)) in
     not_by_bytes one_set eras checkpoint.eras pipes place row are made fit output (bytes moment judged.file) line judged.by_bytes

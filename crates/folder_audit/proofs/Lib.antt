@@ -9,7 +9,6 @@ pub mod MadeLemmas
 pub mod OpenLemmas
 pub mod ReadLemmas
 pub mod RowLemmas
-pub mod RuleLemmas
 pub mod TriedLemmas
 pub mod UnlessLemmas
 pub mod WalkedLemmas

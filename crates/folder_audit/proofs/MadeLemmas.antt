@@ -3,7 +3,8 @@ use Rattle.std.proofs.Common.{◌≡◌, ◌⊎◌, ℕ, zero, suc, ◌+◌, ◌
 use Rattle.std.specs.Prelude.{Some, slice_get}
 use Rattle.std.proofs.lemmas.Option.{same_Some, none-some}
 use Rattle.pipeline.specs.declared.Pipeline.{Pipeline}
-use Rattle.folder_audit.specs.Made.{ArePipesOf, IsMadeOf}
+use Rattle.pipeline.specs.MadeOf.{IsMadeOf}
+use Rattle.folder_audit.specs.Made.{ArePipesOf}
 use Rattle.folder_audit.specs.Refusals.{IsFirstRefused, IsRefusedText}
 use Rattle.folder_audit.specs.declared.fault.AuditFault.{AuditFault}
 

@@ -6,7 +6,7 @@ use Rattle.checkpoint_store.specs.declared.Checkpoint.{Checkpoint}
 use Rattle.folder_audit.specs.Findings.{AreFindings, AreFound}
 use Rattle.folder_audit.specs.KeptFiles.{AreFitRows}
 use Rattle.folder_audit.specs.Limits.{largest_kept}
-use Rattle.folder_audit.specs.Made.{AreErasOf}
+use Rattle.pipeline.specs.MadeOf.{AreErasOf}
 use Rattle.folder_audit.specs.Absences.{AreAbsences}
 use Rattle.folder_audit.specs.Refusals.{Flush, IsWhole}
 use Rattle.folder_audit.specs.Tally.{IsLeastOther, IsTallied}
@@ -20,7 +20,7 @@ use Rattle.outside.specs.declared.disk.DiskFile.{DiskFile}
 use Rattle.outside.specs.declared.disk.DiskFile.TheVariants.{Output}
 use Rattle.pipeline.specs.declared.Pipeline.{Pipeline}
 use Rattle.standing.specs.Apart.{Apart}
-use Rattle.standing.specs.Eras.{Eras, AreEras}
+use Rattle.standing.specs.Eras.{Eras}
 use Rattle.standing.specs.Stands.{CheckpointStands}
 
 -- what was audited of an image, with what was found of each row
@@ -44,7 +44,7 @@ Hold {image} course old new = AreFound course.pipes course.last (take course.che
 -- bytes up to the end: of the rows whose file keeps its name no more were found absent than the tree's count rose by.
 abbrev pub FewAbsent : {image : Image DiskFile} → Course image → ℕ → ℕ → World → World → Type 0
 FewAbsent {image} course faults faults_after old new =
-    (eras : Eras) (places : List ℕ) → AreErasOf course.checkpoint.eras eras → AreEras eras → CheckpointStands eras old.history course.checkpoint (image Output)
+    (eras : Eras) (places : List ℕ) → AreErasOf course.checkpoint.eras eras → CheckpointStands eras old.history course.checkpoint (image Output)
     → Apart eras.first.front_size new.history → AreAbsences eras course.checkpoint.rows course.found places old.history new.history
     → raised faults (length places) ≤ faults_after
 

@@ -1,10 +1,11 @@
 -- Why a folder isn't audited, as what stands on the disk tells it.
-use Rattle.std.specs.Prelude.{◌≡◌, ◌≢◌, ℕ, ◌<◌, ◌≤◌, false, List, [], length, Ok, Err, Some, None, slice_get, ⊤}
+use Rattle.std.specs.Prelude.{◌≡◌, ◌≢◌, ℕ, ◌<◌, ◌≤◌, List, [], length, Err, Some, None, slice_get, ⊤}
 use Rattle.std.specs.List.{Any}
 use Rattle.checkpoint_journal.specs.JournalOf.{HasCheckpoint, IsBadAt}
 use Rattle.checkpoint_store.specs.declared.Checkpoint.{Checkpoint}
 use Rattle.folder_audit.specs.Limits.{largest_kept}
-use Rattle.folder_audit.specs.Made.{ArePipesOf, IsMadeOf}
+use Rattle.pipeline.specs.MadeOf.{IsMadeOf}
+use Rattle.folder_audit.specs.Made.{ArePipesOf}
 use Rattle.folder_audit.specs.KeptFiles.{IsLast}
 use Rattle.folder_audit.specs.declared.fault.AuditFault.{AuditFault}
 use Rattle.folder_audit.specs.declared.fault.AuditFault.TheVariants.{Disk, NothingKept, CheckpointBad, KeptSettings, KeptBuild, OutputShort, FlushOn, Large, Differs, Memory}
@@ -12,22 +13,14 @@ use Rattle.outside.specs.Image.{Image}
 use Rattle.outside.specs.declared.disk.DiskFile.{DiskFile}
 use Rattle.outside.specs.declared.disk.DiskFile.TheVariants.{Output}
 use Rattle.pipeline.specs.AsRules.{rules_of}
-use Rattle.pipeline.specs.BuildFaults.{IsBuildFault}
+use Rattle.pipeline.specs.BuildFaults.{IsNotBuilt}
+use Rattle.pipeline.specs.Foreign.{IsLeastForeign}
 use Rattle.pipeline.specs.Parts.{settings_of}
 use Rattle.pipeline.specs.declared.Pipeline.{Pipeline}
-use Rattle.pipeline.specs.declared.fault.BuildFault.{BuildFault}
 use Rattle.pipeline.specs.declared.fault.BuildFault.TheVariants as build
 use Rattle.settings_text.specs.Grammar.{settings}
 use Rattle.settings_text.specs.declared.fault.SettingsFault.TheVariants as text_fault
-use Rattle.settings_text.specs.declared.settings.Settings.{Settings}
-use Rattle.standing.specs.Rows.{Row, IsRowAt, KeepStates}
-use Rattle.standing.specs.Rules.{Rules}
-
--- the text says settings of which no operators can be made, for this reason
-pub record IsNotBuilt (text : List ℕ) (fault : BuildFault) : Type 0 where
-  pub said : Settings
-  pub said_is : settings text ≡ Ok said
-  pub cause : IsBuildFault said fault
+use Rattle.standing.specs.Rows.{KeepStates}
 
 -- of the text nothing is made, for this reason
 abbrev pub IsRefusedText : List ℕ → AuditFault → Type 0
@@ -43,15 +36,6 @@ pub record IsFirstRefused (texts : List (List ℕ)) (fault : AuditFault) : Type 
   pub there : slice_get texts earlier ≡ Some text
   pub made : (place : ℕ) (other : List ℕ) → place < earlier → slice_get texts place ≡ Some other → (pipe : Pipeline) × IsMadeOf other pipe
   pub refused : IsRefusedText text fault
-
--- the row with this id keeps no state of the operators, and no row with a lower id is so
-pub record IsLeastForeign (rules : Rules) (rows : List Row) (id : ℕ) : Type 0 where
-  pub place : ℕ
-  pub row : Row
-  pub there : IsRowAt rows place row
-  pub id_is : row.id ≡ id
-  pub foreign : rules.is_state row.state ≡ false
-  pub least : (other_place : ℕ) (other : Row) → IsRowAt rows other_place other → rules.is_state other.state ≡ false → id ≤ other.id
 
 -- the checkpoint that the image has, and the operators of each of its eras
 pub record IsReady (image : Image DiskFile) (checkpoint : Checkpoint) (pipes : List Pipeline) (last : Pipeline) : Type 0 where

@@ -3,12 +3,12 @@ ghost use Rattle.std.specs.Prelude.{◌≤◌, ◌↔◌, IsTrue, length, IfOk, 
 ghost use Rattle.checkpoint_store.specs.Limits.{newest};
 ghost use Rattle.checkpoint_store.specs.Rules.{IsCheckpoint};
 ghost use Rattle.folder_audit.specs.KeptFiles.{IsLast};
-ghost use Rattle.folder_audit.specs.Made.{ArePipesOf, IsMadeOf};
+ghost use Rattle.pipeline.specs.MadeOf.{IsMadeOf};
+ghost use Rattle.folder_audit.specs.Made.{ArePipesOf};
 ghost use Rattle.folder_audit.specs.Refusals.{Flush, IsFirstRefused, IsRefusedText};
 ghost use Rattle.folder_audit.specs.Inner.Steps.{AreOperators, IsUnfit};
 
 use crate::fault::AuditFault;
-use crate::rows::first_foreign;
 use checkpoint_store::{Checkpoint, Eras};
 use pipeline::{BuildFault, Pipeline};
 use settings_text::laws::settings_keep_limits;
@@ -25,7 +25,7 @@ pub(crate) fn operators_of(
     ensures unfit { IfErr result (IsUnfit checkpoint.now) }
 {
     let pipes = pipelines_of(alloc, &checkpoint.eras)?;
-    let foreign = first_foreign(alloc, last_of(&pipes), checkpoint.rows.as_slice())?;
+    let foreign = last_of(&pipes).first_foreign(alloc, checkpoint.rows.as_slice())?;
     match foreign {
         Some(at) => Err(AuditFault::CheckpointBad { at }),
         None => Ok(pipes),

@@ -14,7 +14,6 @@ ghost use Rattle.slot_store.specs.OnlyRead.{OnlyRead};
 
 use crate::eras::{flush, operators_of};
 use crate::fault::AuditFault;
-use crate::rows::tracker_of;
 use checkpoint_journal::peek;
 use checkpoint_store::Checkpoint;
 use file_tracker::Tracker;
@@ -51,7 +50,7 @@ pub(crate) fn kept_on<D: Disk>(alloc: Global, disk: &mut D) -> Result<Kept, Audi
     let lines = split(alloc, &output, checkpoint.rows.as_slice().len())?;
     Ok(Kept {
         pipes,
-        rows: tracker_of(alloc, checkpoint.rows)?,
+        rows: checkpoint.rows.into_tracker(alloc)?,
         lines,
     })
 }

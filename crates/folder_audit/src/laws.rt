@@ -7,7 +7,8 @@ ghost use Rattle.checkpoint_store.specs.Rules.{IsCheckpoint};
 ghost use Rattle.folder_audit.specs.Judged.{Judged, pipes_of};
 ghost use Rattle.folder_audit.specs.KeptFiles.{IsFitRow, IsLast};
 ghost use Rattle.folder_audit.specs.Limits.{largest_kept};
-ghost use Rattle.folder_audit.specs.Made.{AreErasOf, ArePipesOf};
+ghost use Rattle.pipeline.specs.MadeOf.{AreErasOf};
+ghost use Rattle.folder_audit.specs.Made.{ArePipesOf};
 ghost use Rattle.outside.specs.World.{World, bytes};
 ghost use Rattle.pipeline.specs.declared.Pipeline.{Pipeline};
 ghost use Rattle.standing.specs.Apart.{Apart};
@@ -30,7 +31,7 @@ pub fn rows_hold_by_whole_files()
 /// differ.
 pub fn no_row_that_stands_differs()
     ensures { (eras : Eras) (checkpoint : Checkpoint) (file : List ℕ) (pipes : List Pipeline) (last : Pipeline) (place : ℕ) (row : Row) (line : ℕ) (old new : World)
-        → AreErasOf checkpoint.eras eras → AreEras eras → CheckpointStands eras old.history checkpoint file → IsCheckpoint newest checkpoint
+        → AreErasOf checkpoint.eras eras → CheckpointStands eras old.history checkpoint file → IsCheckpoint newest checkpoint
         → checkpoint.output_length ≤ largest_kept → Apart eras.first.front_size new.history → ArePipesOf checkpoint.eras pipes → IsLast pipes last
         → IsRowAt checkpoint.rows place row → IsFitRow (length pipes) place row
         → Judged (pipes_of pipes row) last row (take checkpoint.output_length file) (Differs line) old new → ⊥ }

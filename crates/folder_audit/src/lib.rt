@@ -19,7 +19,6 @@ mod kept;
 pub mod laws;
 mod looking;
 mod reading;
-mod rows;
 
 pub use audited::Audited;
 pub use fault::AuditFault;

@@ -11,10 +11,10 @@ use Rattle.outside.specs.World.{History, bytes}
 use Rattle.outside.specs.declared.disk.DiskFile.{DiskFile}
 use Rattle.outside.specs.declared.disk.DiskFile.TheVariants.{Output}
 use Rattle.poll_core.proofs.ImageLemmas.{one_found}
-use Rattle.poll_core.proofs.RuleLemmas.{OneSet}
+use Rattle.pipeline.proofs.OfText.{OneSet}
 use Rattle.poll_core.specs.Found.{IsFound}
 use Rattle.poll_core.specs.IsSession.{IsSession}
-use Rattle.poll_core.specs.MadeOf.{AreErasOf, HasRules}
+use Rattle.pipeline.specs.MadeOf.{HasRules, AreErasOf}
 use Rattle.poll_core.specs.Polled.{AreErasIn, IsStanding}
 use Rattle.poll_core.specs.SessionParts.{is_first, last_text, poll_of_session, rules_of_session, settings_of_session, stamp_at, stamp_of_session}
 use Rattle.poll_core.specs.declared.session.Session.{Session}

@@ -16,12 +16,12 @@ use Rattle.outside.specs.Crash.{Passes}
 use Rattle.outside.specs.Image.{Image}
 use Rattle.outside.specs.declared.disk.DiskFile.{DiskFile}
 use Rattle.outside.specs.declared.disk.DiskFile.TheVariants.{Output}
-use Rattle.poll_core.proofs.RuleLemmas.{OneSet}
+use Rattle.pipeline.proofs.OfText.{OneSet}
 use Rattle.poll_core.proofs.SessionLemmas.{found_first, found_saved, left_goes_on}
 use Rattle.poll_core.specs.Differs.{DiffersAt}
 use Rattle.poll_core.specs.Found.{IsFound}
 use Rattle.poll_core.specs.IsSession.{IsSession}
-use Rattle.poll_core.specs.MadeOf.{EndsWithRules, HasRules}
+use Rattle.pipeline.specs.MadeOf.{HasRules, EndsWithRules}
 use Rattle.poll_core.specs.OpenCause.{HasOpenCause, IsOfContents}
 use Rattle.poll_core.specs.OpenFaults.{IsSettingsRefusal, IsRefused}
 use Rattle.poll_core.specs.Remembers.{IsLeftBy}

@@ -48,7 +48,7 @@ use Rattle.outside.specs.Lawful.{IsLawful, TellsLawful}
 use Rattle.outside.specs.World.{Event, History, Told}
 use Rattle.outside.specs.declared.disk.DiskFile.{DiskFile}
 use Rattle.poll_core.proofs.EraLemmas.{before_poll, session_eras}
-use Rattle.poll_core.proofs.RuleLemmas.{OneSet}
+use Rattle.pipeline.proofs.OfText.{OneSet}
 use Rattle.poll_core.proofs.StoodLemmas.{stands_before}
 use Rattle.poll_core.specs.IsSession.{IsSession}
 use Rattle.poll_core.specs.LeavesTree.{LeavesTree}

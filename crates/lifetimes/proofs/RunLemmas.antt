@@ -14,7 +14,7 @@ use Rattle.lifetimes.specs.declared.fault.ScriptFault.TheVariants.{Setup, NotOpe
 use Rattle.lifetimes.specs.declared.life.Life.{Life}
 use Rattle.mem_world.specs.MemDisk.{seen_of}
 use Rattle.outside.specs.declared.disk.DiskFile.{DiskFile}
-use Rattle.poll_core.specs.MadeOf.{HasRules}
+use Rattle.pipeline.specs.MadeOf.{HasRules}
 use Rattle.poll_core.specs.declared.session.Session.{Session}
 use Rattle.standing.specs.Rules.{Rules}
 

@@ -20,7 +20,7 @@ use Rattle.mem_world.specs.declared.tree.MemTree.{MemTree}
 use Rattle.mem_world.specs.declared.world.WorldStep.{WorldStep}
 use Rattle.outside.specs.Lawful.{is_lawful}
 use Rattle.outside.specs.World.{History}
-use Rattle.poll_core.specs.MadeOf.{HasRules}
+use Rattle.pipeline.specs.MadeOf.{HasRules}
 use Rattle.poll_core.specs.Polled.{IsStanding}
 use Rattle.slot_store.specs.ChosenSlot.{chosen_slot}
 use Rattle.slot_store.specs.Synced.{EachLeft}

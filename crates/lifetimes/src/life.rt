@@ -4,7 +4,7 @@ ghost use Rattle.lifetimes.specs.Inner.Life.{AreFew, CameTo, Cant, IsLifeAt, IsR
 ghost use Rattle.lifetimes.specs.declared.event.Event.{Event};
 ghost use Rattle.mem_world.specs.MemDisk.{seen_of};
 ghost use Rattle.outside.specs.declared.disk.DiskFile.{DiskFile};
-ghost use Rattle.poll_core.specs.MadeOf.{HasRules};
+ghost use Rattle.pipeline.specs.MadeOf.{HasRules};
 ghost use Rattle.standing.specs.AreRules.{AreRules};
 ghost use Rattle.standing.specs.Rules.{Rules};
 

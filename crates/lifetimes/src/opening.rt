@@ -6,7 +6,7 @@ ghost use Rattle.lifetimes.specs.Stopped.{IsStopped, halt_of};
 ghost use Rattle.mem_world.specs.MemDisk.{disk_images};
 ghost use Rattle.outside.specs.Count.{last_count};
 ghost use Rattle.outside.specs.Crash.{Passes};
-ghost use Rattle.poll_core.specs.MadeOf.{HasRules};
+ghost use Rattle.pipeline.specs.MadeOf.{HasRules};
 ghost use Rattle.poll_core.specs.Reopens.{Reopens};
 ghost use Rattle.standing.specs.Rules.{Rules};
 

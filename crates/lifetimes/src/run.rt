@@ -2,7 +2,7 @@
 ghost use Rattle.std.specs.Prelude.{◌≡◌, IfOk, IfErr, OnOk};
 ghost use Rattle.lifetimes.specs.Ended.{IsEnding, IsScriptFault};
 ghost use Rattle.lifetimes.specs.Inner.Past.{CantOpenBy};
-ghost use Rattle.poll_core.specs.MadeOf.{HasRules};
+ghost use Rattle.pipeline.specs.MadeOf.{HasRules};
 ghost use Rattle.standing.specs.AreRules.{AreRules};
 ghost use Rattle.standing.specs.Rules.{Rules};
 

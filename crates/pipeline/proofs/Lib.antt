@@ -8,3 +8,5 @@ pub mod GlobsRead
 pub mod Ruled
 pub mod Rows
 pub mod Texts
+pub mod ForeignRows
+pub mod OfText

@@ -1,5 +1,5 @@
 -- Why settings give no pipeline.
-use Rattle.std.specs.Prelude.{◌≡◌, ◌≢◌, ⊤, ℕ, ◌<◌, List, length, take, false, true, Some, slice_get}
+use Rattle.std.specs.Prelude.{◌≡◌, ◌≢◌, ⊤, ℕ, ◌<◌, List, length, take, false, true, Ok, Some, slice_get}
 use Rattle.graph_core.specs.Faults.{IsCause}
 use Rattle.graph_core.specs.Wiring.{edges_of, wiring_of}
 use Rattle.graph_core.specs.declared.GraphFault.{GraphFault}
@@ -16,6 +16,7 @@ use Rattle.pipeline.specs.Splitters.{HasPattern, HasNoPattern}
 use Rattle.pipeline.specs.Wired.{AreNodes, ids_of}
 use Rattle.pipeline.specs.declared.fault.BuildFault.{BuildFault}
 use Rattle.pipeline.specs.declared.fault.BuildFault.TheVariants.{Glob, Multiline, SameId, Operator as RefusesOperator, Graph, Memory}
+use Rattle.settings_text.specs.Grammar.{settings}
 use Rattle.settings_text.specs.Ids.{is_taken}
 use Rattle.settings_text.specs.declared.settings.OpSpec.{OpSpec}
 use Rattle.settings_text.specs.declared.settings.Settings.{Settings}
@@ -75,6 +76,12 @@ IsBuildFault settings Multiline = AreGlobs settings.include × (AreGlobs setting
 IsBuildFault settings Memory = ⊤
 IsBuildFault settings fault =
     AreGlobs settings.include × (AreGlobs settings.exclude × (HasPattern settings.multiline × IsOperatorFault settings.operators fault))
+
+-- the text says settings of which no operators can be made, for this reason
+pub record IsNotBuilt (text : List ℕ) (fault : BuildFault) : Type 0 where
+  pub said : Settings
+  pub said_is : settings text ≡ Ok said
+  pub cause : IsBuildFault said fault
 
 -- the fault that tells why the operator at a place can't be made
 abbrev pub refusal : ℕ → OpCause → BuildFault

@@ -14,4 +14,6 @@ pub mod Origin
 pub mod Fed
 pub mod AsRules
 pub mod RowStates
+pub mod Foreign
+pub mod MadeOf
 pub mod Closed

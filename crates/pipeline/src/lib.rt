@@ -20,6 +20,7 @@ mod closing;
 mod entry;
 mod fault;
 mod feed;
+mod foreign;
 mod globs;
 pub mod laws;
 mod restore;

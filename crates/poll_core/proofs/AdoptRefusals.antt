@@ -18,8 +18,8 @@ use Rattle.poll_core.specs.AdoptCause.{IsOfKept, IsOfNext, adopt_journal}
 use Rattle.poll_core.specs.AdoptFaults.{HasOwnRules, IsKeptRefusal, IsNextRefusal, IsOfOther, IsUnadopted, MayFollow, no_reading, bad_settings, bad_operators, foreign_state, short_output, other_fingerprint, too_many, full, worn}
 use Rattle.poll_core.specs.Adoption.{HasClosedAll, HasNoRoom, IsBarred, MayFollowOn, front_size_of, lines_held}
 use Rattle.poll_core.specs.IsSession.{IsSession}
-use Rattle.poll_core.specs.MadeOf.{IsMadeOf}
-use Rattle.poll_core.specs.OpenFaults.{IsLeastForeign}
+use Rattle.pipeline.specs.MadeOf.{IsMadeOf}
+use Rattle.pipeline.specs.Foreign.{IsLeastForeign}
 use Rattle.poll_core.specs.Remembers.{GoesOnFrom}
 use Rattle.poll_core.specs.Sequence.{HasSequence, of_log}
 use Rattle.poll_core.specs.SessionParts.{checkpoint_of_session, journal_of_session, kept_of, last_text, limit_of, rules_of_session, settings_of_session}

@@ -13,11 +13,11 @@ use Rattle.outside.specs.World.{History}
 use Rattle.outside.specs.declared.disk.DiskFile.{DiskFile}
 use Rattle.outside.specs.declared.disk.DiskFile.TheVariants.{Output}
 use Rattle.poll_core.proofs.EraLemmas.{last_is}
-use Rattle.poll_core.proofs.RuleLemmas.{OneSet}
+use Rattle.pipeline.proofs.OfText.{OneSet}
 use Rattle.poll_core.proofs.StandingLemmas.{StandsBy, moved, stands_by}
 use Rattle.poll_core.specs.Adopting.{IsAdopted, IsAdoption, KeepsAll, KeepsStandingIn, MayAdopt, sole_era}
 use Rattle.poll_core.specs.Found.{IsFound}
-use Rattle.poll_core.specs.MadeOf.{HasRules}
+use Rattle.pipeline.specs.MadeOf.{HasRules}
 use Rattle.poll_core.specs.Polled.{AreErasIn, IsStanding}
 use Rattle.poll_core.specs.SessionParts.{last_text}
 use Rattle.poll_core.specs.declared.adopted.Adopted.{Adopted}

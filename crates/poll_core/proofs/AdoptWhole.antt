@@ -21,7 +21,7 @@ use Rattle.poll_core.proofs.TakenLemmas.{row_kept}
 use Rattle.poll_core.specs.Adoption.{HasClosedAll, HasRoom, IsAdoptionOf, MayFollowOn, lines_held}
 use Rattle.part_closing.specs.Closing.{HasClosed, lines_of_all, rules_by}
 use Rattle.poll_core.specs.IsSession.{IsSession}
-use Rattle.poll_core.specs.MadeOf.{IsMadeOf}
+use Rattle.pipeline.specs.MadeOf.{IsMadeOf}
 use Rattle.poll_core.specs.SessionParts.{checkpoint_of_session, kept_of, limit_of, rules_of_session, settings_of_session, stamp_at}
 use Rattle.poll_core.specs.declared.adopted.Adopted.{Adopted}
 use Rattle.poll_core.specs.declared.adoption.Adoption.{Adoption}

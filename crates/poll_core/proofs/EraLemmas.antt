@@ -6,9 +6,9 @@ use Rattle.std.specs.List.{All}
 use Rattle.std.specs.Option.{is_none, is_some}
 use Rattle.std.specs.Prelude.{IfSome}
 use Rattle.checkpoint_journal.specs.declared.journal.Journal.{Journal}
-use Rattle.poll_core.proofs.RuleLemmas.{OneSet}
+use Rattle.pipeline.proofs.OfText.{OneSet}
 use Rattle.poll_core.specs.IsSession.{IsSession}
-use Rattle.poll_core.specs.MadeOf.{AreErasOf, EndsWithRules, HasRules}
+use Rattle.pipeline.specs.MadeOf.{HasRules, AreErasOf, EndsWithRules}
 use Rattle.poll_core.specs.SessionParts.{is_first, journal_of_session, last_text, poll_of_session, rules_of_session, settings_of_session, stamp_at, stamp_of_session}
 use Rattle.poll_core.specs.declared.session.Session.{Session}
 use Rattle.standing.specs.AreRules.{AreRules}

@@ -1,7 +1,6 @@
 pub mod RowLemmas
 pub mod DifferLemmas
 pub mod ImageLemmas
-pub mod RuleLemmas
 pub mod EraLemmas
 pub mod RefusalLemmas
 pub mod CallLemmas

@@ -17,7 +17,7 @@ use Rattle.outside.specs.declared.disk.DiskFile.TheVariants.{Output}
 use Rattle.pipeline.specs.AsRules.{rules_of}
 use Rattle.pipeline.specs.declared.Pipeline.{Pipeline}
 use Rattle.poll_core.specs.IsSession.{IsSession}
-use Rattle.poll_core.specs.MadeOf.{IsMadeOf}
+use Rattle.pipeline.specs.MadeOf.{IsMadeOf}
 use Rattle.poll_core.specs.Making.{IsOfFound, IsRejected}
 use Rattle.poll_core.specs.OpenCause.{IsOfContents, journal_refusal}
 use Rattle.poll_core.specs.OpenFaults.{IsRefused, no_reading, other_settings, foreign_state, short_output}

@@ -12,7 +12,7 @@ use Rattle.poll_core.specs.OpenCause.{call_refusal, IsOfSettings}
 use Rattle.poll_core.specs.Reopens.{Reopens}
 use Rattle.pipeline.specs.AsRules.{rules_of}
 use Rattle.pipeline.specs.declared.Pipeline.{Pipeline}
-use Rattle.poll_core.specs.MadeOf.{IsMadeOf}
+use Rattle.pipeline.specs.MadeOf.{IsMadeOf}
 use Rattle.poll_core.specs.OpenFaults.{IsSettingsRefusal}
 use Rattle.poll_core.specs.declared.fault.OpenFault.{OpenFault}
 use Rattle.poll_core.specs.declared.fault.OpenFault.TheVariants.{Settings, Build, Disk, CheckpointBad, SettingsChanged, OutputShort, Memory}

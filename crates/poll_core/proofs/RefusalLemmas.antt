@@ -12,12 +12,13 @@ use Rattle.outside.specs.declared.disk.DiskFile.TheVariants.{Output}
 use Rattle.poll_core.proofs.DifferLemmas.{not_same, one_place}
 use Rattle.poll_core.proofs.ImageLemmas.{no_journal}
 use Rattle.poll_core.proofs.EraLemmas.{last_is}
-use Rattle.poll_core.proofs.RuleLemmas.{OneSet}
+use Rattle.pipeline.proofs.OfText.{OneSet}
 use Rattle.poll_core.specs.Differs.{DiffersAt}
 use Rattle.poll_core.specs.Found.{IsFound}
 use Rattle.poll_core.specs.IsSession.{IsSession}
-use Rattle.poll_core.specs.MadeOf.{EndsWithRules, HasRules}
-use Rattle.poll_core.specs.OpenFaults.{IsOfText, HasOtherSettings, IsLeastForeign, HasForeignState, HasShortOutput, IsRefused, no_reading, other_settings, foreign_state, short_output}
+use Rattle.pipeline.specs.MadeOf.{HasRules, EndsWithRules}
+use Rattle.pipeline.specs.Foreign.{IsLeastForeign}
+use Rattle.poll_core.specs.OpenFaults.{IsOfText, HasOtherSettings, HasForeignState, HasShortOutput, IsRefused, no_reading, other_settings, foreign_state, short_output}
 use Rattle.poll_core.specs.Remembers.{GoesOnFrom}
 use Rattle.poll_core.specs.SessionParts.{checkpoint_of_session, rules_of_session, settings_of_session, journal_of_session, last_text}
 use Rattle.poll_core.specs.declared.fault.OpenFault.{OpenFault}

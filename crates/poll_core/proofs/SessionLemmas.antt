@@ -9,7 +9,7 @@ use Rattle.checkpoint_journal.specs.declared.journal.Journal.{Journal}
 use Rattle.checkpoint_store.specs.Rules.{AreEras, IsCheckpoint, KeepRules, beside_of}
 use Rattle.checkpoint_store.specs.Limits.{newest, output_limit}
 use Rattle.poll_core.proofs.MakingLemmas.{short_text}
-use Rattle.poll_core.specs.MadeOf.{IsMadeOf}
+use Rattle.pipeline.specs.MadeOf.{IsMadeOf}
 use Rattle.outside.specs.Image.{Image}
 use Rattle.outside.specs.declared.disk.DiskFile.{DiskFile}
 use Rattle.outside.specs.declared.disk.DiskFile.TheVariants.{Output}

@@ -23,14 +23,14 @@ use Rattle.poll_core.proofs.EraLemmas.{sole_text}
 use Rattle.poll_core.proofs.ImageLemmas.{found_kept, long_enough_still, one_found}
 use Rattle.poll_core.proofs.RefusalLemmas.{none_foreign}
 use Rattle.poll_core.proofs.RowLemmas.{rows_in_order}
-use Rattle.poll_core.proofs.RuleLemmas.{OneSet}
+use Rattle.pipeline.proofs.OfText.{OneSet}
 use Rattle.poll_core.proofs.SafeLemmas.{gains_long, stays_long}
 use Rattle.poll_core.proofs.SessionLemmas.{left_goes_on}
 use Rattle.poll_core.specs.AdoptFaults.{IsUnadopted, nothing_kept, no_reading as unread, bad_settings, bad_operators, foreign_state as other_state, short_output as cut_output, other_fingerprint, too_many, full, worn}
 use Rattle.poll_core.specs.Adopting.{IsAdopted, IsAdoption, IsInForce, KeepsAll, MayAdopt}
 use Rattle.poll_core.specs.Found.{IsFound}
 use Rattle.poll_core.specs.IsSession.{IsSession}
-use Rattle.poll_core.specs.MadeOf.{HasRules}
+use Rattle.pipeline.specs.MadeOf.{HasRules}
 use Rattle.poll_core.specs.OpenFaults.{HasOtherSettings, IsRefused, no_reading, other_settings, foreign_state, short_output}
 use Rattle.poll_core.specs.Polled.{ComesAfter, Gains, Stays, Steps}
 use Rattle.poll_core.specs.Remembers.{IsLeftBy}

@@ -16,7 +16,7 @@ use Rattle.poll_core.proofs.ImageLemmas.{one_found}
 use Rattle.poll_core.proofs.SessionLemmas.{left_goes_on, begins_with, found_first, found_saved}
 use Rattle.poll_core.specs.Found.{IsFound}
 use Rattle.poll_core.specs.Polled.{AreErasIn, ComesAfter, Gains, IsPass, IsStanding, Stays, Steps, Counting, advance, stretch_of}
-use Rattle.poll_core.specs.MadeOf.{AreErasOf}
+use Rattle.pipeline.specs.MadeOf.{AreErasOf}
 use Rattle.poll_core.specs.Remembers.{IsLeftBy}
 use Rattle.poll_core.specs.SessionParts.{checkpoint_of_session, is_first, poll_of_session, rules_of_session, journal_of_session, kept_of, stamp_of_session}
 use Rattle.poll_core.specs.declared.session.Session.{Session}

@@ -10,7 +10,7 @@ use Rattle.outside.specs.declared.disk.DiskFile.TheVariants.{Output}
 use Rattle.poll_core.proofs.EraLemmas.{SessionEras}
 use Rattle.poll_core.proofs.SessionLemmas.{begins_with, found_first, found_saved, left_goes_on}
 use Rattle.poll_core.specs.Found.{IsFound}
-use Rattle.poll_core.specs.MadeOf.{AreErasOf}
+use Rattle.pipeline.specs.MadeOf.{AreErasOf}
 use Rattle.poll_core.specs.Polled.{AreErasIn, IsStanding}
 use Rattle.poll_core.specs.Remembers.{IsLeftBy}
 use Rattle.poll_core.specs.SessionParts.{checkpoint_of_session, journal_of_session, kept_of}

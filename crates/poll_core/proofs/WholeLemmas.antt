@@ -8,9 +8,9 @@ use Rattle.outside.specs.Lawful.{IsLawful}
 use Rattle.outside.specs.Path.{components, relative}
 use Rattle.outside.specs.World.{History, Names, World, file_at}
 use Rattle.poll_core.proofs.EraLemmas.{rules_are as last_are, session_eras}
-use Rattle.poll_core.proofs.RuleLemmas.{OneSet}
+use Rattle.pipeline.proofs.OfText.{OneSet}
 use Rattle.poll_core.specs.IsSession.{IsSession}
-use Rattle.poll_core.specs.MadeOf.{AreErasOf}
+use Rattle.pipeline.specs.MadeOf.{AreErasOf}
 use Rattle.poll_core.specs.Polled.{Advance, Counting, IsSummed, stretch_of}
 use Rattle.poll_core.specs.SessionParts.{checkpoint_of_session, is_first, poll_of_session, rules_of_session, stamp_of_session}
 use Rattle.poll_core.specs.Summed.{TellsAll, sums_of}

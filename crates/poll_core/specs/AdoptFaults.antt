@@ -9,8 +9,9 @@ use Rattle.outside.specs.declared.disk.DiskFile.{DiskFile}
 use Rattle.outside.specs.declared.disk.DiskFile.TheVariants.{Output}
 use Rattle.pipeline.specs.declared.fault.BuildFault.{BuildFault}
 use Rattle.pipeline.specs.declared.fault.BuildFault.TheVariants as build
-use Rattle.poll_core.specs.MadeOf.{HasRules}
-use Rattle.poll_core.specs.OpenFaults.{IsNotBuilt, IsLeastForeign}
+use Rattle.pipeline.specs.MadeOf.{HasRules}
+use Rattle.pipeline.specs.BuildFaults.{IsNotBuilt}
+use Rattle.pipeline.specs.Foreign.{IsLeastForeign}
 use Rattle.poll_core.specs.Overflows.{FirstPast}
 use Rattle.poll_core.specs.Sequence.{HasSequence}
 use Rattle.poll_core.specs.SessionParts.{last_text}

@@ -10,7 +10,7 @@ use Rattle.outside.specs.Images.{Images}
 use Rattle.outside.specs.declared.disk.DiskFile.{DiskFile}
 use Rattle.outside.specs.declared.disk.DiskFile.TheVariants.{Settings, Output}
 use Rattle.poll_core.specs.Found.{IsFound}
-use Rattle.poll_core.specs.MadeOf.{HasRules}
+use Rattle.pipeline.specs.MadeOf.{HasRules}
 use Rattle.poll_core.specs.Polled.{IsStanding}
 use Rattle.poll_core.specs.Sequence.{HasSequence}
 use Rattle.poll_core.specs.SessionParts.{last_text}

@@ -3,7 +3,7 @@ use Rattle.std.specs.Prelude.{◌≡◌, ◌≤◌, length, None, IfSome}
 use Rattle.checkpoint_journal.specs.Short.{IsShort}
 use Rattle.checkpoint_store.specs.Rules.{IsCheckpoint}
 use Rattle.checkpoint_store.specs.Limits.{newest, output_limit, time_limit}
-use Rattle.poll_core.specs.MadeOf.{IsMadeOf}
+use Rattle.pipeline.specs.MadeOf.{IsMadeOf}
 use Rattle.poll_core.specs.SessionParts.{checkpoint_of_session, settings_of_session, rules_of_session, journal_of_session, limit_of, time_of_session}
 use Rattle.poll_core.specs.declared.session.Session.{Session}
 use Rattle.standing.specs.Rows.{KeepStates}

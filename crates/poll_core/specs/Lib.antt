@@ -1,4 +1,3 @@
-pub mod MadeOf
 pub mod SessionParts
 pub mod Differs
 pub mod Found

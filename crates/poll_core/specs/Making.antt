@@ -4,7 +4,7 @@ use Rattle.checkpoint_journal.specs.Memory.{IsEmpty}
 use Rattle.checkpoint_journal.specs.declared.journal.Journal.{Journal}
 use Rattle.checkpoint_store.specs.declared.Checkpoint.{Checkpoint}
 use Rattle.poll_core.specs.Differs.{DiffersAt}
-use Rattle.poll_core.specs.OpenFaults.{IsLeastForeign}
+use Rattle.pipeline.specs.Foreign.{IsLeastForeign}
 use Rattle.poll_core.specs.SessionParts.{last_text, checkpoint_of_session, journal_of_session}
 use Rattle.poll_core.specs.declared.fault.OpenFault.{OpenFault}
 use Rattle.poll_core.specs.declared.fault.OpenFault.TheVariants.{Settings, Build, Disk, CheckpointBad, SettingsChanged, OutputShort, Memory}

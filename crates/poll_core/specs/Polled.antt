@@ -22,7 +22,7 @@ use Rattle.outside.specs.World.{History, World, Told}
 use Rattle.outside.specs.declared.disk.DiskFile.{DiskFile}
 use Rattle.outside.specs.declared.disk.DiskFile.TheVariants.{Settings, Output}
 use Rattle.poll_core.specs.Found.{IsFound}
-use Rattle.poll_core.specs.MadeOf.{AreErasOf}
+use Rattle.pipeline.specs.MadeOf.{AreErasOf}
 use Rattle.poll_core.specs.SessionParts.{checkpoint_of_session, is_first, poll_of_session, rules_of_session, journal_of_session, kept_of, limit_of, time_of_session}
 use Rattle.poll_core.specs.StandsOn.{StandsOn}
 use Rattle.poll_core.specs.Summed.{IsDeep, HasDeepFolder, sums_of}

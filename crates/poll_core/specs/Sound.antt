@@ -5,7 +5,7 @@ use Rattle.outside.specs.Image.{Image}
 use Rattle.outside.specs.declared.disk.DiskFile.{DiskFile}
 use Rattle.outside.specs.declared.disk.DiskFile.TheVariants.{Output}
 use Rattle.poll_core.specs.Found.{IsFound}
-use Rattle.poll_core.specs.MadeOf.{HasRules}
+use Rattle.pipeline.specs.MadeOf.{HasRules}
 use Rattle.poll_core.specs.SessionParts.{last_text}
 use Rattle.poll_core.specs.declared.adopt_fault.AdoptFault.{AdoptFault}
 use Rattle.poll_core.specs.declared.adopt_fault.AdoptFault.TheVariants.{Settings as RefusesSettings, Build, Disk, NothingKept, CheckpointBad, KeptSettings, Kept, OutputShort, Fingerprint, Eras, OutputFull, Worn, Memory}

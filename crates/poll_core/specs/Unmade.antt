@@ -2,7 +2,7 @@
 use Rattle.std.specs.Prelude.{◌≡◌, ◌≢◌, ℕ, List, Err, ⊤}
 use Rattle.pipeline.specs.declared.fault.BuildFault.{BuildFault}
 use Rattle.pipeline.specs.declared.fault.BuildFault.TheVariants as build
-use Rattle.poll_core.specs.OpenFaults.{IsNotBuilt}
+use Rattle.pipeline.specs.BuildFaults.{IsNotBuilt}
 use Rattle.poll_core.specs.declared.unmade.Unmade.{Unmade}
 use Rattle.poll_core.specs.declared.unmade.Unmade.TheVariants.{Settings, Build, Memory}
 use Rattle.settings_text.specs.Grammar.{settings}

@@ -16,7 +16,7 @@ ghost use Rattle.poll_core.specs.Adopting.{IsAdopted, KeepsStandingIn, MayAdopt}
 ghost use Rattle.poll_core.specs.Adoption.{HasPut};
 ghost use Rattle.poll_core.specs.Calls.{CutsAndSyncs};
 ghost use Rattle.poll_core.specs.IsSession.{IsSession};
-ghost use Rattle.poll_core.specs.MadeOf.{IsMadeOf};
+ghost use Rattle.pipeline.specs.MadeOf.{IsMadeOf};
 ghost use Rattle.poll_core.specs.Making.{IsOfFound};
 ghost use Rattle.poll_core.specs.Polled.{Steps};
 ghost use Rattle.poll_core.specs.Remembers.{GoesOnFrom};
@@ -31,7 +31,7 @@ ghost use Rattle.standing.specs.Marks.{Mark};
 
 use crate::adoption::Adoption;
 use crate::laws::settings_give_one_set_of_rules;
-use crate::making::{first_difference, first_foreign};
+use crate::making::first_difference;
 use crate::opening::settle;
 use crate::session::last_text;
 use crate::unmade::Unmade;
@@ -125,7 +125,7 @@ impl Session {
             size,
         } = stood;
         let pipeline = kept_pipeline(alloc, last_text(&checkpoint.eras))?;
-        let foreign = first_foreign(alloc, &pipeline, checkpoint.rows.as_slice())?;
+        let foreign = pipeline.first_foreign(alloc, checkpoint.rows.as_slice())?;
         match foreign {
             Some(at) => return Err(AdoptFault::CheckpointBad { at }),
             None => {}

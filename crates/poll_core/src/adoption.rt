@@ -9,7 +9,7 @@ ghost use Rattle.poll_core.specs.AdoptCause.{HasAdoptCause, IsOfNext, IsOfKept};
 ghost use Rattle.poll_core.specs.AdoptFaults.{IsUnadopted};
 ghost use Rattle.poll_core.specs.Adoption.{HasClosedAll, HasNoRoom, HasRoom, IsAdoptionOf, IsBarred, MayFollowOn};
 ghost use Rattle.poll_core.specs.IsSession.{IsSession};
-ghost use Rattle.poll_core.specs.MadeOf.{IsMadeOf};
+ghost use Rattle.pipeline.specs.MadeOf.{IsMadeOf};
 ghost use Rattle.poll_core.specs.Remembers.{GoesOnFrom};
 ghost use Rattle.poll_core.specs.SessionParts.{is_first, limit_of, settings_of_session};
 

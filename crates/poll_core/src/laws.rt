@@ -15,7 +15,7 @@ ghost use Rattle.poll_core.specs.Adopting.{IsAdopted, MayAdopt};
 ghost use Rattle.poll_core.specs.Differs.{DiffersAt};
 ghost use Rattle.poll_core.specs.Found.{IsFound};
 ghost use Rattle.poll_core.specs.IsSession.{IsSession};
-ghost use Rattle.poll_core.specs.MadeOf.{AreErasOf, EndsWithRules, IsMadeOf, HasRules};
+ghost use Rattle.pipeline.specs.MadeOf.{IsMadeOf, HasRules, AreErasOf, EndsWithRules};
 ghost use Rattle.poll_core.specs.OpenFaults.{HasOtherSettings, IsRefused};
 ghost use Rattle.poll_core.specs.Polled.{Advance, ComesAfter, Counting, Gains, IsSummed, Stays, Steps};
 ghost use Rattle.poll_core.specs.Remembers.{GoesOnFrom, IsLeftBy};

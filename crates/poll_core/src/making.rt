@@ -1,26 +1,22 @@
 // A session of a checkpoint that was found.
-ghost use Rattle.std.specs.Prelude.{◌≡◌, ℕ, ◌≤◌, List, [], ◌∷◌, length, Some, IfOk, IfErr, IfSome, IfNone, OnOk};
+ghost use Rattle.std.specs.Prelude.{◌≡◌, ◌≤◌, [], ◌∷◌, Some, IfOk, IfErr, IfSome, IfNone, OnOk};
 ghost use Rattle.checkpoint_journal.specs.Short.{IsShort};
 ghost use Rattle.checkpoint_store.specs.Rules.{IsCheckpoint};
 ghost use Rattle.checkpoint_store.specs.Limits.{newest, output_limit};
-ghost use Rattle.file_tracker.specs.Limits.{row_limit};
 ghost use Rattle.pipeline.specs.AsRules.{rules_of};
 ghost use Rattle.poll_core.specs.Differs.{DiffersAt};
 ghost use Rattle.poll_core.specs.IsSession.{IsSession};
-ghost use Rattle.poll_core.specs.MadeOf.{IsMadeOf};
-ghost use Rattle.poll_core.specs.OpenFaults.{IsLeastForeign};
+ghost use Rattle.pipeline.specs.MadeOf.{IsMadeOf};
 ghost use Rattle.poll_core.specs.Making.{IsOfFound, IsUnfit, IsRejected};
 ghost use Rattle.poll_core.specs.SessionParts.{checkpoint_of_session, last_text, settings_of_session, time_of_session};
-ghost use Rattle.standing.specs.Rows.{KeepStates, AreInOrder};
+ghost use Rattle.standing.specs.Rows.{KeepStates};
 
 use crate::session::last_text;
 use crate::{OpenFault, Session};
 use checkpoint_journal::Journal;
-use checkpoint_store::{Checkpoint, Eras, Rows};
-use file_tracker::{AdmitFault, Bytes, Row, Tracker};
+use checkpoint_store::{Checkpoint, Eras};
+use file_tracker::{Bytes, Tracker};
 use pipeline::Pipeline;
-use pipeline::laws::a_row_tells_its_state;
-use state_codec::CodecFault;
 use std::alloc::{AllocError, Global};
 
 impl Session {
@@ -80,7 +76,7 @@ impl Session {
         ensures time { IfOk result (λ session. time_of_session session ≡ (checkpoint_of_session session).observed) }
         ensures found { IfOk result (IsOfFound (Some (journal, checkpoint))) }
     {
-        let tracker = tracker_of(alloc, checkpoint.rows)?;
+        let tracker = checkpoint.rows.into_tracker(alloc)?;
         Ok(Session {
             pipeline,
             eras: checkpoint.eras,
@@ -118,7 +114,7 @@ fn check(
     if let Some(at) = first_difference(last_text(&checkpoint.eras), settings) {
         return Err(OpenFault::SettingsChanged { at });
     }
-    let foreign = first_foreign(alloc, pipeline, checkpoint.rows.as_slice())?;
+    let foreign = pipeline.first_foreign(alloc, checkpoint.rows.as_slice())?;
     match foreign {
         Some(at) => Err(OpenFault::CheckpointBad { at }),
         None => Ok(()),
@@ -141,57 +137,4 @@ pub(crate) fn first_difference(one: &[u8], other: &[u8]) -> Option<u64>
     } else {
         Some(shorter as u64)
     }
-}
-
-/// The id of the first row whose state isn't one of these operators.
-pub(crate) fn first_foreign(
-    alloc: Global,
-    pipeline: &Pipeline,
-    rows: &[Row],
-) -> Result<Option<u64>, AllocError>
-    requires { AreInOrder rows.now }
-    ensures fine { IfOk result (λ found. IfNone found ((text : List ℕ) → KeepStates (rules_of text pipeline.now) rows.now)) }
-    ensures foreign { IfOk result (λ found. IfSome found (λ id. (text : List ℕ) → IsLeastForeign (rules_of text pipeline.now) rows.now id)) }
-{
-    for row in rows {
-        if !has_state(alloc, pipeline, row)? {
-            return Ok(Some(u64::from(row.id)));
-        }
-    }
-    Ok(None)
-}
-
-// Whether what a row keeps is a state of these operators.
-fn has_state(alloc: Global, pipeline: &Pipeline, row: &Row) -> Result<bool, AllocError>
-    ensures { IfOk result (λ is. (text : List ℕ) → is ≡ (rules_of text pipeline.now).is_state row.now.state) }
-{
-    is_state(alloc, pipeline, row, row.state.as_slice())
-}
-
-// Whether these bytes are a state of these operators, with the counts of a row.
-fn is_state(alloc: Global, pipeline: &Pipeline, row: &Row, bytes: &[u8]) -> Result<bool, AllocError>
-    ensures { IfOk result (λ is. (text : List ℕ) → is ≡ (rules_of text pipeline.now).is_state bytes.now) }
-{
-    a_row_tells_its_state(pipeline);
-    match pipeline.restore(alloc, row.records, row.lines, bytes) {
-        Ok(_) => Ok(true),
-        Err(CodecFault::Malformed { .. }) => Ok(false),
-        Err(CodecFault::Memory) => Err(AllocError),
-    }
-}
-
-// A tracker with these rows.
-fn tracker_of(alloc: Global, rows: Rows) -> Result<Tracker, AllocError>
-    requires { length rows ≤ row_limit }
-    ensures { IfOk result (λ tracker. tracker ≡ rows) }
-{
-    let mut tracker = Tracker::new(alloc);
-    for row in rows.into_vec() {
-        match tracker.admit(alloc, row) {
-            Ok(_) => {}
-            Err(AdmitFault::Full) => unreachable!(),
-            Err(AdmitFault::Memory) => return Err(AllocError),
-        }
-    }
-    Ok(tracker)
 }

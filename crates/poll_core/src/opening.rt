@@ -6,7 +6,7 @@ ghost use Rattle.outside.specs.Crash.{Passes, IsDurable};
 ghost use Rattle.outside.specs.Image.{Same};
 ghost use Rattle.poll_core.specs.Calls.{CutsAndSyncs};
 ghost use Rattle.poll_core.specs.IsSession.{IsSession};
-ghost use Rattle.poll_core.specs.MadeOf.{IsMadeOf};
+ghost use Rattle.pipeline.specs.MadeOf.{IsMadeOf};
 ghost use Rattle.poll_core.specs.OpenCause.{HasOpenCause, IsOfSettings, IsOfContents};
 ghost use Rattle.poll_core.specs.OpenFaults.{IsSettingsRefusal, IsRefused};
 ghost use Rattle.poll_core.specs.Remembers.{GoesOnFrom};

@@ -4,7 +4,8 @@ use Rattle.checkpoint_store.specs.declared.Checkpoint.{Checkpoint}
 use Rattle.folder_audit.specs.KeptFiles.{IsLast}
 use Rattle.folder_audit.specs.Limits.{largest_kept}
 use Rattle.folder_audit.specs.Made.{ArePipesOf}
-use Rattle.folder_audit.specs.Refusals.{Flush, IsFirstRefused, IsLeastForeign}
+use Rattle.pipeline.specs.Foreign.{IsLeastForeign}
+use Rattle.folder_audit.specs.Refusals.{Flush, IsFirstRefused}
 use Rattle.folder_audit.specs.declared.fault.AuditFault.{AuditFault}
 use Rattle.folder_audit.specs.declared.fault.AuditFault.TheVariants.{Disk, CheckpointBad, KeptSettings, KeptBuild, OutputShort, FlushOn, Large, Memory}
 use Rattle.pipeline.specs.AsRules.{rules_of}

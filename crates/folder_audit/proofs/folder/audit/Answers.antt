@@ -1,7 +1,7 @@
 use Rattle.std.proofs.Common.{◌≡◌, length, subst}
 use Rattle.std.proofs.lemmas.Result.{IfErr-at_err, IfOk-weaker, err_from_is_err_and}
 use Rattle.folder_audit.proofs.CourseLemmas.{audited_of, differing_of}
-use Rattle.folder_audit.proofs.RuleLemmas.{one_set}
+use Rattle.pipeline.proofs.OfText.{one_set}
 use Rattle.folder_audit.specs.Refusals.{IsRefusal}
 use Rattle.folder_audit.specs.Tally.{IsLeastOther, IsOtherFault}
 use Rattle.folder_audit.specs.declared.fault.AuditFault.{AuditFault}

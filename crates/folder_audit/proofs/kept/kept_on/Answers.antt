@@ -23,13 +23,13 @@ returns-in_err-output-clause-refused g c =
 
 pub returns-clause-fit : goal.returns-clause-fit
 returns-clause-fit g c =
-    let kept : Kept = record { pipes = c.in_ok-pipes.pipes; rows = c.in_ok-tracker_of.field-0; lines = c.in_ok-lines.lines } in
-    fit_of kept c.in_ok-checkpoint.checkpoint c.in_ok-checkpoint.ensures.lawful c.in_ok-tracker_of.ensures c.in_ok-pipes.ensures.operators (c.in_ok-lines.ensures.many ∙ ap length c.as_slice.ensures)
+    let kept : Kept = record { pipes = c.in_ok-pipes.pipes; rows = c.in_ok-into_tracker.field-0; lines = c.in_ok-lines.lines } in
+    fit_of kept c.in_ok-checkpoint.checkpoint c.in_ok-checkpoint.ensures.lawful c.in_ok-into_tracker.ensures c.in_ok-pipes.ensures.operators (c.in_ok-lines.ensures.many ∙ ap length c.as_slice.ensures)
 
 pub returns-clause-kept : goal.returns-clause-kept
 returns-clause-kept g c =
-    let kept : Kept = record { pipes = c.in_ok-pipes.pipes; rows = c.in_ok-tracker_of.field-0; lines = c.in_ok-lines.lines } in
+    let kept : Kept = record { pipes = c.in_ok-pipes.pipes; rows = c.in_ok-into_tracker.field-0; lines = c.in_ok-lines.lines } in
     let image = g.D.Disk.meaning.images.seen c.args.disk.now in
     let only = c.checkpoint_on.ensures.only_read in
-    λ tells. kept_of image kept c.in_ok-checkpoint.checkpoint c.in_ok-output.output.items (length c.as_slice.result.now) c.in_ok-checkpoint.ensures.lawful c.in_ok-tracker_of.ensures (c.in_ok-checkpoint.ensures.has tells)
+    λ tells. kept_of image kept c.in_ok-checkpoint.checkpoint c.in_ok-output.output.items (length c.as_slice.result.now) c.in_ok-checkpoint.ensures.lawful c.in_ok-into_tracker.ensures (c.in_ok-checkpoint.ensures.has tells)
     c.in_ok-pipes.ensures.operators ((rw (only.tells, only.seen, c.deref.ensures.value) at c.in_ok-output.ensures.output) tells) (ap length c.as_slice.ensures) (rw c.deref-2.ensures.value at c.in_ok-lines.ensures)

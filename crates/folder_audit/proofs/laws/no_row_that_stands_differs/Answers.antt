@@ -1,5 +1,5 @@
 use Rattle.folder_audit.proofs.HoldLemmas.{never_differs}
-use Rattle.folder_audit.proofs.RuleLemmas.{one_set}
+use Rattle.pipeline.proofs.OfText.{one_set}
 use Rattle.folder_audit.proofs.laws.no_row_that_stands_differs.Goals as goal
 
 pub returns : goal.returns

@@ -1,5 +1,5 @@
 use Rattle.folder_audit.proofs.HoldLemmas.{holds_whole}
-use Rattle.folder_audit.proofs.RuleLemmas.{one_set}
+use Rattle.pipeline.proofs.OfText.{one_set}
 use Rattle.folder_audit.proofs.laws.rows_hold_by_whole_files.Goals as goal
 
 pub returns : goal.returns

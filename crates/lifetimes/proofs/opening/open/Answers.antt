@@ -7,7 +7,7 @@ use Rattle.lifetimes.specs.Inner.Past.{Past, CantOpenBy, Failures, IsDiskAt, IsR
 use Rattle.lifetimes.specs.declared.fault.ScriptFault.{ScriptFault}
 use Rattle.mem_world.specs.MemDisk.{faults_of}
 use Rattle.outside.specs.Count.{last_count}
-use Rattle.poll_core.specs.MadeOf.{HasRules}
+use Rattle.pipeline.specs.MadeOf.{HasRules}
 use Rattle.poll_core.specs.Reopens.{Reopens}
 use Rattle.poll_core.specs.declared.session.Session.{Session}
 use Rattle.standing.specs.Rules.{Rules}

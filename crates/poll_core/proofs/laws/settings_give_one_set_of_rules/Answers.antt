@@ -1,4 +1,4 @@
-use Rattle.poll_core.proofs.RuleLemmas.{one_rules, one_set}
+use Rattle.pipeline.proofs.OfText.{one_rules, one_set}
 use Rattle.poll_core.proofs.laws.settings_give_one_set_of_rules.Goals as goal
 
 pub returns-clause-pipelines : goal.returns-clause-pipelines

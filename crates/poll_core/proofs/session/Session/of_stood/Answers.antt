@@ -9,8 +9,8 @@ use Rattle.poll_core.proofs.AdoptRefusals.{foreign_unadopted, kept_unadopted, sh
 use Rattle.poll_core.proofs.RowLemmas.{rows_in_order}
 use Rattle.poll_core.proofs.session.Session.of_stood.Goals as goal
 use Rattle.poll_core.specs.AdoptFaults.{IsKeptRefusal}
-use Rattle.poll_core.specs.MadeOf.{IsMadeOf}
-use Rattle.poll_core.specs.OpenFaults.{IsLeastForeign}
+use Rattle.pipeline.specs.MadeOf.{IsMadeOf}
+use Rattle.pipeline.specs.Foreign.{IsLeastForeign}
 use Rattle.poll_core.specs.SessionParts.{last_text}
 use Rattle.standing.specs.Rows.{AreInOrder, KeepStates}
 

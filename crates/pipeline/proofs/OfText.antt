@@ -20,7 +20,7 @@ use Rattle.pipeline.specs.Globs.{ArePatterns}
 use Rattle.pipeline.specs.Parts.{settings_of, network}
 use Rattle.pipeline.specs.Wired.{IsNetwork}
 use Rattle.pipeline.specs.declared.Pipeline.{Pipeline}
-use Rattle.poll_core.specs.MadeOf.{IsMadeOf, HasRules}
+use Rattle.pipeline.specs.MadeOf.{IsMadeOf, HasRules}
 use Rattle.settings_text.specs.declared.settings.Settings.{Settings}
 use Rattle.standing.specs.Rules.{Rules}
 

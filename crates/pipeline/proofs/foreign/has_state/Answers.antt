@@ -1,6 +1,6 @@
 use Rattle.std.proofs.Common.{◌≡◌, ℕ, List, IfOk, subst}
 use Rattle.pipeline.specs.AsRules.{rules_of}
-use Rattle.folder_audit.proofs.rows.has_state.Goals as goal
+use Rattle.pipeline.proofs.foreign.has_state.Goals as goal
 
 pub returns : goal.returns
 returns c =

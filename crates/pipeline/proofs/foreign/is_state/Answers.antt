@@ -1,7 +1,7 @@
 use Rattle.std.proofs.Common.{sym, arith}
 use Rattle.pipeline.specs.RowStates.{AreBytes}
-use Rattle.folder_audit.proofs.rows.is_state.Goals as goal
-use Rattle.folder_audit.proofs.rows.is_state.Goals.{in-Ok, in-Err-Malformed, in-Err-Memory}
+use Rattle.pipeline.proofs.foreign.is_state.Goals as goal
+use Rattle.pipeline.proofs.foreign.is_state.Goals.{in-Ok, in-Err-Malformed, in-Err-Memory}
 
 pub returns : goal.returns
 returns c =

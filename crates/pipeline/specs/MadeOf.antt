@@ -1,4 +1,4 @@
--- What the operators of a session were made of.
+-- The texts of settings that pipelines and eras were made of.
 use Rattle.std.specs.Prelude.{◌≡◌, ℕ, All, List, Ok}
 use Rattle.pipeline.specs.AsRules.{rules_of}
 use Rattle.pipeline.specs.Globs.{ArePatterns}

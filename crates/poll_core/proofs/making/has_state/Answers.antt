@@ -1,7 +1,0 @@
-use Rattle.std.proofs.Common.{◌≡◌, ℕ, List, IfOk, subst}
-use Rattle.pipeline.specs.AsRules.{rules_of}
-use Rattle.poll_core.proofs.making.has_state.Goals as goal
-
-pub returns : goal.returns
-returns c =
-    subst (λ (kept : List ℕ). IfOk c.is_state.result (λ is. (text : List ℕ) → is ≡ (rules_of text c.args.pipeline.now).is_state kept)) c.as_slice.ensures c.is_state.ensures
