@@ -7,7 +7,8 @@ import time
 from measures import Failed, can_count_calls, least
 
 FOLDERS = (10, 100, 1_000, 10_000)
-IDLE_FILES = 200
+# The sizes of two folders, so that what a file adds to a poll stands apart from what the folder takes.
+IDLE_FILES = (20, 220)
 POLLS = 20
 # The sizes of a log of lines of one byte: nearly what a poll reads of a file, and nearly the longest entry.
 ONE_BYTE = 16_000_000
@@ -70,19 +71,26 @@ def write_folder(work, name, files):
     write_settings(work, include=[f"{name}/*.log"])
 
 
-def each_idle(work, files, count, polls):
-    """What a poll more that finds nothing new counts, for a file. `count` takes a command and its standard input."""
+def quiet_poll(work, count, polls):
+    """What a poll more that finds nothing new counts. `count` takes a command and its standard input."""
     command = [work.agent, "follow"]
     few, many = (count(command, "poll\n" * number) for number in (2, 2 + polls))
-    return (many - few) / polls / files
+    return (many - few) / polls
 
 
 def idle(work):
-    """Instructions and system calls of a file in which nothing is new, in a poll."""
-    write_folder(work, "idle", IDLE_FILES)
+    """Instructions and system calls that a file in which nothing is new adds to a poll."""
+    few, many = (idle_folder(work, files) for files in IDLE_FILES)
+    more = IDLE_FILES[1] - IDLE_FILES[0]
+    return [None if whole is None else (whole - part) / more for whole, part in zip(many, few)]
+
+
+def idle_folder(work, files):
+    """Instructions and system calls of a poll over so many files in which nothing is new."""
+    write_folder(work, f"idle-{files}", files)
     work.run([work.agent, "once"])
-    instructions = each_idle(work, IDLE_FILES, lambda *how: work.counts(*how).instructions, 10)
-    calls = each_idle(work, IDLE_FILES, work.calls, 10) if can_count_calls() else None
+    instructions = quiet_poll(work, lambda *how: work.counts(*how).instructions, 10)
+    calls = quiet_poll(work, work.calls, 10) if can_count_calls() else None
     return instructions, calls
 
 
@@ -96,7 +104,7 @@ def folder(work, files):
         quiet = min(agent.poll(" lines=0 ") for _ in range(POLLS))
         grown = min(grow(work, agent, f"{name}/0007.log") for _ in range(POLLS))
     run = least(lambda: work.run([work.agent, "once"])).clock
-    calls = each_idle(work, files, work.calls, 2) if can_count_calls() else None
+    calls = quiet_poll(work, work.calls, 2) / files if can_count_calls() else None
     return all_new, quiet, grown, run, calls
 
 
