@@ -1,19 +1,16 @@
 -- What faults of calls are for a command.
-use Rattle.std.proofs.Common.{◌≡◌, ℕ, List, IsTrue, refl, sym, subst, inl}
-use Rattle.std.specs.Prelude.{Err}
+use Rattle.std.proofs.Common.{◌≡◌, ℕ, List, IsTrue, refl, sym, subst}
 use Rattle.checkpoint_journal.specs.Written.{IsWorn}
 use Rattle.checkpoint_journal.specs.declared.fault.JournalFault.TheVariants as journal
 use Rattle.outside.proofs.Passing.{passes_after_same, passes_before_same, passes_by}
 use Rattle.outside.specs.Crash.{Passes}
-use Rattle.outside.specs.Image.{Image, Same}
+use Rattle.outside.specs.Image.{Same}
 use Rattle.outside.specs.Images.{Images}
 use Rattle.outside.specs.TreeMeaning.{TreeMeaning}
 use Rattle.outside.specs.World.{Told}
 use Rattle.outside.specs.declared.disk.DiskFile.{DiskFile}
 use Rattle.outside.specs.declared.disk.DiskFile.TheVariants as file
 use Rattle.poll_core.specs.OpenCause.{IsOfContents, IsOfSettings}
-use Rattle.pipeline.specs.BuildFaults.{IsNotBuilt}
-use Rattle.poll_core.specs.OpenFaults.{IsRefused, IsSettingsRefusal}
 use Rattle.poll_core.specs.Overflows.{Overflows}
 use Rattle.poll_core.specs.Reopens.{Reopens}
 use Rattle.poll_core.specs.SessionParts.{journal_of_session}
@@ -25,6 +22,7 @@ use Rattle.poll_core.specs.declared.session.Session.{Session}
 use Rattle.settings_text.specs.Grammar as grammar
 use Rattle.agent_commands.specs.Opens.{IsOpeningFault, IsRefusal, IsSettingsFault}
 use Rattle.agent_commands.specs.Turn.{IsPollFault}
+use Rattle.poll_core.proofs.DiskLemmas.{reopens_none}
 
 -- ---- polls
 
@@ -39,13 +37,6 @@ poll_fault trees session tree tree_after polling.Memory full worn = tt
 
 -- ---- opening
 
-pub reopens_same : (image : Image DiskFile) → Reopens image image
-reopens_same image = record {
-  settings = refl;
-  logs = record { no_slot = λ none. none; log_is = λ log base records has. has };
-  output = inl refl;
-}
-
 module _ {D : Type 0} (images : Images DiskFile D) (old mid : D) where
   -- the settings file's bytes were read
   pub record HasRead (text : List ℕ) : Type 0 where
@@ -53,21 +44,6 @@ module _ {D : Type 0} (images : Images DiskFile D) (old mid : D) where
     pub seen : images.seen mid ≡ images.seen old
     pub text_is : IsTrue (images.tells old) → text ≡ images.seen old file.Settings
     pub crash : Passes images Same old mid
-
-  refused_before : (text : List ℕ) (fault : OpenFault) → HasRead text → (IsTrue (images.tells mid) → IsRefused text (images.seen mid) fault) → IsTrue (images.tells old) → IsRefused (images.seen old file.Settings) (images.seen old) fault
-  refused_before text fault read refused told =
-      subst (λ (t : List ℕ). IsRefused t (images.seen old) fault) (read.text_is told)
-      (subst (λ (image : Image DiskFile). IsRefused text image fault) read.seen (refused (subst IsTrue (sym read.tells) told)))
-
-  pub opening_refusal : (text : List ℕ) (fault : OpenFault) → HasRead text → IsSettingsRefusal text fault
-      → (IsTrue (images.tells mid) → IsOfContents fault → IsRefused text (images.seen mid) fault) → IsOpeningFault images old fault
-  opening_refusal text (opening.Settings fault) read refusal contents = λ told. subst (λ (t : List ℕ). grammar.settings t ≡ Err fault) (read.text_is told) refusal.1
-  opening_refusal text (opening.Build fault) read refusal contents = λ told. subst (λ (t : List ℕ). IsNotBuilt t fault) (read.text_is told) refusal.1
-  opening_refusal text opening.Disk read refusal contents = tt
-  opening_refusal text (opening.CheckpointBad at) read refusal contents = refused_before text (opening.CheckpointBad at) read (λ told. contents told tt)
-  opening_refusal text (opening.SettingsChanged at) read refusal contents = refused_before text (opening.SettingsChanged at) read (λ told. contents told tt)
-  opening_refusal text (opening.OutputShort kept found) read refusal contents = refused_before text (opening.OutputShort kept found) read (λ told. contents told tt)
-  opening_refusal text opening.Memory read refusal contents = tt
 
   untouched_by_settings : (new : D) → Passes images Same old mid → new ≡ mid → Passes images Same old new
   untouched_by_settings new read same = subst (λ d. Passes images Same old d) (sym same) read
@@ -83,10 +59,10 @@ module _ {D : Type 0} (images : Images DiskFile D) (old mid : D) where
   opening_untouched opening.Memory new read settings contents refusal = absurd refusal
 
   pub reads_then_reopens : (new : D) → Passes images Same old mid → Passes images Reopens mid new → Passes images Reopens old new
-  reads_then_reopens new read reopens = passes_after_same read reopens reopens_same
+  reads_then_reopens new read reopens = passes_after_same read reopens reopens_none
 
   pub read_reopens : Passes images Same old mid → Passes images Reopens old mid
-  read_reopens read = passes_by read (λ x y left same. subst (λ z. Reopens x z) (sym same) (reopens_same x))
+  read_reopens read = passes_by read (λ x y left same. subst (λ z. Reopens x z) (sym same) (reopens_none x))
 
   -- a fault of the settings file is one of opening, and where it is a refusal the disk was only read
   pub settings_fault_opens : (fault : OpenFault) → IsSettingsFault images old fault → IsOpeningFault images old fault

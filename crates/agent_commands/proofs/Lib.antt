@@ -1,4 +1,3 @@
-pub mod Filling
 pub mod Reporting
 pub mod Settings
 pub mod Controlling

@@ -36,6 +36,7 @@ use Rattle.standing.specs.Times.{AreBefore}
 use Rattle.agent_commands.specs.Headline.{HoldsAll, KeepsFrom, KeepsStanding, StoodSince}
 use Rattle.agent_commands.specs.Moment.{Moment, Meanings, moment}
 use Rattle.agent_commands.specs.Opens.{Opens}
+use Rattle.outside.proofs.Telling.{told_then}
 
 pub reopened_stands : (history : History) (old new : Image DiskFile) → Reopens old new → IsStanding history old → IsStanding history new
 reopened_stands history old new reopens standing = record {
@@ -146,12 +147,7 @@ same_world : (one other : World) → Some one ≡ Some other → one ≡ other
 same_world one other same = cc
 
 pub told_later_then : (before between after : Option World) → Told GoesLater before between → Told GoesLater between after → Told GoesLater before after
-told_later_then None None None a b = tt
-told_later_then None None (Some z) a b = b
-told_later_then None (Some y) after a b = absurd a
-told_later_then (Some x) None after a b = absurd a
-told_later_then (Some x) (Some y) None a b = b
-told_later_then (Some x) (Some y) (Some z) a b = later_then x.history y.history z.history a b
+told_later_then before between after a b = told_then GoesLater GoesLater GoesLater before between after (λ x y z one two. later_then x.history y.history z.history one two) a b
 
 pub told_later_same : (now : Option World) → Told GoesLater now now
 told_later_same None = tt
@@ -210,9 +206,6 @@ module _ {D : Type 0} (images : Images DiskFile D) (only_now : (disk : D) (image
 -- ---- from the command's begin on
 
 module _ {T D K C : Type 0} (meanings : Meanings T D K C) where
-  pub keeps_none : (rules : Rules) (now : Moment T D K C) → KeepsFrom meanings rules now now
-  keeps_none rules now = record { later = omega arith; goes = told_later_same (meanings.trees.world now.tree); standing = told_stands_none meanings.disks.images rules now.disk (meanings.trees.world now.tree) }
-
   pub keeps_then : (rules : Rules) (begun mid now : Moment T D K C) → KeepsFrom meanings rules begun mid → KeepsFrom meanings rules mid now → KeepsFrom meanings rules begun now
   keeps_then rules begun mid now a b = record {
     later = omega (arith, a.later, b.later);

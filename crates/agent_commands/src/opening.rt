@@ -1,6 +1,5 @@
 // The session of a command.
-ghost use Rattle.std.specs.Prelude.{◌≡◌, ◌⊎◌, ℕ, ◌≤◌, ◌<◌, List, length, take, Err, IsTrue, IfOk, IfErr};
-ghost use Rattle.outside.specs.Count.{HasOneCause};
+ghost use Rattle.std.specs.Prelude.{◌≡◌, IsTrue, IfOk, IfErr};
 ghost use Rattle.outside.specs.Crash.{Passes};
 ghost use Rattle.outside.specs.Image.{Same};
 ghost use Rattle.poll_core.specs.OpenCause.{HasOpenCause};
@@ -11,9 +10,10 @@ ghost use Rattle.agent_commands.specs.Grows.{GrowsBy};
 ghost use Rattle.agent_commands.specs.Opens.{IsOpeningFault, IsRefusal, IsSettingsFault, Opens};
 
 use checkpoint_store::OUTPUT_LIMIT;
-use outside::{Disk, DiskFile, Failed};
+use outside::{Disk, DiskFile};
 use poll_core::{OpenFault, Session};
 use settings_text::{MAX_LENGTH, SettingsFault};
+use slot_store::fill;
 use std::alloc::Global;
 
 /// The session of the settings file that goes on from what the disk has.
@@ -41,26 +41,7 @@ pub fn read_settings<D: Disk>(alloc: Global, disk: &mut D) -> Result<Vec<u8>, Op
         return Err(OpenFault::Settings(SettingsFault::TooLong { length: size }));
     }
     let mut settings = vec![in alloc; 0; size as usize]?;
-    let count = fill(disk, DiskFile::Settings, &mut settings)?;
+    let count = fill(disk, DiskFile::Settings, 0, &mut settings)?;
     settings.truncate(count);
     Ok(settings)
-}
-
-// Fills `buf` from the front of the file, as far as the file goes.
-fn fill<D: Disk>(disk: &mut D, file: DiskFile, buf: &mut [u8]) -> Result<usize, Failed>
-    ensures within { IfOk result (λ count. count ≤ length buf.new) }
-    ensures bytes { IfOk result (λ count. IsTrue (D.meaning.images.tells disk.old)
-        → take count buf.new ≡ take (length buf.new) (D.meaning.images.seen disk.old file)) }
-    ensures cause { HasOneCause result (D.meaning.faults disk.old) (D.meaning.faults disk.new) }
-    ensures only_read { OnlyRead D.meaning disk.old disk.new }
-{
-    let mut filled = 0;
-    while filled < buf.len() {
-        let count = disk.read(file, filled as u64, &mut buf[filled..])?;
-        if count == 0 {
-            break;
-        }
-        filled += count;
-    }
-    Ok(filled)
 }

@@ -3,3 +3,4 @@ pub mod WrittenLemmas
 pub mod JournalLaws
 pub mod ReadingLemmas
 pub mod PutLemmas
+pub mod RowLemmas

@@ -2,12 +2,13 @@
 use Rattle.std.proofs.Common.{◌≡◌, ℕ, zero, suc, ◌<◌, ◌≤◌, ◌%◌, ◌==◌, List, [], ◌∷◌, ◌++◌, length, Bool, true, false, Option, Some, None, refl, sym, ap, subst, ◌∙◌, arith, append_assoc, eq-eqb, length-append}
 use Rattle.std.specs.Prelude.{if◌then◌else◌}
 use Rattle.std.proofs.lemmas.Bool.{eqb-true}
-use Rattle.std.proofs.lemmas.List.{append-nil}
+use Rattle.std.proofs.lemmas.List.{append-nil, nil_from_length}
 use Rattle.demo_run.specs.Moves.{Move, step, poll, stop, reopen}
 use Rattle.demo_run.specs.Script.{Played, played, with_move, with_new_file, with_rotation, line_of, log_of, log_name, rotated_name}
 use Rattle.demo_run.specs.Steps.{steps_in}
 use Rattle.demo_run.proofs.Cases.{latest, latest_is, by_file, by_line, by_rotation, by_stop, filed, lined, rotated, stopped}
 use Rattle.outside.specs.World.{Event, create, append, rename, History, bytes}
+use Rattle.std.proofs.lemmas.Option.{same_Some}
 
 -- ---- the file of each round
 
@@ -74,9 +75,6 @@ module _ (most : ℕ) where
     some : so_far.files (log_of (suc n)) ≡ None → ⊥
     chooses : (file : ℕ) → so_far.files (log_of (suc n)) ≡ Some file → file ≡ file_of_round (suc n)
 
-  some_same : (one other : ℕ) → Some one ≡ Some other → one ≡ other
-  some_same one other same = cc
-
   files_file : (n : ℕ) → n ≤ most → Holds n (steps_in (latest (played n))) → Filed n (filed n)
   files_file n few holds =
       let log : ℕ = log_of (suc n) in
@@ -85,7 +83,7 @@ module _ (most : ℕ) where
       (λ file is. record {
         holds = holds;
         some = λ none. (let never : Some file ≡ None = sym is ∙ none in absurd (cc));
-        chooses = λ other other_is. some_same other file (sym other_is ∙ is) ∙ sym (ap (λ (o : Option ℕ). chosen o before.next_file) is);
+        chooses = λ other other_is. same_Some other file (sym other_is ∙ is) ∙ sym (ap (λ (o : Option ℕ). chosen o before.next_file) is);
       })
       (λ free.
       let own : (log == log) ≡ true = eq-eqb log log refl in
@@ -93,7 +91,7 @@ module _ (most : ℕ) where
       record {
         holds = subst (λ (ms : List Move). Holds n (steps_in ms)) (sym (latest_is (step (create before.next_file (log_name log))) before)) (leaves n (create before.next_file (log_name log)) (steps_in (latest before)) few (λ file. refl) holds);
         some = λ none. (let never : Some before.next_file ≡ None = sym now ∙ none in absurd (cc));
-        chooses = λ other other_is. some_same other before.next_file (sym other_is ∙ now) ∙ sym (ap (λ (o : Option ℕ). chosen o before.next_file) free);
+        chooses = λ other other_is. same_Some other before.next_file (sym other_is ∙ now) ∙ sym (ap (λ (o : Option ℕ). chosen o before.next_file) free);
       })
 
   writes : (n : ℕ) → suc n ≤ most → Filed n (filed n) → Holds (suc n) (steps_in (latest (lined n)))
@@ -146,12 +144,8 @@ first_line n file true is empty filled = record {
 }
 first_line n file false is empty filled = absurd (omega (arith, filled, ap length empty, length-append (content n file) []))
 
-pub no_length : (text : List ℕ) → length text ≡ 0 → text ≡ []
-no_length [] none = refl
-no_length (byte ∷ text) none = absurd (omega (arith, none))
-
 next_begins : (n file size : ℕ) → length (content n file) ≡ size → 0 < length (content (suc n) file) → (0 < length (content n file) → Begins n file) → Begins (suc n) file
-next_begins n file zero is filled before = first_line n file (file_of_round (suc n) == file) refl (no_length (content n file) is) filled
+next_begins n file zero is filled before = first_line n file (file_of_round (suc n) == file) refl (nil_from_length (content n file) is) filled
 next_begins n file (suc size) is filled before =
     let had = before (omega (arith, is)) in
     let more : List ℕ = if file_of_round (suc n) == file then line_of (suc n) else [] in

@@ -14,13 +14,10 @@ use Rattle.op_kinds.specs.Operator.{Operator, behavior_of}
 use Rattle.pipeline.specs.Entries.{record_with, records_behind, records_of}
 use Rattle.pipeline.specs.GraphOutput.{given_from}
 use Rattle.pipeline.specs.Wired.{IsNetwork}
-
-no_nodes : (nodes : List (NodeSpec Operator)) → length nodes ≡ 0 → nodes ≡ []
-no_nodes [] none = refl
-no_nodes (node ∷ nodes) none = absurd (omega (arith, none))
+use Rattle.std.proofs.lemmas.List.{nil_from_length}
 
 pub network_is : (network : Network Kept LogRecord) → IsNetwork [] network → network ≡ network_of behavior_of []
-network_is network wired = wired.is ∙ ap (λ (ns : List (NodeSpec Operator)). network_of behavior_of ns) (no_nodes wired.nodes wired.are.many)
+network_is network wired = wired.is ∙ ap (λ (ns : List (NodeSpec Operator)). network_of behavior_of ns) (nil_from_length wired.nodes wired.are.many)
 
 -- the record of a round's line
 abbrev pub entry_of : List ℕ → ℕ → LogRecord

@@ -8,10 +8,11 @@ use Rattle.demo_run.specs.Script.{Played, played, with_move, with_name, with_new
 use Rattle.demo_run.specs.Steps.{steps_in}
 use Rattle.demo_run.proofs.Cases.{latest, latest_is, by_file, by_line, by_rotation, by_stop, filed, lined, rotated, stopped}
 use Rattle.demo_run.proofs.Contents.{AllMoments, at_moment, chosen, file_of_round}
-use Rattle.demo_run.proofs.Names.{named_behind, named_first, not_its, of_named, other_stays}
+use Rattle.demo_run.proofs.Names.{named_behind, named_first, not_its, of_named}
 use Rattle.demo_run.proofs.NameTexts.{IsGiven, of_log, of_rotation, given_later, no_log, one_log, one_rotation}
 use Rattle.lifetimes.specs.Small.{created}
 use Rattle.outside.specs.World.{create, append, rename, History, Names, file_at, names, without}
+use Rattle.poll_core.proofs.GoneLemmas.{without_keeps}
 
 -- ---- what the names are
 
@@ -180,7 +181,7 @@ module _ (n next file : ℕ) (logs : Logs) (before : Names) (few : suc n ≤ 100
       path = had_name.path;
       given = given_later n (suc n) had_name.path (omega arith) had_name.given;
       leads = named_behind had_name.path (rotated_name (suc n)) file (without file before) (fresh had_name.path other (of_named (IsNow n logs) before had_name.path other was.each had_name.leads))
-          ∙ other_stays before had_name.path file other differ had_name.leads;
+          ∙ without_keeps file before had_name.path other differ had_name.leads;
     }
   ]
 
@@ -189,7 +190,7 @@ module _ (n next file : ℕ) (logs : Logs) (before : Names) (few : suc n ≤ 100
       let now = had log some is in
       let differ : some ≢ file = λ e. now.0 (was.one log 0 file within (omega arith) (now.1 ∙ ap (λ (f : ℕ). Some f) e) has) in
       named_behind (log_name log) (rotated_name (suc n)) file (without file before) (λ e. no_log log (suc n) within few (sym e))
-      ∙ other_stays before (log_name log) file some differ (was.leads log some within now.1)
+      ∙ without_keeps file before (log_name log) some differ (was.leads log some within now.1)
 
   named_by_rename : AreNamed (suc n) (logs_turned logs) next (names_turned n file before)
   named_by_rename = record {

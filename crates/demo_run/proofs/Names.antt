@@ -51,22 +51,3 @@ not_its file (name ∷ names) =
       | false ↦ λ is. All-cons (λ (n : List ℕ × ℕ). n.1 ≢ file) name (without file names) (eqb-false name.1 file is) rest
     ] in
     all refl
-
--- names of other files stay
-pub other_stays : (names : Names) (path : List ℕ) (file other : ℕ) → other ≢ file → file_at names path ≡ Some other → file_at (without file names) path ≡ Some other
-other_stays [] path file other differ found = found
-other_stays (name ∷ names) path file other differ found =
-    let kept : Bool → Names = λ t. cond (not t) (name ∷ without file names) (without file names) in
-    let Q : Bool → Type 0 = λ t. bytes_eq name.0 path ≡ t → file_at (kept (name.1 == file)) path ≡ Some other in
-    let here : Q true = λ is.
-    let same : Some name.1 ≡ Some other = sym (first_decides name names path true is) ∙ found in
-    let file_is : name.1 ≡ other = cc (same) in
-    let stays : (name.1 == file) ≡ false = ne_eqb name.1 file (λ e. differ (sym file_is ∙ e)) in
-    ap (λ (t : Bool). file_at (kept t) path) stays ∙ first_decides name (without file names) path true is ∙ same
-    in
-    let behind : Q false = λ is.
-    let rest : file_at (without file names) path ≡ Some other = other_stays names path file other differ (sym (first_decides name names path false is) ∙ found) in
-    elim (name.1 == file) as (λ t. file_at (kept t) path ≡ Some other) [ true ↦ rest | false ↦ first_decides name (without file names) path false is ∙ rest ]
-    in
-    let all : Q (bytes_eq name.0 path) = elim (bytes_eq name.0 path) as Q [ true ↦ here | false ↦ behind ] in
-    all refl

@@ -8,20 +8,13 @@ use Rattle.mem_world.specs.declared.disk.MemDisk.{MemDisk}
 use Rattle.out_segments.specs.declared.memory.log.Change.{Change}
 use Rattle.out_segments.specs.declared.memory.log.Change.TheVariants.{Put, Write, Cut, Sync}
 use Rattle.outside.specs.Image.{Torn}
-
-untouched : (offset size : ℕ) (old : List ℕ) → Torn offset size old old
-untouched offset size old = record {
-  before = λ k a b. refl;
-  after = λ k a b. refl;
-  no_shorter = omega arith;
-  no_longer = omega arith;
-}
+use Rattle.outside.proofs.Tearing.{torn_idle}
 
 left_by : (change : Change) (taken : Bool) (before : Log) → Leaves before (content before) → LeavesBy change taken (Leaves before) (content before) (if taken then changed change (content before) else content before)
 left_by (Put bytes) true before left = refl
 left_by (Put bytes) false before left = left
 left_by (Write offset bytes) true before left = (content before, left, inl refl)
-left_by (Write offset bytes) false before left = (content before, left, inr (untouched offset (length bytes.items) (content before)))
+left_by (Write offset bytes) false before left = (content before, left, inr (torn_idle offset (length bytes.items) (content before)))
 left_by (Cut size) true before left = (content before, left, inr refl)
 left_by (Cut size) false before left = (content before, left, inl refl)
 left_by Sync true before left = refl

@@ -6,7 +6,7 @@ use Rattle.std.proofs.lemmas.List.Elements.{All-head, All-tail, All-weaker}
 use Rattle.std.proofs.lemmas.List.Sums.{sum_by-le}
 use Rattle.demo_run.specs.Script.{line_of}
 use Rattle.demo_run.specs.Steps.{IsOfRounds, steps_of}
-use Rattle.demo_run.proofs.Contents.{begins, content, file_of_round, holds_all, no_length}
+use Rattle.demo_run.proofs.Contents.{begins, content, file_of_round, holds_all}
 use Rattle.demo_run.proofs.Fronts.{bytes_of_steps, steps_append}
 use Rattle.demo_run.proofs.Named.{EachGiven, HasName, few_created, names_at, names_its}
 use Rattle.demo_run.proofs.Names.{of_named}
@@ -24,6 +24,7 @@ use Rattle.standing.specs.Owner.{MayBegin}
 use Rattle.standing.specs.Prefixes.{IsPrefix, begins as begins_with}
 use Rattle.standing.specs.Rules.{Rules, output_text}
 use Rattle.standing.specs.Tokens.{tokens_of}
+use Rattle.std.proofs.lemmas.List.{nil_from_length}
 
 -- ---- what the steps of others decide
 
@@ -65,7 +66,7 @@ plain_text text never =
     all refl
 
 no_front : (n file size : ℕ) → length (content n file) ≡ size → IsPrefix (31 ∷ 139 ∷ []) (content n file) → ⊥
-no_front n file zero none prefix = not_empty (subst (λ (t : List ℕ). IsPrefix (31 ∷ 139 ∷ []) t) (no_length (content n file) none) prefix)
+no_front n file zero none prefix = not_empty (subst (λ (t : List ℕ). IsPrefix (31 ∷ 139 ∷ []) t) (nil_from_length (content n file) none) prefix)
 no_front n file (suc size) some prefix =
     let first = begins n file (omega (arith, some)) in
     not_gzip (drop 1 (line_of first.round ++ first.rest)) (subst (λ (t : List ℕ). IsPrefix (31 ∷ 139 ∷ []) t) first.is prefix)

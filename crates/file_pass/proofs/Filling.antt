@@ -1,7 +1,6 @@
 -- From bytes that would make the output too long to a look that would.
-use Rattle.std.proofs.Common.{◌≡◌, ℕ, ◌+◌, ◌-◌, ◌<◌, ◌≤◌, List, [], ◌∷◌, ◌++◌, length, take, drop, min, false, refl, sym, ap, subst, ◌∙◌, inl, inr, arith, append_assoc, length-append}
+use Rattle.std.proofs.Common.{◌≡◌, ℕ, ◌+◌, ◌-◌, ◌<◌, ◌≤◌, List, [], ◌∷◌, ◌++◌, length, take, drop, min, false, refl, sym, ap, subst, ◌∙◌, inl, inr, arith, append_assoc}
 use Rattle.std.proofs.lemmas.Option.{same_Some}
-use Rattle.std.proofs.lemmas.Grind.{flat_map-append}
 use Rattle.std.proofs.lemmas.List.{take-append-drop, take-take}
 use Rattle.std.specs.Prelude.{None, Some, slice_get, IsTrue}
 use Rattle.file_tracker.specs.Places.{place_of, with_front}
@@ -14,7 +13,7 @@ use Rattle.standing.specs.Marks.{Mark}
 use Rattle.standing.specs.Rows.{Row}
 use Rattle.file_pass.specs.Fed.{poll_of, rules_in, last_of, CrossesRead}
 use Rattle.file_pass.specs.Flushed.{lines_read}
-use Rattle.file_pass.specs.Full.{Crosses, Overflow, line_of, lines_text}
+use Rattle.file_pass.specs.Full.{Crosses, Overflow}
 use Rattle.file_pass.specs.LookTaken.{look_at}
 use Rattle.file_pass.specs.Overflow.{RowFills, SeenFills}
 use Rattle.file_pass.specs.Seen.{progress_of}
@@ -37,21 +36,6 @@ crosses_more limit end marks more full crosses = record {
   split = ap (λ (l : List Mark). l ++ more) crosses.split ∙ append_assoc crosses.front (crosses.last ∷ crosses.back) more;
   within_before = crosses.within_before;
   size_then = crosses.size_then;
-  too_much = crosses.too_much;
-}
-
--- behind lines that keep to the limit
-pub crosses_before : (limit end between : ℕ) (earlier marks : List Mark) (full : ℕ) → between ≡ end + length (lines_text earlier) → Crosses limit between marks full → Crosses limit end (earlier ++ marks) full
-crosses_before limit end between earlier marks full at crosses = record {
-  front = earlier ++ crosses.front;
-  last = crosses.last;
-  back = crosses.back;
-  split = ap (λ (l : List Mark). earlier ++ l) crosses.split ∙ sym (append_assoc earlier crosses.front (crosses.last ∷ crosses.back));
-  within_before = omega (arith, at, crosses.within_before, ap length (flat_map-append line_of earlier crosses.front), length-append (lines_text earlier) (lines_text crosses.front));
-  size_then =
-      let whole : lines_text ((earlier ++ crosses.front) ++ crosses.last ∷ []) ≡ lines_text earlier ++ lines_text (crosses.front ++ crosses.last ∷ []) =
-      ap lines_text (append_assoc earlier crosses.front (crosses.last ∷ [])) ∙ flat_map-append line_of earlier (crosses.front ++ crosses.last ∷ []) in
-      omega (arith, at, crosses.size_then, ap length whole, length-append (lines_text earlier) (lines_text (crosses.front ++ crosses.last ∷ [])));
   too_much = crosses.too_much;
 }
 

@@ -14,9 +14,6 @@ use Rattle.file_pass.specs.declared.setup.Setup.{Setup}
 use Rattle.file_pass.proofs.Listing.{set_same}
 
 module _ (front : List ℕ) (rows : List Row) (place : ℕ) (row : Row) (known : place_of front rows ≡ Some place) where
-  pub known_within : place < length rows
-  known_within = (position-Some (λ (r : Row). begins (front_of r) front) rows place row known).0
-
   pub known_begins : slice_get rows place ≡ Some row → begins row.front front ≡ true
   known_begins at =
       ap (λ (r : Row). begins r.front front) (sym (get_or_from_slice_get rows place row row at)) ∙ (position-Some (λ (r : Row). begins (front_of r) front) rows place row known).1

@@ -1,7 +1,7 @@
 -- Which rows are flagged, change after change.
 use Rattle.std.proofs.Common.{◌≡◌, ◌≢◌, ◌⊎◌, ◌↔◌, ℕ, ◌+◌, ◌<◌, ◌≤◌, zero, suc, List, [], ◌∷◌, ◌++◌, length, map, take, Bool, true, false, refl, sym, ap, subst, ◌∙◌, inl, inr, arith}
 use Rattle.std.proofs.lemmas.Bool.{cases_eq, cases_lt, ne_eqb}
-use Rattle.std.proofs.lemmas.List.{length-map, length-set, length_push, map-append}
+use Rattle.std.proofs.lemmas.List.{length-map, length-set, map-append}
 use Rattle.std.proofs.lemmas.Option.{slice_get_within, slice_get_past, same_Some}
 use Rattle.std.proofs.Math.Seq.{take-append_seam}
 use Rattle.std.specs.Prelude.{Option, None, Some, replicate, slice_get, slice_set, ◌==◌, if◌then◌else◌}
@@ -13,7 +13,7 @@ use Rattle.file_pass.specs.Grown.{LosesNothing, Stays, HasGrown, IsNewOrGrown, I
 use Rattle.file_pass.specs.Inner.Looks.{idle_of, looks_in, IsLookedAt, FlagsLooks}
 use Rattle.file_pass.specs.Unchanged.{HasChanged, IsNewOrChanged, KeepsUnchanged, FlagsChanges, HasNoFlag, HasFlagForEach}
 use Rattle.file_pass.specs.declared.taking.Taking.{Taking}
-use Rattle.file_pass.proofs.Listing.{get_set, set_twice, set_cases, set_others, push_cases, push_before, push_there}
+use Rattle.file_pass.proofs.Listing.{get_set, set_twice, set_cases, set_others}
 
 -- ---- rows that lose nothing
 
@@ -97,20 +97,12 @@ module _ (rules : Rules) where
   grown_at was row a b before after grown =
       subst (λ (o : Option Row). IsNewOrGrown rules o b) (sym before) (subst (λ (o : Option Row). IsNewOrGrown rules (Some was) o) (sym after) grown)
 
-  new_at : (row : Row) (a b : Option Row) → a ≡ None → b ≡ Some row → IsNewOrGrown rules a b
-  new_at row a b before after = subst (λ (o : Option Row). IsNewOrGrown rules o b) (sym before) (subst (λ (o : Option Row). IsNewOrGrown rules None o) (sym after) tt)
-
   stays_set : (rows : List Row) (place k : ℕ) (was row : Row) → slice_get rows place ≡ Some was → LosesNothing rules was row → Stays rules (slice_get rows k) (slice_get (slice_set rows place row) k)
   stays_set [] place k was row at keeps = tt
   stays_set (first ∷ rest) zero zero was row at keeps = subst (λ (r : Row). LosesNothing rules r row) (same_Some was first (sym at)) keeps
   stays_set (first ∷ rest) zero (suc k) was row at keeps = stays_none (slice_get rest k)
   stays_set (first ∷ rest) (suc place) zero was row at keeps = stays_none (Some first)
   stays_set (first ∷ rest) (suc place) (suc k) was row at keeps = stays_set rest place k was row at keeps
-
-  stays_push : (rows : List Row) (k : ℕ) (row : Row) → Stays rules (slice_get rows k) (slice_get (rows ++ row ∷ []) k)
-  stays_push [] k row = tt
-  stays_push (first ∷ rest) zero row = stays_none (Some first)
-  stays_push (first ∷ rest) (suc k) row = stays_push rest k row
 
   -- ---- rows that are as they were, but for a look
 
@@ -188,23 +180,6 @@ module _ (rules : Rules) where
     stays = λ k. stays_set rows place k was (with_look seen quiet was) at (record { front = omega arith; offset = omega arith; held = inr (inl refl) });
     kept = λ k is. (is, same_set rows place k was (with_look seen quiet was) at (refl, never));
     flagged = λ k is. inl is;
-  }
-
-  -- a row was added, and its flag
-  pub growth_push : (rows : List Row) (flags : List Bool) (row : Row) → length flags ≡ length rows → FlagsGrowth rules rows flags (rows ++ row ∷ []) (flags ++ true ∷ [])
-  growth_push rows flags row many = record {
-    more = omega (arith, length_push rows row);
-    stays = λ k. stays_push rows k row;
-    kept = λ k is.
-        elim (push_cases flags k true false is) [
-          | inl here ↦ absurd (let never : false ≡ true = here.1 in cc)
-          | inr was ↦ (was, same_is (slice_get rows k) (slice_get (rows ++ row ∷ []) k) (push_before rows k row (omega (arith, many, slice_get_within flags k false was))))
-        ];
-    flagged = λ k is.
-        elim (push_cases flags k true true is) [
-          | inl here ↦ inr (new_at row (slice_get rows k) (slice_get (rows ++ row ∷ []) k) (slice_get_past rows k (omega (arith, here.0, many))) (ap (slice_get (rows ++ row ∷ [])) (here.0 ∙ many) ∙ push_there rows row))
-          | inr was ↦ inl was
-        ];
   }
 
 -- a row that was noted, and then the look at its file
@@ -311,28 +286,6 @@ module _ (looks : List Idle) (rows : List Row) (flags now : List Bool) (k : ℕ)
         let same_idle : idle ≡ marked.idle = same_Some idle marked.idle (sym was ∙ marked.was) in
         let same_row : row ≡ marked.row = same_Some row marked.row (sym at ∙ marked.at) in
         marked.differs (ap idle_of (sym same_row) ∙ (no is).1 ∙ same_idle)
-
-    pub flags_step : FlagsUpTo looks rows flags (slice_set now k next) (k + 1)
-    flags_step = record {
-      long = length-set now k next ∙ so_far.long;
-      kept = λ place is.
-          elim (set_cases now k place next false is) [
-            | inl here ↦
-                let there : slice_get now place ≡ Some false = ap (slice_get now) here.0 ∙ flag_at ∙ ap (λ (b : Bool). Some b) (no (sym here.1)).0 in
-                ((so_far.kept place there).0, λ _ marked. not_marked (sym here.1) (subst (IsLookedAt looks rows) here.0 marked))
-            | inr other ↦
-                let before = so_far.kept place other.1 in
-                (before.0, λ early. before.1 (below place k early other.0))
-          ];
-      flagged = λ place is.
-          elim (set_cases now k place next true is) [
-            | inl here ↦ elim (yes (sym here.1)) [
-              | inl set ↦ so_far.flagged place (ap (slice_get now) here.0 ∙ flag_at ∙ ap (λ (b : Bool). Some b) set)
-              | inr differs ↦ inr (subst (IsLookedAt looks rows) (sym here.0) (record { idle = idle; was = was; row = row; at = at; differs = differs }))
-            ]
-            | inr other ↦ so_far.flagged place other.1
-          ];
-    }
 
 -- with the looks that were remembered when the pass began
 module _ (rules : Rules) (rows after : List Row) (flags grown changed : List Bool) (looks : List Idle) (begun : looks ≡ looks_in rules rows) (growth : FlagsGrowth rules rows flags after grown) (marks : FlagsLooks looks after grown changed) where

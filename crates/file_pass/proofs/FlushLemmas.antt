@@ -1,7 +1,7 @@
 -- What is made of a row whose file was read on, by cases, and beside a look at the file.
 use Rattle.std.proofs.Common.{◌≡◌, ℕ, ◌+◌, ◌-◌, ◌<◌, ◌≤◌, List, [], ◌∷◌, ◌++◌, length, drop, min, Bool, true, false, true≢false, not, nat_lt, nat_le, ◌==◌, ◌&&◌, ◌||◌, refl, sym, ap, ◌∙◌, inl, inr, arith, length-append, length-drop, eq-eqb}
-use Rattle.std.proofs.lemmas.Bool.{cases_lt, cond-false, le-ltb, lt-ltb, ltb-true, leb-true, ne_eqb, and_parts}
-use Rattle.std.proofs.lemmas.List.{append-nil, drop-drop, take_all}
+use Rattle.std.proofs.lemmas.Bool.{cases_lt, cond-false, le-ltb, lt-ltb, ltb-true, leb-true, ne_eqb, and_parts, and_right}
+use Rattle.std.proofs.lemmas.List.{append-nil, drop-drop, take_all, nil_from_length}
 use Rattle.std.proofs.lemmas.Slice.Eq.{bytes_eq-Decides}
 use Rattle.std.specs.Prelude.{if◌then◌else◌, IsTrue}
 use Rattle.std.specs.Str.{bytes_eq}
@@ -58,10 +58,6 @@ row_is P rules size ending given row each = by (looks_on rules size ending row.o
 
 -- ---- what a row keeps
 
-no_tokens : (tokens : List (List ℕ)) → length tokens ≡ 0 → tokens ≡ []
-no_tokens [] none = refl
-no_tokens (token ∷ tokens) none = absurd (omega (arith, none))
-
 same_numbers : (row : Row) (offset records lines : ℕ) (state : List ℕ) → offset ≡ row.offset → records ≡ row.records → lines ≡ row.lines → state ≡ row.state → with_progress offset records lines state row ≡ row
 same_numbers row offset records lines state a b c d = rw (a, b, c, d) refl
 
@@ -81,7 +77,7 @@ module _ (poll : Poll) (laws : AreRules poll.rules) (size : ℕ) (given : List �
   -- where it came no further the row is as it was
   fed_stays : fed_row.offset ≤ row.offset → with_progress fed_row.offset fed_row.records fed_row.lines fed_row.state row ≡ row
   fed_stays no_further =
-      let none : tokens_of poll.rules given ≡ [] = no_tokens (tokens_of poll.rules given) (omega (arith, no_further, few_tokens poll laws given)) in
+      let none : tokens_of poll.rules given ≡ [] = nil_from_length (tokens_of poll.rules given) (omega (arith, no_further, few_tokens poll laws given)) in
       let none_made : poll.rules.made row.path row.records row.state (tokens_of poll.rules given) ≡ [] = ap (poll.rules.made row.path row.records row.state) none ∙ laws.operators.none_made row.path row.records row.state good in
       let same_state : fed_row.state ≡ row.state = ap (poll.rules.state_after row.path row.records row.state) none ∙ laws.operators.state_stays row.path row.records row.state good in
       same_numbers row fed_row.offset fed_row.records fed_row.lines fed_row.state (omega (arith, no_further)) (omega (arith, ap length none)) (omega (arith, ap length none_made)) same_state
@@ -308,16 +304,12 @@ looked_apart poll size rest before = by (look_of poll.rules size before.row).1 (
     by true idle = refl
     by false idle = same_taken refl (sym (append-nil before.lines))
 
-and_false : (a b : Bool) → b ≡ false → (a && b) ≡ false
-and_false true b is = is
-and_false false b is = refl
-
 same_on : (rules : Rules) (here : Look) (offset : ℕ) (ending : Ending) → (ending ≡ Whole → here.end ≡ size here) → ((ending ≡ Whole → ⊥) → here.end < size here) → standing.looks_on rules here offset ≡ looks_on rules (size here) ending offset
 same_on rules here offset ending whole partly = by ending refl
   where
     cut : here.end < size here → standing.looks_on rules here offset ≡ false
     cut early =
-        and_false (nat_lt 0 rules.flush_after) (here.end == size here && nat_le (size here) (offset + most_taken))
+        and_right (nat_lt 0 rules.flush_after) (here.end == size here && nat_le (size here) (offset + most_taken))
         (ap (λ (t : Bool). t && nat_le (size here) (offset + most_taken)) (ne_eqb here.end (size here) (λ e. omega (arith, e, early))))
 
     by : (e : Ending) → ending ≡ e → standing.looks_on rules here offset ≡ looks_on rules (size here) e offset

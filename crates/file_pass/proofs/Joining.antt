@@ -51,14 +51,15 @@ use Rattle.file_pass.specs.declared.found.Found.TheVariants.{Missed, Unread, Gon
 use Rattle.file_pass.specs.declared.setup.Setup.{Setup}
 use Rattle.file_pass.specs.declared.taking.Taking.{Taking}
 use Rattle.file_pass.proofs.DiskLemmas.{appends_none, appends_then, appends_same}
-use Rattle.file_pass.proofs.Opening.{path_file, later_moves, open_unread, open_shrunk, open_seen, open_fills, path_looked, path_fills, path_missed, path_lost, WithFile}
+use Rattle.file_pass.proofs.Opening.{path_file, open_unread, open_shrunk, open_seen, open_fills, path_looked, path_fills, path_missed, path_lost, WithFile}
 use Rattle.file_pass.proofs.SaneLemmas.{text_long}
-use Rattle.file_pass.proofs.TreeLemmas.{keeps_tree_none, keeps_tree_then, no_wider_none}
+use Rattle.file_pass.proofs.TreeLemmas.{keeps_tree_none, keeps_tree_then, no_wider_none, no_wider_within}
 use Rattle.file_pass.proofs.Turning.{all_none, all_more, all_fill}
+use Rattle.file_pass.proofs.ReadingLemmas.{moves_later}
 
 one_later : {own : List Event} {fact : History → Type 0} {old new : History} → AtOneMoment own fact old new → IsLater old new
 one_later {own} {fact} {old} {new} at =
-    later_then old at.moment new (later_moves at.before) (later_then at.moment (own ++ at.moment) new (record { events = own; goes_on = refl }) (later_moves at.after))
+    later_then old at.moment new (moves_later at.before) (later_then at.moment (own ++ at.moment) new (record { events = own; goes_on = refl }) (moves_later at.after))
 
 opens_later : (path : List ℕ) (result : Result Opened CallFault) (old new : World) → Opens path result old new → GoesLater old new
 opens_later path (Ok (File handle size)) old new opens = one_later opens.history
@@ -72,12 +73,6 @@ cause_falls (Ok x) before after same = never_falls_same same
 cause_falls (Err Failed) before after rose = never_falls_rose rose
 cause_falls (Err Memory) before after same = never_falls_same same
 
-no_wider_more : (most more : ℕ) (old new : Option ℕ) → most ≤ more → IsNoWider most old new → IsNoWider more old new
-no_wider_more most more None None le narrow = tt
-no_wider_more most more None (Some n) le narrow = narrow
-no_wider_more most more (Some k) None le narrow = narrow
-no_wider_more most more (Some k) (Some n) le narrow = omega (arith, le, narrow)
-
 -- into a shorter buffer
 pub tree_wider : {T : Type 0} (meaning : TreeMeaning T) (most more taken : ℕ) (old new : T) → most ≤ more → KeepsTree meaning most taken old new → KeepsTreeAt meaning more old new
 tree_wider meaning most more taken old new le keeps = (
@@ -90,7 +85,7 @@ tree_wider meaning most more taken old new le keeps = (
     plan = keeps.plan;
     bound = keeps.bound;
     taken_then = keeps.taken_then;
-    widest = no_wider_more most more (meaning.widest old) (meaning.widest new) le keeps.widest;
+    widest = no_wider_within most more (meaning.widest old) (meaning.widest new) le keeps.widest;
   },
 )
 
@@ -151,7 +146,7 @@ module _ {T : Type 0} (meaning : TreeMeaning T) (most : ℕ) (path : List ℕ) (
       told_then GoesLater GoesLater GoesLater (meaning.world old) (meaning.world taken) (meaning.world closed) (λ x y z a b. later_then x.history y.history z.history a b)
       (told_then GoesLater GoesLater GoesLater (meaning.world old) (meaning.world opened) (meaning.world taken) (λ x y z a b. later_then x.history y.history z.history a b)
       (told_weaker _ _ (meaning.world old) (meaning.world opened) (opens_later path (Ok (File handle size))) opens) keeps.1.later)
-      (told_weaker _ _ (meaning.world taken) (meaning.world closed) (λ x y closing. later_moves closing.history) closes)
+      (told_weaker _ _ (meaning.world taken) (meaning.world closed) (λ x y closing. moves_later closing.history) closes)
 
   handles_file : Told SameHandles (meaning.world old) (meaning.world closed)
   handles_file =

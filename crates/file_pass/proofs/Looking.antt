@@ -1,6 +1,6 @@
 -- What a look makes of the rows, by what was found of its file.
-use Rattle.std.proofs.Common.{◌≡◌, ℕ, ◌+◌, ◌<◌, ◌≤◌, ◌==◌, List, [], ◌∷◌, ◌++◌, length, Bool, true, false, not, ◌||◌, ◌&&◌, refl, sym, ap, subst, ◌∙◌, arith, eq-eqb}
-use Rattle.std.proofs.lemmas.Bool.{cond-true, ne_eqb, lt-ltb, le-ltb}
+use Rattle.std.proofs.Common.{◌≡◌, ℕ, ◌+◌, ◌<◌, ◌≤◌, ◌==◌, List, [], ◌∷◌, ◌++◌, length, true, false, not, ◌||◌, ◌&&◌, refl, sym, ap, subst, ◌∙◌, arith, eq-eqb}
+use Rattle.std.proofs.lemmas.Bool.{cond-true, ne_eqb, lt-ltb, le-ltb, and_right, or_from, or_left, or_right}
 use Rattle.std.proofs.lemmas.List.{length-set, length_push}
 use Rattle.std.proofs.Math.Seq.{set-append_seam}
 use Rattle.std.specs.Prelude.{None, Some, slice_get, slice_set, nat_lt}
@@ -30,18 +30,8 @@ filled_some here some = ap not (ne_eqb (size here) 0 (λ e. omega (arith, e, som
 filled_none : (here : Look) → size here ≡ 0 → is_filled here ≡ false
 filled_none here none = ap not (eq-eqb (size here) 0 none)
 
-or_false : (a b : Bool) → a ≡ false → b ≡ false → (a || b) ≡ false
-or_false a b first second = rw (first, second) refl
-
-or_left : (a b : Bool) → a ≡ true → (a || b) ≡ true
-or_left a b first = rw first refl
-
-or_right : (a b : Bool) → b ≡ true → (a || b) ≡ true
-or_right true b second = refl
-or_right false b second = second
-
 pub short_not : (here : Look) → here.skipped ≡ false → size here ≤ here.end → is_short here ≡ false
-short_not here read all = or_false here.skipped (nat_lt here.end (size here)) read (le-ltb here.end (size here) all)
+short_not here read all = or_from here.skipped (nat_lt here.end (size here)) read (le-ltb here.end (size here) all)
 
 short_skipped : (here : Look) → here.skipped ≡ true → is_short here ≡ true
 short_skipped here is = or_left here.skipped (nat_lt here.end (size here)) is
@@ -62,12 +52,8 @@ unfolding lines_added
 lines_added-short poll here row short = cond-true (nat_lt (size here) row.offset) [] (all_taken poll here row).lines (lt-ltb (size here) row.offset short)
 
 -- what more there is past an offset
-and_false_right : (a b : Bool) → b ≡ false → (a && b) ≡ false
-and_false_right true b is = is
-and_false_right false b is = refl
-
 more_not : (here : Look) (offset : ℕ) → size here ≤ offset + most_taken → (here.end == size here && nat_lt (offset + most_taken) (size here)) ≡ false
-more_not here offset within = and_false_right (here.end == size here) (nat_lt (offset + most_taken) (size here)) (le-ltb (offset + most_taken) (size here) within)
+more_not here offset within = and_right (here.end == size here) (nat_lt (offset + most_taken) (size here)) (le-ltb (offset + most_taken) (size here) within)
 
 -- whatever was read
 pub look_with : (poll : Poll) (here : Look) (before after : List Row) (added : List Mark) (gain : Gain) (count : ℕ) → TakesLook poll here (step before after gain added) → TakesLook poll here (step before after (with_taken count gain) added)

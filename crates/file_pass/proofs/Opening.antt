@@ -19,7 +19,6 @@ use Rattle.standing.proofs.MomentLemmas.{bytes_grow, later_then, at_look}
 use Rattle.standing.specs.Poll.{Poll}
 use Rattle.standing.specs.Limits.{is_compressed}
 use Rattle.standing.specs.Look.{ComesAt}
-use Rattle.standing.specs.Moments.{IsLater}
 use Rattle.standing.specs.Rules.{Includes}
 use Rattle.file_pass.specs.Full.{Overflow}
 use Rattle.file_pass.specs.Gain.{no_gain, one_file, with_taken}
@@ -35,10 +34,7 @@ use Rattle.file_pass.specs.declared.ending.PathFile.{PathFile}
 use Rattle.file_pass.specs.declared.ending.SeenFile.{SeenFile}
 use Rattle.file_pass.proofs.Bridging.{still_open, look_same}
 use Rattle.file_pass.proofs.Looking.{look_with, takes_nothing, takes_unread, takes_compressed, takes_full}
-use Rattle.file_pass.proofs.ReadingLemmas.{same_piece}
-
-pub later_moves : {old new : History} → Moves old new → IsLater old new
-later_moves moves = record { events = moves.steps; goes_on = moves.goes_on }
+use Rattle.file_pass.proofs.ReadingLemmas.{same_piece, moves_later}
 
 module _ (poll : Poll) (at : PathFile) (before : List Row) where
   -- nothing was done with an empty file
@@ -93,7 +89,7 @@ module _ (poll : Poll) (at : SeenFile) where
           open_at = record {
             is = ap (λ hs. file_of hs at.file.handle.0) reads.handles ∙ was.is;
             size_then = was.size_then;
-            later = later_then moment old.history mid.history was.later (later_moves reads.moves);
+            later = later_then moment old.history mid.history was.later (moves_later reads.moves);
           };
           front_is =
               reads.are seen (record { is = has.is; long = omega (arith, is, has.long) })
@@ -156,7 +152,7 @@ module _ (poll : Poll) (at : PathFile) (included : Includes poll.rules at.path.n
   open_at = record {
     is = found opened opens.handles;
     size_then = opens.history.holds.length_then;
-    later = later_then opens.history.moment (look opens.file ∷ opens.history.moment) opened.history (at_look opens.file opens.history.moment) (later_moves opens.history.after);
+    later = later_then opens.history.moment (look opens.file ∷ opens.history.moment) opened.history (at_look opens.file opens.history.moment) (moves_later opens.history.after);
   }
     where
       found : (world : World) → world.handles ≡ (at.file.handle.0, opens.file) ∷ old.handles → file_of world.handles at.file.handle.0 ≡ Some opens.file
@@ -164,7 +160,7 @@ module _ (poll : Poll) (at : PathFile) (included : Includes poll.rules at.path.n
 
   comes : (end : ℕ) (skipped : Bool) → Moves opened.history taken.history → end ≤ length (bytes opens.history.moment opens.file) → ComesAt poll.rules (look_at at.path.now opens.file opens.history.moment end skipped) closed.history
   comes end skipped moves within =
-      let after = later_then (look opens.file ∷ opens.history.moment) taken.history closed.history (later_then (look opens.file ∷ opens.history.moment) opened.history taken.history (later_moves opens.history.after) (later_moves moves)) (later_moves closes.history) in
+      let after = later_then (look opens.file ∷ opens.history.moment) taken.history closed.history (later_then (look opens.file ∷ opens.history.moment) opened.history taken.history (moves_later opens.history.after) (moves_later moves)) (moves_later closes.history) in
       record {
         looks = record { later = after.events; split = after.goes_on };
         under = opens.history.holds.named;
@@ -195,7 +191,7 @@ module _ (poll : Poll) (at : PathFile) (included : Includes poll.rules at.path.n
         turn = looks_at (look_at at.path.now opens.file opens.history.moment open_taken.end open_taken.skipped);
         path_is = refl;
         comes = record {
-          later = later_moves opens.history.before;
+          later = moves_later opens.history.before;
           comes = comes open_taken.end open_taken.skipped open_taken.moves took.end_within;
           all_looks = seen_looks open_taken.moves;
           all_misses = seen_misses open_taken.moves;
@@ -211,7 +207,7 @@ module _ (poll : Poll) (at : PathFile) (included : Includes poll.rules at.path.n
     here = look_at at.path.now opens.file opens.history.moment at.file.size false;
     path_is = refl;
     whole = opens.history.holds.length_then;
-    later = later_moves opens.history.before;
+    later = moves_later opens.history.before;
     comes = comes at.file.size false fills.moves (omega (arith, opens.history.holds.length_then));
     all_looks = seen_looks fills.moves;
     all_misses = seen_misses fills.moves;
@@ -233,8 +229,8 @@ module _ (poll : Poll) (path : List ℕ) (before : List Row) (old new : World) w
     turn = misses_path path;
     path_is = refl;
     comes = record {
-      later = later_then old.history opens.history.moment new.history (later_moves opens.history.before)
-          (later_then opens.history.moment (miss path ∷ opens.history.moment) new.history (record { events = miss path ∷ []; goes_on = refl }) (later_moves opens.history.after));
+      later = later_then old.history opens.history.moment new.history (moves_later opens.history.before)
+          (later_then opens.history.moment (miss path ∷ opens.history.moment) new.history (record { events = miss path ∷ []; goes_on = refl }) (moves_later opens.history.after));
       all_looks = looks_stay (miss path ∷ opens.history.moment) new.history opens.history.after ∙ looks_stay old.history opens.history.moment opens.history.before;
       all_misses = misses_stay (miss path ∷ opens.history.moment) new.history opens.history.after ∙ ap (λ (l : List (List ℕ)). path ∷ l) (misses_stay old.history opens.history.moment opens.history.before);
       same = refl;
@@ -264,8 +260,8 @@ module _ (poll : Poll) (path : List ℕ) (before : List Row) (old new : World) w
         comes = record {
           had_none = record {
             moment = opens.history.moment;
-            after = later_moves opens.history.before;
-            before = later_moves opens.history.after;
+            after = moves_later opens.history.before;
+            before = moves_later opens.history.after;
             none = no_file opens.history.moment (other_kind opens.history.moment opens.history.holds);
           };
           all_looks = looks_stay old.history new.history moves;

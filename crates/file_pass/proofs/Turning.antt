@@ -23,8 +23,8 @@ use Rattle.file_pass.specs.PathTaken.{Comes, LooksAtPath, MissesPath, FindsNoFil
 use Rattle.file_pass.specs.Seen.{progress_of}
 use Rattle.file_pass.specs.Step.{step}
 use Rattle.file_pass.specs.Turns.{Turn, looks_at, misses_path, finds_none, path_of, looks_of, gone_of, HadNone}
-use Rattle.file_pass.proofs.Filling.{crosses_before}
 use Rattle.file_pass.proofs.Listing.{contains_none, contains_cons}
+use Rattle.file_pass.proofs.GoingOn.{crosses_later}
 
 come_later : (poll : Poll) (looks : List Look) (old mid new : History) → Come poll.rules looks old mid → IsLater mid new → Come poll.rules looks old new
 come_later poll [] old mid new come later = later_then old mid new come later
@@ -225,6 +225,6 @@ module _ (poll : Poll) where
           read_on = (a.read_on, reads_whole poll b.here b.whole (outcome_after poll (looks_of a.turns) start b.here));
           crosses = subst (λ (l : List Mark). Crosses limit end l full)
               (sym (ap (λ (p : Progress). (after_look poll b.here p).added) a.leads_to ∙ ap (λ (p : Progress). p.added) (look_after_lines poll b.here mid added)))
-              (crosses_before limit end mid_end added (after_look poll b.here (progress_of mid [])).added full at b.fills);
+              (crosses_later limit end mid_end added (after_look poll b.here (progress_of mid [])).added full at b.fills);
           handles = b.handles ∙ a.handles;
         }

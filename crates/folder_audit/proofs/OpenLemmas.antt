@@ -28,7 +28,7 @@ use Rattle.folder_audit.specs.declared.findings.Finding.{Finding}
 use Rattle.folder_audit.specs.declared.findings.Finding.TheVariants.{Absent, Same, Differs}
 use Rattle.folder_audit.specs.declared.judging.OpenFile.{OpenFile}
 use Rattle.folder_audit.specs.declared.kept.Kept.{Kept}
-use Rattle.folder_audit.proofs.ReadLemmas.{later_moves}
+use Rattle.tree_walk.proofs.Worlds.{later_moves}
 
 -- ---- what is told of two things, and over three calls
 

@@ -6,20 +6,19 @@ use Rattle.outside.proofs.Moving.{grows_by, moves_by_moment}
 use Rattle.outside.proofs.Telling.{told_same, told_then, told_weaker}
 use Rattle.outside.specs.Content.{Gives}
 use Rattle.outside.specs.Count.{HasOneCause, NeverFalls, Rose}
-use Rattle.outside.specs.Moment.{Moves}
 use Rattle.outside.specs.Reading.{file_of, bytes_if, Reads}
 use Rattle.outside.specs.TreeMeaning.{TreeMeaning}
 use Rattle.outside.specs.World.{History, World, Told, bytes}
 use Rattle.outside.specs.declared.fault.Failed.{Failed}
 use Rattle.slot_store.proofs.Filling.{take_filled, take_in_two}
 use Rattle.standing.proofs.MomentLemmas.{bytes_grow, later_none, later_then}
-use Rattle.standing.specs.Moments.{IsLater}
 use Rattle.tree_walk.specs.Calls.{KeepsHandles, Lasts}
 use Rattle.folder_audit.specs.Open.{GoesOn}
 use Rattle.folder_audit.specs.Inner.ReadsRange.{AreBytes, EndsBefore, HasBytes, ReadsRange}
 use Rattle.folder_audit.specs.Inner.Tried.{RoseBy, UnlessRose}
 use Rattle.folder_audit.proofs.UnlessLemmas.{unless_rose}
 use borrow.Rule.Slice.PartMut.{put_mid}
+use Rattle.tree_walk.proofs.Worlds.{later_moves}
 
 -- ---- the tree goes on
 
@@ -34,9 +33,6 @@ handles_none world = record { handles = refl; later = later_none world.history }
 
 pub handles_then : (x y z : World) → KeepsHandles x y → KeepsHandles y z → KeepsHandles x z
 handles_then x y z first second = record { handles = second.handles ∙ first.handles; later = later_then x.history y.history z.history first.later second.later }
-
-pub later_moves : {old new : History} → Moves old new → IsLater old new
-later_moves moves = record { events = moves.steps; goes_on = moves.goes_on }
 
 module _ {T : Type 0} (meaning : TreeMeaning T) where
   pub goes_none : (tree : T) → GoesOn meaning tree tree

@@ -30,8 +30,8 @@ use Rattle.folder_audit.specs.declared.judging.OpenFile.{OpenFile}
 use Rattle.folder_audit.specs.declared.kept.Kept.{Kept}
 use Rattle.folder_audit.proofs.JudgeLemmas.{front_then, still_at, still_open}
 use Rattle.folder_audit.proofs.OpenLemmas.{opened_at}
-use Rattle.folder_audit.proofs.ReadLemmas.{later_moves}
 use Rattle.folder_audit.proofs.UnlessLemmas.{unless_and, unless_both, unless_earlier, unless_later, unless_so, unless_weaker}
+use Rattle.tree_walk.proofs.Worlds.{later_moves}
 
 some_verdict : (found : Verdict) (lines : ℕ) (finding : Finding) → HasVerdict found lines finding → IsSome finding
 some_verdict verdict.Same lines finding is = ap is_absent is

@@ -4,7 +4,6 @@ use Rattle.std.specs.Prelude.{Option, None, Some, Contains}
 use Rattle.std.proofs.lemmas.List.{take_more}
 use Rattle.std.proofs.lemmas.List.Elements.{Contains-append_right, Contains-push_cases}
 use Rattle.std.proofs.lemmas.Option.{slice_get_within}
-use Rattle.outside.proofs.Telling.{told_same}
 use Rattle.outside.specs.Seen.{left_unlisted}
 use Rattle.outside.specs.TreeMeaning.{TreeMeaning}
 use Rattle.outside.specs.World.{Event, create, append, rename, remove, look, miss, unlisted, History, World, Told}
@@ -14,7 +13,7 @@ use Rattle.standing.proofs.MomentLemmas.{later_none, later_then}
 use Rattle.standing.specs.Included.{IsIncluded}
 use Rattle.standing.specs.Moments.{IsLater, NamesThroughout}
 use Rattle.standing.specs.Rows.{Row, IsRowAt}
-use Rattle.tree_walk.proofs.Lists.{contains_behind, contains_first, contains_none}
+use Rattle.tree_walk.proofs.Lists.{contains_behind, contains_first}
 use Rattle.tree_walk.specs.Calls.{KeepsHandles}
 use Rattle.tree_walk.specs.Listings.{Failures}
 use Rattle.tree_walk.specs.Patterns.{Patterns}
@@ -51,11 +50,6 @@ pub walked_next : (paths : List (List ℕ)) (i : ℕ) (path : List ℕ) → i < 
 walked_next paths i path within is = sym (take_more paths i path within ∙ ap (λ (p : List ℕ). take i paths ++ p ∷ []) (sym is))
 
 module _ {T : Type 0} (meaning : TreeMeaning T) (kept : Kept) where
-  pub walked_none : (found : List Finding) (tree : T) → FindsWalked meaning kept found [] tree tree
-  walked_none found tree =
-      told_same (FindsAll kept found (Contains []) (RoseBy meaning tree tree)) (meaning.world tree)
-      (λ world. record { failed = []; counted = omega arith; each = λ path file asked named. absurd (contains_none path asked) })
-
   module _ (before after : List Finding) (paths : List (List ℕ)) (path : List ℕ) (judged : Option (ℕ × Finding)) (old mid new : T) (first : GoesOn meaning old mid) (second : GoesOn meaning mid new)
       (many : length before ≡ length kept.rows) (stay : (k : ℕ) → IsIn before k → IsIn after k) (noted : (k : ℕ) → k < length before → IsOf judged k → IsIn after k) where
     abbrev Before : World → World → Type 0

@@ -1,7 +1,7 @@
 -- The lines of several files in one walk.
-use Rattle.std.proofs.Common.{◌≡◌, ◌≢◌, ◌⊎◌, ℕ, zero, suc, ◌+◌, ◌-◌, ◌<◌, ◌≤◌, ◌^◌, ◌==◌, Bool, true, false, List, [], ◌∷◌, ◌++◌, refl, sym, subst, ap, ◌∙◌, inl, inr, arith, length, take, drop, decimal, append_assoc, eqb-true, eq-eqb, length-append, set, Bor}
-use Rattle.std.specs.Prelude.{Option, Some, None, MatchBool, MatchOption, slice_get, codes, flat_map, if◌then◌else◌}
-use Rattle.std.proofs.lemmas.Bool.{ne_eqb, cond-true, cond-false}
+use Rattle.std.proofs.Common.{◌≡◌, ◌≢◌, ◌⊎◌, ℕ, zero, suc, ◌+◌, ◌-◌, ◌<◌, ◌≤◌, ◌^◌, ◌==◌, Bool, true, false, List, [], ◌∷◌, ◌++◌, refl, sym, subst, ap, ◌∙◌, arith, length, take, drop, decimal, append_assoc, eqb-true, eq-eqb, length-append, set, Bor}
+use Rattle.std.specs.Prelude.{Option, Some, None, MatchOption, slice_get, codes, flat_map, if◌then◌else◌}
+use Rattle.std.proofs.lemmas.Bool.{cond-true, cond-false}
 use Rattle.std.proofs.lemmas.Grind.{flat_map-append}
 use Rattle.std.proofs.lemmas.List.{append-nil, append_cancel_right, drop_at, take_at, length_push, length-set}
 use Rattle.std.proofs.lemmas.Option.{same_Some, none-some}
@@ -9,8 +9,8 @@ use Rattle.memchr.specs.Find.{IsLastByte, is_byte}
 use Rattle.otlp_json.specs.OutputLine.{line_tail}
 use Rattle.otlp_json.proofs.Splits.{digits_only}
 use Rattle.kept_lines.specs.Lines.{whole_lines, IsFirstLength}
-use Rattle.kept_lines.specs.OwnLines.{IsOf, AreOf}
-use Rattle.kept_lines.specs.Split.{AddsLine, AreEmpty, AreTexts, IsText, IsWhose, before_id, is_it}
+use Rattle.kept_lines.specs.OwnLines.{IsOf}
+use Rattle.kept_lines.specs.Split.{AddsLine, AreEmpty, AreTexts, IsWhose, before_id, is_it}
 use Rattle.kept_lines.proofs.Cutting.{SoFar, begun, passed_on, taken_on, at_end}
 use Rattle.kept_lines.proofs.Quotes.{before_number, last_quote}
 
@@ -61,12 +61,6 @@ id_quoted text front number e none =
 
 pub whose_none : (line : List ℕ) → ((front : List ℕ) (id number : ℕ) → id < 2 ^ 32 → line ≡ front ++ line_tail id number → None ≡ Some id) → IsWhose line None
 whose_none line told = λ id small is. let never : None ≡ Some id = told is.front id is.number small is.ends in cc
-
-pub whose_some : (line : List ℕ) (told_id : ℕ) → ((front : List ℕ) (id number : ℕ) → id < 2 ^ 32 → line ≡ front ++ line_tail id number → Some told_id ≡ Some id) → IsOf told_id line → IsWhose line (Some told_id)
-whose_some line told_id told is = (is, λ other small its. same_Some other told_id (sym (told its.front other its.number small its.ends)))
-
-pub whose_other : (line : List ℕ) (told_id : ℕ) → ((front : List ℕ) (id number : ℕ) → id < 2 ^ 32 → line ≡ front ++ line_tail id number → Some told_id ≡ Some id) → (IsOf told_id line → ⊥) → IsWhose line None
-whose_other line told_id told none = λ id small is. none (subst (λ (n : ℕ). IsOf n line) (sym (same_Some told_id id (told is.front id is.number small is.ends))) is)
 
 -- ---- all lines in turn
 
@@ -130,19 +124,6 @@ all_texts output rest count texts so_far free = record {
 pub adds_none : (line : List ℕ) (texts : List (List ℕ)) → AddsLine None line texts texts
 adds_none line texts = record { many = refl; each = λ place text at. at }
 
-pub adds_past : (id : ℕ) (line : List ℕ) (texts : List (List ℕ)) → (id ≡ 0) ⊎ (length texts < id) → AddsLine (Some id) line texts texts
-adds_past id line texts past = record {
-  many = refl;
-  each = λ place text at.
-      let within : place < length texts = within_by texts place text at in
-      let apart : (place + 1 == id) ≡ false = ne_eqb (place + 1) id (λ e. elim past [ inl none ↦ omega (arith, none, e) | inr over ↦ omega (arith, over, within, e) ]) in
-      at ∙ ap Some (sym (cond-false (place + 1 == id) (text ++ line) text apart));
-} where
-  within_by : (xs : List (List ℕ)) (k : ℕ) (x : List ℕ) → slice_get xs k ≡ Some x → k < length xs
-  within_by [] k x at = absurd (none-some x at)
-  within_by (y ∷ xs) zero x at = omega arith
-  within_by (y ∷ xs) (suc k) x at = omega (arith, within_by xs k x at)
-
 text_at : (texts : List (List ℕ)) (place : ℕ) (text new : List ℕ) (other : ℕ) → slice_get texts place ≡ Some text → (place ≡ other → ⊥) → slice_get (set texts other new) place ≡ Some text
 text_at [] place text new other at apart = absurd (none-some text at)
 text_at (first ∷ texts) zero text new zero at apart = absurd (apart refl)
@@ -168,9 +149,6 @@ adds_at id line texts old new first there is = record {
   by place text at false e =
       text_at texts place text new (id - 1) at (λ here. let one : place + 1 ≡ id = omega (arith, here, first) in let t : true ≡ false = sym (eq-eqb (place + 1) id one) ∙ e in cc)
       ∙ ap Some (sym (cond-false (place + 1 == id) (text ++ line) text e))
-
-pub empty_none : AreEmpty 0 []
-empty_none = record { many = refl; each = λ place text at. absurd (none-some text at) }
 
 pub empty_more : (n : ℕ) (texts : List (List ℕ)) (text : List ℕ) → text ≡ [] → AreEmpty n texts → AreEmpty (n + 1) (texts ++ text ∷ [])
 empty_more n texts text is empty = record {

@@ -35,6 +35,9 @@ use Rattle.standing.specs.Standing.{Found, nothing, damaged, found, Sound, Stand
 use Rattle.standing.specs.Stands.{CheckpointStands, RowStands}
 use Rattle.standing.specs.Times.{HaveTimes}
 use Rattle.standing.specs.Tokens.{tokens_of}
+use Rattle.poll_core.proofs.EraLemmas.{stamped_so, sole_text}
+use Rattle.poll_core.proofs.AdoptStands.{settings_are}
+use Rattle.std.proofs.lemmas.List.{nil_from_length}
 
 pub one_era_laws : (rules : Rules) → AreRules rules → AreEras (one_era rules)
 one_era_laws rules laws = record {
@@ -44,10 +47,6 @@ one_era_laws rules laws = record {
 }
 
 -- ---- sessions
-
-stamped_so : (stamps : Bool) (time : ℕ) → is_some (stamp_at stamps time) ≡ stamps
-stamped_so false time = refl
-stamped_so true time = refl
 
 -- A session gives its lines a time where they are to have one; here its settings flush nothing.
 pub session_plain : (rules : Rules) (session : Session) → rules_of_session session ≡ rules → rules.flush_after ≡ 0 → IsPlainIn (one_era rules) (is_first session) (stamp_of_session session)
@@ -69,21 +68,12 @@ session_polls rules session eras_are rules_are =
 pub session_has : (rules : Rules) (session : Session) → IsSession session → rules_of_session session ≡ rules → HasRules rules.settings rules
 session_has rules session is rules_are = subst (λ (r : Rules). HasRules r.settings r) rules_are (session.pipeline, is.made, refl)
 
--- rules of a text are those of their own
-pub own_text : (text : List ℕ) (rules : Rules) → HasRules text rules → rules.settings ≡ text
-own_text text rules has = ap (λ (r : Rules). r.settings) has.2
-
 pub rules_own : (text : List ℕ) (rules : Rules) → HasRules text rules → HasRules rules.settings rules
-rules_own text rules has = subst (λ (t : List ℕ). HasRules t rules) (sym (own_text text rules has)) has
-
-only_text : (texts : List (List ℕ)) → length texts ≡ 1 → texts ≡ last_text texts ∷ []
-only_text [] one = absurd (omega (arith, one))
-only_text (text ∷ []) one = refl
-only_text (text ∷ other ∷ more) one = absurd (omega (arith, one))
+rules_own text rules has = subst (λ (t : List ℕ). HasRules t rules) (sym (settings_are text rules has)) has
 
 -- a session of one text
 pub session_of_one : (rules : Rules) (session : Session) → length session.eras ≡ 1 → settings_of_session session ≡ rules.settings → session.eras ≡ texts_of (one_era rules)
-session_of_one rules session one text = only_text session.eras one ∙ ap (λ (t : List ℕ). t ∷ []) text
+session_of_one rules session one text = sole_text session.eras one ∙ ap (λ (t : List ℕ). t ∷ []) text
 
 -- ---- images
 
@@ -123,10 +113,6 @@ owner_included rules history row file owner = subst (λ (r : Rules). Includes r 
 some_era : (eras : Eras) (era : ℕ) (its : Rules) → era_at eras era ≡ Some its → 1 ≤ era
 some_era eras zero its is = absurd (let never : None ≡ Some its = is in cc)
 some_era eras (suc era) its is = omega arith
-
-none_of : (ends : List End) → length ends ≡ 0 → ends ≡ []
-none_of [] none = refl
-none_of (end ∷ ends) none = absurd (omega (arith, none))
 
 -- the mark has a time where one is asked for
 abbrev pub IsTimed : Bool → Mark → Type 0
@@ -179,7 +165,7 @@ module _ (rules : Rules) (history : History) (row : Row) (lines : List Mark) (st
   no_ends : row.ends ≡ []
   no_ends =
       let parts : row.born + length row.ends ≡ 1 = stands.parts in
-      none_of row.ends (omega (arith, parts, some_era (one_era rules) row.born stands.owner.rules stands.owner.admitted))
+      nil_from_length row.ends (omega (arith, parts, some_era (one_era rules) row.born stands.owner.rules stands.owner.admitted))
 
   none_earlier : stands.earlier ≡ []
   none_earlier = subst (λ (ends : List End). AreClosed (one_era rules) (bytes history stands.file) row.path row.born (first_point row) ends stands.earlier) no_ends stands.closed

@@ -34,6 +34,7 @@ use Rattle.standing.specs.Rows.{KeepStates}
 use Rattle.standing.specs.Rules.{Rules}
 use Rattle.standing.specs.Standing.{Found, nothing, damaged, found, Sound, Standing}
 use Rattle.standing.specs.Stands.{IsSound}
+use Rattle.poll_core.proofs.StandingLemmas.{lasts}
 
 -- ---- sequence numbers
 
@@ -78,30 +79,15 @@ left_reopened rules past old new reopens left =
 
 -- ---- the world goes on
 
-standing_later : (eras : Eras) (old new : History) (there : Found) (file : List ℕ) → AreErasIn there eras → IsLater old new → Standing eras old there file → Standing eras new there file
-standing_later eras old new nothing file are later stands = tt
-standing_later eras old new damaged file are later stands = stands
-standing_later eras old new (found checkpoint) file are later stands = standing_lasts eras are.laws old new (found checkpoint) file later stands
-
 -- Where lines are taken whole they were so before.
 pub whole_before : (rules : Rules) (old new : History) → IsLater old new → TakesWhole rules new → TakesWhole rules old
 whole_before rules old new later takes = record { never = takes.never; apart = apart_before rules.front_size old new later takes.apart }
-
--- What stands for a history stands for each longer one.
-stood_later : (old new : History) (image : Image DiskFile) → IsLater old new → IsStanding old image → IsStanding new image
-stood_later old new image later stood = record {
-  there = stood.there;
-  found = stood.found;
-  eras = stood.eras;
-  are = stood.are;
-  stands = standing_later stood.eras old new stood.there (image Output) stood.are later stood.stands;
-}
 
 pub left_later : (rules : Rules) (old new : History) (polls : ℕ) (early : Bool) (image : Image DiskFile) → IsLater old new
     → IsLeftAt rules (record { history = old; polls = polls; early = early }) image → IsLeftAt rules (record { history = new; polls = polls; early = early }) image
 left_later rules old new polls early image later left = record {
   sound = left.sound;
-  standing = λ takes. stood_later old new image later (left.standing (whole_before rules old new later takes));
+  standing = λ takes. lasts old new image later (left.standing (whole_before rules old new later takes));
   numbered = left.numbered;
   none_open = left.none_open;
 }

@@ -3,7 +3,7 @@ use Rattle.std.proofs.Common.{◌≡◌, ℕ, ◌+◌, ◌≤◌, ◌<◌, List,
 use Rattle.std.specs.Prelude.{IfSome, IfOk, IfErr}
 use Rattle.checkpoint_store.specs.Limits.{output_limit}
 use Rattle.lifetimes.proofs.DiskLemmas.{leaves_reopened}
-use Rattle.lifetimes.proofs.EraLemmas.{rules_own, session_of_one, own_text}
+use Rattle.lifetimes.proofs.EraLemmas.{rules_own, session_of_one}
 use Rattle.lifetimes.proofs.PollLemmas.{ready_same, rose_by_some}
 use Rattle.lifetimes.specs.Inner.Answered.{opened_of}
 use Rattle.lifetimes.specs.OneEra.{IsSoundBy, one_era}
@@ -35,6 +35,7 @@ use Rattle.standing.specs.Eras.{Eras, last_era, texts_of}
 use Rattle.standing.specs.Rows.{Checkpoint}
 use Rattle.standing.specs.Rules.{Rules}
 use Rattle.standing.specs.Standing.{Found, nothing, damaged, found, Sound}
+use Rattle.poll_core.proofs.AdoptStands.{settings_are}
 
 -- a session that was made of this text polls by its rules
 opened_rules : OneSet → (text : List ℕ) (rules : Rules) (session : Session) → IsSession session → settings_of_session session ≡ text → HasRules text rules → rules_of_session session ≡ rules
@@ -48,7 +49,7 @@ opened_eras text rules session image is same has left sound = by sound.there sou
   where
     by : (there : Found) → IsFound image there → Sound (one_era rules) there (image Output) → session.eras ≡ texts_of (one_era rules)
     by nothing found_is sound_is =
-        session_of_one rules session (is.one_era (found_first (journal_of_session session) (checkpoint_of_session session) image nothing (left_goes_on session image left).memory found_is refl)) (same ∙ sym (own_text text rules has))
+        session_of_one rules session (is.one_era (found_first (journal_of_session session) (checkpoint_of_session session) image nothing (left_goes_on session image left).memory found_is refl)) (same ∙ sym (settings_are text rules has))
     by damaged found_is sound_is = absurd sound_is
     by (found saved) found_is sound_is = sym (ap (λ (c : Checkpoint). c.eras) (found_saved session image saved (left_goes_on session image left) found_is)) ∙ sound_is.texts
 
@@ -65,7 +66,7 @@ OnlyOtherSettings = (eras : Eras) (text : List ℕ) (image : Image DiskFile) (th
 not_of_contents : OnlyOtherSettings → (text : List ℕ) (rules : Rules) (past : Past) (disk : MemDisk) (fault : OpenFault) → HasRules text rules → LeavesAt rules past disk → IsRefused text (seen_of disk) fault → ⊥
 not_of_contents opened text rules past disk fault has leaves refused =
     let sound = (leaves.each (seen_of disk) (leaves_shown (log_of disk))).sound in
-    let same : rules.settings ≡ text = own_text text rules has in
+    let same : rules.settings ≡ text = settings_are text rules has in
     let changed = opened (one_era rules) text (seen_of disk) sound.there fault (rules_own text rules has) sound.found sound.sound refused in
     same_differs text changed.0 (subst (λ (t : List ℕ). DiffersAt t text changed.0) same changed.2)
 

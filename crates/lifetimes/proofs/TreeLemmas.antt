@@ -11,6 +11,7 @@ use Rattle.mem_world.specs.declared.tree.MemTree.{MemTree}
 use Rattle.outside.specs.Plan.{Plan, Follows, HasFollowed}
 use Rattle.outside.specs.World.{Event}
 use Rattle.poll_core.specs.LeavesTree.{LeavesTree}
+use Rattle.std.proofs.lemmas.Option.{same_Some}
 
 abbrev Steps : Type 0
 Steps = List (ℕ × Event)
@@ -76,16 +77,13 @@ history_cleared tree tree_after is = ap (λ (s : TreeState). s.world.history) is
 
 -- ---- polls
 
-number_same : (one other : ℕ) → Some one ≡ Some other → one ≡ other
-number_same one other same = cc
-
 -- A poll keeps the tree's plan, and then what it didn't reach is dropped.
 pub tree_polled : (waits : Waits) (tree polled cleared : MemTree) → LeavesTree tree_meaning tree polled → HasFollowed (told_plan (state_of polled)) (told_world (state_of polled)) → (state_of polled).faults ≤ bound_of (state_of polled)
     → state_of cleared ≡ unplanned (state_of polled) → IsTreeAt waits.plan waits.tree tree → IsTreePolled waits tree cleared
 tree_polled waits tree polled cleared keeps followed within is at =
     let told : (state_of polled).told ≡ true = told_stays (state_of tree) (state_of polled) at.told keeps.plan in
     let same : (state_of polled).plan ≡ (state_of tree).plan = plan_stays (state_of tree) (state_of polled) at.told keeps.plan in
-    let bound : bound_of (state_of polled) ≡ bound_of (state_of tree) = number_same (bound_of (state_of polled)) (bound_of (state_of tree)) keeps.bound in
+    let bound : bound_of (state_of polled) ≡ bound_of (state_of tree) = same_Some (bound_of (state_of polled)) (bound_of (state_of tree)) keeps.bound in
     let goes : GoesBy waits.plan (history_of tree) (history_of polled) = record {
       later = change_told GoesLater (state_of tree) (state_of polled) at.told told keeps.later;
       follows = subst (λ (p : Plan). Follows p (history_of polled)) (same ∙ at.plan_is) (followed_told (state_of polled) told followed).1;

@@ -1,8 +1,7 @@
 -- A file that is cut, event by event.
-use Rattle.std.proofs.Common.{◌≡◌, ℕ, zero, suc, nat_le, ◌+◌, ◌-◌, ◌<◌, ◌≤◌, ◌⊎◌, inl, inr, min, List, [], ◌∷◌, ◌++◌, length, map, take, drop, get_or, set, Bool, true, false, cond, not, ◌==◌, ◌&&◌, ◌||◌, refl, sym, ap, subst, ◌∙◌, arith, length-append, append_assoc}
+use Rattle.std.proofs.Common.{◌≡◌, ℕ, zero, suc, ◌+◌, ◌-◌, ◌<◌, ◌≤◌, ◌⊎◌, List, [], ◌∷◌, ◌++◌, length, map, take, drop, Bool, true, false, cond, not, ◌==◌, ◌&&◌, ◌||◌, refl, sym, ap, subst, ◌∙◌, arith}
 use Rattle.std.specs.Prelude.{if◌then◌else◌}
 use Rattle.std.proofs.lemmas.Bool.Decides.{nat_tests}
-use Rattle.std.proofs.lemmas.List.{append-nil, map-append, drop_more, take_all, drop_all, take_more_set, drop-set-lt, length-set}
 use Rattle.std.proofs.Math.Seq.{take-nil}
 use Rattle.outside.specs.Lawful.{may_come, is_free, IsLawful}
 use Rattle.outside.specs.World.{Event, create, append, rename, remove, look, miss, unlisted, History, Names, names, has_name, was_created, bytes}
@@ -131,23 +130,6 @@ cut_lawful file size [] lawful = tt
 cut_lawful file size (event ∷ before) lawful =
     (may_same file size (size - length (bytes before file)) event before ∙ lawful.0, cut_lawful file size before lawful.1)
 
--- what the event appends to no file, or wholly, is the same after any cut as wide
-shortened_same : (file one two : ℕ) (event : Event) → (one ≡ two) ⊎ ((length (added_by event file) ≤ one) × (length (added_by event file) ≤ two)) → shortened file one event ≡ shortened file two event
-shortened_same file one two (create _ _) wide = refl
-shortened_same file one two (append other more) wide =
-    let P : Bool → Type 0 = λ t. (one ≡ two) ⊎ ((length (cond t more []) ≤ one) × (length (cond t more []) ≤ two)) → append other (cond t (take one more) more) ≡ append other (cond t (take two more) more) in
-    let yes : P true = λ cases. ap (append other) (elim cases [
-      | inl same ↦ ap (λ n. take n more) same
-      | inr both ↦ take_all one more both.0 ∙ sym (take_all two more both.1)
-    ]) in
-    let all : P (other == file) = elim (other == file) as P [ true ↦ yes | false ↦ λ _. refl ] in
-    all wide
-shortened_same file one two (rename _ _) wide = refl
-shortened_same file one two (remove _) wide = refl
-shortened_same file one two (look _) wide = refl
-shortened_same file one two (miss _) wide = refl
-shortened_same file one two (unlisted _) wide = refl
-
 abbrev events : List Recorded → History
 events recorded = map event_recorded recorded
 
@@ -163,54 +145,3 @@ heads same = cc
 
 tails : {x y : Recorded} {xs ys : List Recorded} → x ∷ xs ≡ y ∷ ys → xs ≡ ys
 tails same = cc
-
--- the bytes that are left of the event's are those within the size
-right_width : (left added behind size : ℕ) → left ≡ (behind + added) - size → ((added - left) ≡ size - behind) ⊎ ((added ≤ added - left) × (added ≤ size - behind))
-right_width left added behind size is =
-    let P : Bool → Type 0 = λ t. nat_le (behind + added) size ≡ t → ((added - left) ≡ size - behind) ⊎ ((added ≤ added - left) × (added ≤ size - behind)) in
-    let yes : P true = λ within. let less : behind + added ≤ size = grind (arith, nat_tests) in inr (omega (arith, less, is), omega (arith, less, is)) in
-    let no : P false = λ past. let more : size < behind + added = grind (arith, nat_tests) in inl (omega (arith, more, is)) in
-    let all : P (nat_le (behind + added) size) = elim (nat_le (behind + added) size) as P [ true ↦ yes | false ↦ no ] in
-    all refl
-
-module _ {file size : ℕ} {first now : List Recorded} {left place : ℕ} where
-  pub cutting_more : Cutting file size first now left place → (old new : Recorded) (count : ℕ) → place < length now → old ≡ get_or now place old
-      → event_recorded new ≡ shortened file (length (added_by (event_recorded old) file) - left) (event_recorded old)
-      → count ≡ min left (length (added_by (event_recorded old) file))
-      → Cutting file size first (set now place new) (left - count) (place + 1)
-  cutting_more cutting old new count within read short counted =
-      let there : place < length first = omega (arith, cutting.long) in
-      let next : old ∷ drop (place + 1) now ≡ get_or first place old ∷ drop (place + 1) first =
-      ap (λ r. r ∷ drop (place + 1) now) read ∙ sym (drop_more now place old within) ∙ cutting.rest ∙ drop_more first place old there in
-      let same : old ≡ get_or first place old = heads next in
-      let event = event_recorded old in
-      let before = events (drop (place + 1) first) in
-      let split : events (drop place first) ≡ event ∷ before =
-      ap events (drop_more first place old there) ∙ ap (λ r. event_recorded r ∷ before) (sym same) in
-      let added = length (added_by event file) in
-      let behind = length (bytes before file) in
-      let many : length (bytes (events (drop place first)) file) ≡ behind + added =
-      ap (λ h. length (bytes h file)) split ∙ ap length (bytes_then event before file) ∙ length-append (bytes before file) (added_by event file) in
-      let left_then : left ≡ (behind + added) - size = cutting.left_is ∙ ap (λ n. n - size) many in
-      let shorter : event_recorded new ≡ shortened file (size - behind) event =
-      short ∙ shortened_same file (added - left) (size - behind) event (right_width left added behind size left_then) in
-      record {
-        front =
-            ap (λ rs. events rs ++ cut_to file size before) (take_more_set now place new within)
-            ∙ ap (λ es. es ++ cut_to file size before) (map-append event_recorded (take place now) (new ∷ []))
-            ∙ append_assoc (events (take place now)) (event_recorded new ∷ []) (cut_to file size before)
-            ∙ ap (λ e. events (take place now) ++ e ∷ cut_to file size before) shorter
-            ∙ ap (λ h. events (take place now) ++ cut_to file size h) (sym split)
-            ∙ cutting.front;
-        rest = drop-set-lt (place + 1) now place new (omega arith) ∙ tails next;
-        long = length-set now place new ∙ cutting.long;
-        left_is = omega (arith, counted, left_then);
-      }
-
-  pub cutting_all : Cutting file size first now left place → length now ≤ place → events now ≡ cut_to file size (events first)
-  cutting_all cutting past =
-      let none : drop place first ≡ [] = drop_all place first (omega (arith, cutting.long, past)) in
-      ap events (sym (take_all place now past))
-      ∙ sym (append-nil (events (take place now)))
-      ∙ ap (λ rs. events (take place now) ++ cut_to file size (events rs)) (sym none)
-      ∙ cutting.front

@@ -2,7 +2,7 @@
 use Rattle.std.proofs.Common.{◌≡◌, ℕ, ◌+◌, ◌-◌, ◌<◌, ◌≤◌, List, [], ◌∷◌, ◌++◌, length, get_or, set, take, drop, Bool, true, false, cond, not, ◌==◌, ◌||◌, refl, sym, ap, ◌∙◌, arith}
 use Rattle.std.proofs.lemmas.Bool.Decides.{nat_tests}
 use Rattle.std.proofs.lemmas.List.Sums.{sum_by-cons}
-use Rattle.std.proofs.lemmas.List.{map-append, drop_more, take_all, take_more, take_more_set, drop-set-lt, length-set}
+use Rattle.std.proofs.lemmas.List.{map-append, drop_more, take_more, take_more_set, drop-set-lt, length-set}
 use Rattle.mem_world.specs.TreeFailures.{still, is_reached, one_later}
 
 -- so far the numbers before the place were counted down
@@ -31,10 +31,6 @@ going_more first calls place new going within less =
       rest = drop-set-lt (place + 1) calls place new (omega arith) ∙ tails next;
       long = length-set calls place new ∙ going.long;
     }
-
-pub going_all : (first calls : List ℕ) (place : ℕ) → GoingDown first calls place → length calls ≤ place → calls ≡ one_later first
-going_all first calls place going past =
-    sym (take_all place calls past) ∙ going.front ∙ ap one_later (take_all place first (omega (arith, going.long, past)))
 
 count_cons : (call : ℕ) (calls : List ℕ) → still (call ∷ calls) ≡ cond (not (call == 0)) 1 0 + still calls
 count_cons call calls = sum_by-cons (λ (n : ℕ). cond (not (n == 0)) 1 0) call calls

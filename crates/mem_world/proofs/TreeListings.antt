@@ -4,7 +4,7 @@ use Rattle.std.specs.Prelude.{Option, None, Some, is_some, option_map, find, Con
 use Rattle.std.specs.List.{list_any, IsDistinct}
 use Rattle.std.specs.Str.{bytes_eq}
 use Rattle.std.specs.Cmp.Lexicographic.{nat_list_eq_equiv}
-use Rattle.std.proofs.lemmas.Bool.{cases_lt}
+use Rattle.std.proofs.lemmas.Bool.{cases_lt, and_from, or_left, or_right}
 use Rattle.std.proofs.lemmas.List.{map_push, get_or-map}
 use Rattle.std.proofs.lemmas.List.Elements.{All-nil, All-push, All-contains, Contains-get_or}
 use Rattle.std.proofs.lemmas.Map.Keys.{IsDistinct-push}
@@ -25,18 +25,6 @@ has items name = list_any (λ item. bytes_eq item.name name) items
 
 abbrev IsNamed : Item → Type 0
 IsNamed item = IsTrue (is_name item.name)
-
-or_right : (a b : Bool) → b ≡ true → (a || b) ≡ true
-or_right true b e = refl
-or_right false b e = e
-
-or_left : (a b : Bool) → a ≡ true → (a || b) ≡ true
-or_left true b e = refl
-or_left false b e = absurd (cc)
-
-and_both : (a b : Bool) → a ≡ true → b ≡ true → (a && b) ≡ true
-and_both true b x y = y
-and_both false b x y = absurd (cc)
 
 and_first : (a b : Bool) → (a && b) ≡ true → a ≡ true
 and_first true b e = refl
@@ -108,7 +96,7 @@ takes_name folder ns items place rest new takes is within name_is component fres
             let rest_is : other ≡ rest = within_same folder other rest (sym (subst Q same other_is) ∙ is d within) in
             grown ∙ or_left (bytes_eq new.name (first_part other)) (has items (first_part other)) (eq_bytes new.name (first_part other) (name_is ∙ ap first_part (sym rest_is))))
       ];
-  named = All-push (λ item. IsTrue (is_name item.name)) items new takes.named (let P : List ℕ → Type 0 = λ n. IsTrue (is_name n) in subst P (sym name_is) (and_both (is_component (first_part rest)) (is_slashless (first_part rest)) component (first_slashless rest)));
+  named = All-push (λ item. IsTrue (is_name item.name)) items new takes.named (let P : List ℕ → Type 0 = λ n. IsTrue (is_name n) in subst P (sym name_is) (and_from (is_component (first_part rest)) (is_slashless (first_part rest)) component (first_slashless rest)));
   kinds = All-push (λ item. kind_at ns (path_within folder item.name) ≡ Some item.kind) items new takes.kinds
       (let d : List ℕ × ℕ = ([], 0) in
       let there = kind_there ns folder rest (get_or ns place d) (Contains-get_or ns place d within) (is d within) in

@@ -4,7 +4,7 @@ use Rattle.std.specs.Prelude.{if◌then◌else◌, None, Some}
 use Rattle.outside.specs.Closing.{Closes}
 use Rattle.outside.specs.Content.{Gives}
 use Rattle.outside.specs.Count.{raised, HasCause, HasOneCause}
-use Rattle.outside.specs.World.{Event, look, miss, unlisted, History, Names, names, file_at}
+use Rattle.outside.specs.World.{Event, look, miss, unlisted, History, names}
 use Rattle.outside.specs.Lawful.{is_lawful}
 use Rattle.outside.specs.Moment.{Moves, AtOneMoment}
 use Rattle.outside.specs.Listing.{Lists, is_folder, kind_at, IsListing, nameless_after, newly_listed}
@@ -44,12 +44,6 @@ pub moves_called : (fails : Bool) (old new : TreeState) → Called [] fails old 
 moves_called fails old new called =
     let P : History → Type 0 = λ h. Moves old.world.history h in
     subst P (sym called.history) (moves_played old.world.history (due_at 0 old.waiting))
-
-pub kind_folder : (named : Names) (path : List ℕ) → file_at named path ≡ None → is_folder named path ≡ true → kind_at named path ≡ Some Folder
-kind_folder named path none folder = rw (none, folder)
-
-pub kind_none : (named : Names) (path : List ℕ) → file_at named path ≡ None → is_folder named path ≡ false → kind_at named path ≡ None
-kind_none named path none folder = rw (none, folder)
 
 -- what no call but a read changes, and no call at all
 pub record Keeps (old new : TreeState) : Type 0 where

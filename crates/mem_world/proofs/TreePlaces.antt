@@ -75,13 +75,6 @@ place_push (c ∷ cs) file new past same =
     let all : P (c.file == file) = elim (c.file == file) as P [ true ↦ λ h. absurd (omega (arith, h)) | false ↦ λ h. ap suc (place_push cs file new (omega (arith, h)) same) ] in
     all past
 
-pub place_here : (cs : List Content) (file i : ℕ) (d : Content) → i < length cs → place_in cs file ≡ i + place_in (drop i cs) file → (get_or cs i d).file ≡ file → place_in cs file ≡ i
-place_here cs file i d within so_far same =
-    let t : ((get_or cs i d).file == file) ≡ true = eq-eqb (get_or cs i d).file file same in
-    let next : place_in (drop i cs) file ≡ place_in (get_or cs i d ∷ drop (i + 1) cs) file = at_drop_more (λ rest. place_in rest file) cs i d within in
-    let zero_left : place_in (get_or cs i d ∷ drop (i + 1) cs) file ≡ 0 = rw t in
-    omega (arith, so_far, next, zero_left)
-
 pub place_more : (cs : List Content) (file i : ℕ) (d : Content) → i < length cs → place_in cs file ≡ i + place_in (drop i cs) file → ((get_or cs i d).file ≡ file → ⊥) → place_in cs file ≡ (i + 1) + place_in (drop (i + 1) cs) file
 place_more cs file i d within so_far apart =
     let t : ((get_or cs i d).file == file) ≡ false = grind (arith, nat_tests) in

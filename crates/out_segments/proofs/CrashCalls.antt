@@ -136,9 +136,3 @@ module _ {F : Type 0} (own : F → PartFile) (one : (file other : F) → own fil
 
   pub write_holds : (file : F) (offset : ℕ) (bytes : Vec ℕ Global) (log : Log) → offset ≤ length (shown own log file) → AtFile file (Holds offset bytes.items) (shown own log) (shown own (made (own file) (Write offset bytes) true ∷ log))
   write_holds file offset bytes log within = at_file_weaker (shown_entry file (Write offset bytes) true log) (λ same. rw same (holds_over offset bytes.items (shown own log file) within))
-
-  -- what reads give after a cut, however it ended, and after a sync
-  pub cut_shown : (fate : Fate) (file : F) (size : ℕ) (log : Log) → AtFile file (MayCut size) (shown own log) (shown own (log_after fate (own file) (Cut size) log))
-  cut_shown passes file size log = at_file_weaker (shown_entry file (Cut size) true log) (λ same. inr same)
-  cut_shown Begins file size log = at_file_weaker (shown_entry file (Cut size) false log) (λ same. inl same)
-  cut_shown Fails file size log = at_file_idle file (MayCut size) (shown own log) (inl refl)

@@ -13,8 +13,3 @@ never_falls_rose rose = record { later = rose.0; in_range = λ _. rose.2 }
 
 pub never_falls_then : {start mid end : ℕ} → NeverFalls start mid → NeverFalls mid end → NeverFalls start end
 never_falls_then a b = record { later = omega (arith, a.later, b.later); in_range = λ within. b.in_range (a.in_range within) }
-
--- a count that rose in between rose from the start to the end
-pub rose_between : {start before after end : ℕ} → NeverFalls start before → Rose before after → NeverFalls after end → Rose start end
-rose_between early rose late =
-    (omega (arith, early.later, rose.0, late.later), omega (arith, early.later, rose.1, late.later), late.in_range rose.2)

@@ -19,15 +19,6 @@ moves_then {old} {mid} {new} a b = record {
   lawful = lawful_then b.steps a.steps old a.lawful (let P : History → Type 0 = λ h. AreLawful b.steps h in subst P a.goes_on b.lawful);
 }
 
-pub at_one_moment_weaker : {own : List Event} {fact weaker : History → Type 0} {old new : History} → AtOneMoment own fact old new → ((history : History) → fact history → weaker history) → AtOneMoment own weaker old new
-at_one_moment_weaker at weaken = record { moment = at.moment; before = at.before; holds = weaken at.moment at.holds; after = at.after }
-
-pub at_one_moment_later : {own : List Event} {fact : History → Type 0} {old mid new : History} → Moves old mid → AtOneMoment own fact mid new → AtOneMoment own fact old new
-at_one_moment_later moves at = record { moment = at.moment; before = moves_then moves at.before; holds = at.holds; after = at.after }
-
-pub at_one_moment_then : {own : List Event} {fact : History → Type 0} {old mid new : History} → AtOneMoment own fact old mid → Moves mid new → AtOneMoment own fact old new
-at_one_moment_then at moves = record { moment = at.moment; before = at.before; holds = at.holds; after = moves_then at.after moves }
-
 -- no event of the agent's own came
 pub moves_by_moment : {fact : History → Type 0} {old new : History} → AtOneMoment [] fact old new → Moves old new
 moves_by_moment at = moves_then at.before at.after

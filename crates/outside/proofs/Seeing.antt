@@ -1,7 +1,7 @@
 -- The agent's own events, while others move; and the handles, opened and given back.
-use Rattle.std.proofs.Common.{◌≡◌, ◌≢◌, ℕ, List, [], ◌∷◌, ◌++◌, Bool, true, false, cond, not, ◌==◌, refl, sym, ap, ◌∙◌, subst, eq-eqb}
-use Rattle.std.specs.Prelude.{Option, None, Some, option_map, find, filter}
-use Rattle.std.proofs.lemmas.Bool.{eqb-true, ne_eqb, false_from_ne_true}
+use Rattle.std.proofs.Common.{◌≡◌, ◌≢◌, ℕ, List, [], ◌∷◌, ◌++◌, Bool, true, false, cond, not, ◌==◌, refl, sym, ap, ◌∙◌, eq-eqb}
+use Rattle.std.specs.Prelude.{None, Some, option_map, find, filter}
+use Rattle.std.proofs.lemmas.Bool.{eqb-true, ne_eqb}
 use Rattle.outside.specs.World.{Event, create, append, rename, remove, look, miss, unlisted, History}
 use Rattle.outside.specs.Moment.{AreLawful, Moves}
 use Rattle.outside.specs.Reading.{file_of}

@@ -1,12 +1,9 @@
 -- Writes to one file, one after another.
-use Rattle.std.proofs.Common.{◌≡◌, ℕ, ◌+◌, ◌-◌, ◌<◌, ◌≤◌, List, ◌++◌, length, take, get_or, refl, sym, subst, ◌∙◌, arith, length-append, inl, inr}
+use Rattle.std.proofs.Common.{◌≡◌, ℕ, ◌+◌, ◌-◌, ◌<◌, ◌≤◌, List, ◌++◌, length, take, get_or, refl, sym, ◌∙◌, arith, length-append, inl, inr}
 use Rattle.std.proofs.lemmas.Bool.{cases_lt}
 use Rattle.std.proofs.lemmas.Grind.{same_number_lists}
 use Rattle.std.proofs.lemmas.List.{get_or_append_left, get_or-append-add, get_or-take, length-take-le}
-use Rattle.outside.specs.Image.{Image, AtFile, Torn, Holds, KeepsFront, Same}
-use Rattle.outside.specs.Images.{Images}
-use Rattle.outside.specs.Crash.{Passes}
-use Rattle.outside.proofs.Passing.{passes_none, passes_weaker, passes_then, passes_after_same}
+use Rattle.outside.specs.Image.{Image, AtFile, Torn, Holds, KeepsFront}
 
 pub torn_idle : (offset size : ℕ) (content : List ℕ) → Torn offset size content content
 torn_idle offset size content = record {
@@ -64,17 +61,3 @@ holds_at_end offset bytes old new at_end holds =
       | inl early ↦ (holds.outside.before k (omega arith) early ∙ sym (get_or_append_left old bytes 0 k early))
       | inr late ↦ (let j = k - length old in let at : k ≡ length old + j = omega arith in rw at (holds_inside j (omega (arith, length-append old bytes)) ∙ sym (get_or-append-add old bytes j 0)))
     ])
-
--- A crash after writes to one file behind some place: what stands before it stays.
-module _ {F D : Type 0} {images : Images F D} (file : F) (kept : ℕ) where
-  pub keeping_none : (disk : D) → Passes images (AtFile file (KeepsFront kept)) disk disk
-  keeping_none disk = passes_weaker (passes_none disk) (λ x y same. subst (λ z. AtFile file (KeepsFront kept) x z) (sym same) (at_file_idle file (KeepsFront kept) x (keeps_front_idle kept (x file))))
-
-  pub keeping_torn : {old new : D} (offset size : ℕ) → kept ≤ offset → Passes images (AtFile file (Torn offset size)) old new → Passes images (AtFile file (KeepsFront kept)) old new
-  keeping_torn offset size behind passes = passes_weaker passes (λ x y at. at_file_weaker at (keeps_front_torn kept offset size (x file) (y file) behind))
-
-  pub keeping_then : {old mid new : D} → Passes images (AtFile file (KeepsFront kept)) old mid → Passes images (AtFile file (KeepsFront kept)) mid new → Passes images (AtFile file (KeepsFront kept)) old new
-  keeping_then a b = passes_then a b (λ x y at. at) (λ x y z at then. at_file_then at then (keeps_front_then kept (x file) (y file) (z file)))
-
-  pub keeping_after_same : {old mid new : D} → Passes images Same old mid → Passes images (AtFile file (KeepsFront kept)) mid new → Passes images (AtFile file (KeepsFront kept)) old new
-  keeping_after_same a b = passes_after_same a b (λ image. at_file_idle file (KeepsFront kept) image (keeps_front_idle kept (image file)))

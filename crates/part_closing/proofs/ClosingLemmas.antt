@@ -1,6 +1,6 @@
 -- What comes out of files that are closed.
 use Rattle.std.proofs.Common.{◌≡◌, ℕ, ◌+◌, ◌<◌, ◌≤◌, List, [], ◌∷◌, ◌++◌, length, map, take, Some, refl, sym, ap, ◌∙◌, arith}
-use Rattle.std.proofs.lemmas.List.{length-append, map-append, take_more}
+use Rattle.std.proofs.lemmas.List.{length-append, map-append, take_more, append-nil}
 use Rattle.std.proofs.lemmas.List.Concat.{flat_map-append}
 use Rattle.std.proofs.lemmas.Option.{slice_get_within, get_or_from_slice_get}
 use Rattle.std.specs.Prelude.{Option, slice_get}
@@ -27,6 +27,8 @@ use Rattle.part_closing.specs.declared.closing.Closing.{Closing}
 use Rattle.standing.specs.Adopted.{lines_closed, row_adopted}
 use Rattle.standing.specs.Marks.{Mark, numbered}
 use Rattle.standing.specs.Rules.{Rules}
+use Rattle.file_pass.proofs.SaneLemmas.{text_long}
+use Rattle.file_pass.proofs.FeedingOn.{length-numbered}
 
 -- ---- one more
 
@@ -70,14 +72,6 @@ some_bytes one_line mark =
     let one = one_line mark in
     omega (arith, ap (λ (t : List ℕ). length t) one.ends, length-append one.content (10 ∷ []))
 
-pub counted : ((mark : Mark) → 0 < length (line_of mark)) → (marks : List Mark) → length marks ≤ length (lines_text marks)
-counted some [] = omega arith
-counted some (mark ∷ marks) = omega (arith, some mark, counted some marks, length-append (line_of mark) (lines_text marks))
-
-pub many : (id number : ℕ) (time : Option ℕ) (made : List LogRecord) → length (numbered id number time made) ≡ length made
-many id number time [] = refl
-many id number time (entry ∷ entries) = omega (arith, many id (number + 1) time entries)
-
 -- the rules that begin with this state
 beginning : Rules → List ℕ → Rules
 beginning rules fresh = record rules { fresh = fresh }
@@ -92,17 +86,13 @@ pub bytes_more : ((mark : Mark) → IsOneLine (line_of mark)) → (closer : Clos
     → length old + length ((rules_by closer text).closed row.state) ≤ length new
 bytes_more one_line closer row old new text is =
     let more = lines_closed (rules_by closer text) closer.observed row in
-    omega (arith, ap (λ (t : List ℕ). length t) is, length-append old (lines_text more), counted (some_bytes one_line) more, many row.id (row.lines + 1) closer.observed ((rules_by closer text).closed row.state))
+    omega (arith, ap (λ (t : List ℕ). length t) is, length-append old (lines_text more), text_long (some_bytes one_line) more, length-numbered row.id (row.lines + 1) closer.observed ((rules_by closer text).closed row.state))
 
 -- ---- one file more
 
 flat_one : (closer : Closer) (text : List ℕ) (before : List Row) (row : Row) → lines_of_all closer text (before ++ row ∷ []) ≡ lines_of_all closer text before ++ lines_closed (rules_by closer text) closer.observed row
 flat_one closer text before row =
-    flat_map-append (lines_closed (rules_by closer text) closer.observed) before (row ∷ []) ∙ ap (λ (m : List Mark). lines_of_all closer text before ++ m) (none_behind (lines_closed (rules_by closer text) closer.observed row))
-  where
-    none_behind : (marks : List Mark) → marks ++ [] ≡ marks
-    none_behind [] = refl
-    none_behind (mark ∷ marks) = ap (λ (m : List Mark). mark ∷ m) (none_behind marks)
+    flat_map-append (lines_closed (rules_by closer text) closer.observed) before (row ∷ []) ∙ ap (λ (m : List Mark). lines_of_all closer text before ++ m) (append-nil (lines_closed (rules_by closer text) closer.observed row))
 
 -- what closing one file more leaves
 pub record HasClosedNext (closer : Closer) (row : Row) (old new : Closing) : Type 0 where
@@ -128,7 +118,7 @@ closed_more closer before row old new has step = record {
         arith,
         step.count text,
         has.count_is text,
-        many row.id (row.lines + 1) closer.observed ((rules_by closer text).closed row.state),
+        length-numbered row.id (row.lines + 1) closer.observed ((rules_by closer text).closed row.state),
         length-append (lines_of_all closer text before) more,
         ap (λ (m : List Mark). length m) (flat_one closer text before row),
       );
@@ -139,4 +129,4 @@ closed_none closer closing rows lines count = record { rows_are = λ text next f
 
 pub few : ((mark : Mark) → IsOneLine (line_of mark)) → (closer : Closer) (rows : List Row) (closing : Closing) → HasClosed closer rows closing → closing.count ≤ length closing.lines.items
 few one_line closer rows closing has =
-    omega (arith, has.count_is [], ap (λ (t : List ℕ). length t) (has.lines_are []), counted (some_bytes one_line) (lines_of_all closer [] rows))
+    omega (arith, has.count_is [], ap (λ (t : List ℕ). length t) (has.lines_are []), text_long (some_bytes one_line) (lines_of_all closer [] rows))

@@ -12,7 +12,8 @@ use Rattle.checkpoint_store.specs.declared.beside.Beside.{Beside}
 use Rattle.file_pass.specs.Full.{line_of, lines_text}
 use Rattle.file_tracker.specs.declared.ends.End.{End}
 use Rattle.file_tracker.specs.declared.row.Row.{Row}
-use Rattle.part_closing.proofs.ClosingLemmas.{counted, many}
+use Rattle.file_pass.proofs.FeedingOn.{length-numbered}
+use Rattle.file_pass.proofs.SaneLemmas.{text_long}
 use Rattle.standing.specs.Adopted.{end_of, lines_closed, row_adopted}
 use Rattle.standing.specs.Marks.{Mark}
 use Rattle.standing.specs.Rules.{Rules}
@@ -67,7 +68,7 @@ module _ (rules next : Rules) (short : length next.fresh < 2 ^ 32) (beside after
       let others : List Mark = flat_map (lines_closed rules time) rows in
       let parted : length (lines_text (own ++ others)) ≡ length (lines_text own) + length (lines_text others) =
       ap (λ (t : List ℕ). length t) (flat_map-append line_of own others) ∙ length-append (lines_text own) (lines_text others) in
-      let few : length (rules.closed row.state) ≤ length (lines_text own) = omega (arith, counted some own, many row.id (row.lines + 1) time (rules.closed row.state)) in
+      let few : length (rules.closed row.state) ≤ length (lines_text own) = omega (arith, text_long some own, length-numbered row.id (row.lines + 1) time (rules.closed row.state)) in
       let lines : row.lines ≤ beside.output_length = keep.1.0.lines in (
         keep.0,
         (row_lawful row (omega (arith, few, parted, within, enough, lines)) keep.1.0, rows_lawful some time (first + 1) room rows keep.1.1 (omega (arith, parted, within)) enough),

@@ -1,7 +1,7 @@
 -- What stood stands once settings were adopted.
 use Rattle.std.proofs.Common.{◌≡◌, ℕ, ◌+◌, ◌≤◌, List, [], ◌∷◌, ◌++◌, length, take, Some, sym, ap, subst, ◌∙◌, arith, inl, inr}
 use Rattle.std.proofs.lemmas.List.{append-nil, length-append, length-take, length-take-le, map-append, take_all}
-use Rattle.std.proofs.lemmas.List.Elements.{All-append, All-cons, All-head, All-nil, All-tail}
+use Rattle.std.proofs.lemmas.List.Elements.{All-append, All-cons, All-head, All-nil}
 use Rattle.std.specs.List.{All}
 use Rattle.checkpoint_journal.specs.JournalOf.{HasCheckpoint}
 use Rattle.checkpoint_store.specs.declared.Checkpoint.{Checkpoint}
@@ -12,7 +12,7 @@ use Rattle.outside.specs.Images.{Images}
 use Rattle.outside.specs.World.{History}
 use Rattle.outside.specs.declared.disk.DiskFile.{DiskFile}
 use Rattle.outside.specs.declared.disk.DiskFile.TheVariants.{Output}
-use Rattle.poll_core.proofs.EraLemmas.{last_is}
+use Rattle.poll_core.proofs.EraLemmas.{last_is, at_last}
 use Rattle.pipeline.proofs.OfText.{OneSet}
 use Rattle.poll_core.proofs.StandingLemmas.{StandsBy, moved, stands_by}
 use Rattle.poll_core.specs.Adopting.{IsAdopted, IsAdoption, KeepsAll, KeepsStandingIn, MayAdopt, sole_era}
@@ -25,7 +25,7 @@ use Rattle.standing.proofs.AdoptLemmas.{adopting_keeps}
 use Rattle.standing.proofs.EraLemmas.{last_size}
 use Rattle.standing.specs.Adopted.{Adopts, with_era}
 use Rattle.standing.specs.AreRules.{AreRules}
-use Rattle.standing.specs.Eras.{AreEras, Eras, all_eras, last_era, last_of, texts_of}
+use Rattle.standing.specs.Eras.{AreEras, Eras, all_eras, last_era, texts_of}
 use Rattle.standing.specs.Marks.{Mark}
 use Rattle.standing.specs.Rules.{Rules, output_text}
 use Rattle.standing.specs.Standing.{Found, nothing, damaged, found, Lengthens, Standing}
@@ -64,10 +64,6 @@ text_is text rules marks has = ap (λ (r : Rules). output_text r marks) has.2
 
 pub settings_are : (text : List ℕ) (rules : Rules) → HasRules text rules → rules.settings ≡ text
 settings_are text rules has = ap (λ (r : Rules). r.settings) has.2
-
-at_last : (P : Rules → Type 0) (first : Rules) (later : List Rules) → All P (first ∷ later) → P (last_of first later)
-at_last P first [] all = All-head P first [] all
-at_last P first (next ∷ later) all = at_last P next later (All-tail P first (next ∷ later) all)
 
 texts_more : (eras : Eras) (next : Rules) → texts_of (with_era eras next) ≡ texts_of eras ++ next.settings ∷ []
 texts_more eras next = map-append (λ (rules : Rules). rules.settings) (all_eras eras) (next ∷ [])

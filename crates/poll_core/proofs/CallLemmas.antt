@@ -5,14 +5,10 @@ use Rattle.poll_core.specs.Calls.{DoneAtMost, CutsAndSyncs}
 use Rattle.slot_store.proofs.Counts.{done_more_then}
 use Rattle.slot_store.proofs.OnlyReading.{keeps_terms_then}
 use Rattle.slot_store.specs.Counted.{DoneMore}
-use Rattle.slot_store.specs.OnlyRead.{OnlyRead}
 
 none_more : (count : Option ℕ) → DoneMore 0 count count
 none_more None = refl
 none_more (Some n) = ap (λ m. Some m) (omega arith)
-
-pub done_none : (before after : Option ℕ) → after ≡ before → DoneAtMost 0 before after
-done_none before after same = (0, omega arith, same ∙ none_more before)
 
 pub done_then : (first second most : ℕ) (start mid end : Option ℕ) → first + second ≤ most → DoneAtMost first start mid → DoneAtMost second mid end → DoneAtMost most start end
 done_then first second most start mid end enough a b =
@@ -21,13 +17,6 @@ done_then first second most start mid end enough a b =
     (a.0 + b.0, omega (arith, few, few_more), done_more_then a.0 b.0 start mid end a.2 b.2)
 
 module _ {D : Type 0} {meaning : DiskMeaning D} where
-  pub calls_read : {old new : D} → OnlyRead meaning old new → CutsAndSyncs 0 meaning old new
-  calls_read {old} {new} read = record {
-    done = done_none (meaning.done old) (meaning.done new) read.done;
-    written = read.written;
-    terms = record { tells = read.tells; bound = read.bound; limit = read.limit };
-  }
-
   pub calls_then : (first second most : ℕ) {old mid new : D} → first + second ≤ most → CutsAndSyncs first meaning old mid → CutsAndSyncs second meaning mid new → CutsAndSyncs most meaning old new
   calls_then first second most {old} {mid} {new} enough a b = record {
     done = done_then first second most (meaning.done old) (meaning.done mid) (meaning.done new) enough a.done b.done;

@@ -22,7 +22,6 @@ use Rattle.poll_core.specs.declared.session.Session.{Session}
 use Rattle.record_log.proofs.LogLaws.{one_log, log_cut, log_of_slots}
 use Rattle.record_log.specs.declared.log.Log.{Log}
 use Rattle.slot_store.proofs.Choices.{chosen_file, same_choice}
-use Rattle.slot_store.specs.Synced.{LeavesChanged}
 
 -- ---- one file changes
 
@@ -126,9 +125,6 @@ ends_step journal some checkpoint old new is memory at =
 pub reopens_none : (image : Image DiskFile) → Reopens image image
 reopens_none image = record { settings = refl; logs = logs_of_slots image image refl refl; output = inl refl }
 
-pub reopens_same : (old new : Image DiskFile) → new ≡ old → Reopens old new
-reopens_same old new same = let P : Image DiskFile → Type 0 = λ image. Reopens old image in subst P (sym same) (reopens_none old)
-
 pub reopens_trimmed : (size : ℕ) (old new : Image DiskFile) → TrimsSlots size old new → Reopens old new
 reopens_trimmed size old new trims = record { settings = trims.settings; logs = trims.logs; output = inl trims.output }
 
@@ -168,20 +164,6 @@ module _ {D : Type 0} {images : Images DiskFile D} where
   pub settled_still : {mid new : D} → IsSettled images mid → Passes images Same mid new → images.seen new ≡ images.seen mid → IsSettled images new
   settled_still {mid} {new} settled passes seen = record {
     each = λ image left file not_settings. durable_still file (λ other left_other. settled.each other left_other file not_settings) passes seen image left;
-  }
-
-  pub settled_cut : (file : DiskFile) (size : ℕ) {old new : D} → IsSettled images old → LeavesChanged images (AtFile file (IsCut size)) old new
-      → ((image : Image DiskFile) → images.may_leave old image → AtFile file (IsCut size) (images.seen old) (images.seen new)) → IsSettled images new
-  settled_cut file size {old} {new} settled leaves seen = record {
-    each = λ image left other not_settings.
-        let before = leaves.each image left in
-        let step : AtFile file (IsCut size) before.0 image = before.2 in
-        let now = seen before.0 before.1 in
-        elim (which file other) [
-          | inl same ↦ (let P : DiskFile → Type 0 = λ f. image f ≡ images.seen new f in subst P (sym same)
-              (step.here ∙ ap (λ content. take size content) (settled.each before.0 before.1 file (λ is. not_settings (same ∙ is))) ∙ sym now.here))
-          | inr differs ↦ (step.others other differs ∙ settled.each before.0 before.1 other not_settings ∙ sym (now.others other differs))
-        ];
   }
 
   pub memory_left : (journal : Option Journal) (checkpoint : Checkpoint) {disk : D} → IsSettled images disk → (image : Image DiskFile) → images.may_leave disk image → HasMemory journal checkpoint (images.seen disk) → HasMemory journal checkpoint image

@@ -35,7 +35,7 @@ sole_text [] few = absurd (omega (arith, few))
 sole_text (text ∷ []) few = refl
 sole_text (text ∷ other ∷ more) few = absurd (omega (arith, few))
 
-at_last : (P : Rules → Type 0) (first : Rules) (later : List Rules) → All P (first ∷ later) → P (last_of first later)
+pub at_last : (P : Rules → Type 0) (first : Rules) (later : List Rules) → All P (first ∷ later) → P (last_of first later)
 at_last P first [] all = All-head P first [] all
 at_last P first (next ∷ later) all = at_last P next later (All-tail P first (next ∷ later) all)
 
@@ -72,7 +72,7 @@ abbrev pub poll_with : Rules → ℕ → Bool → Option ℕ → Poll
 poll_with rules era first stamp = record { rules = rules; era = era; first = first; stamp = stamp }
 
 -- there is a time where one is asked for
-stamped_so : (stamps : Bool) (time : ℕ) → is_some (stamp_at stamps time) ≡ stamps
+pub stamped_so : (stamps : Bool) (time : ℕ) → is_some (stamp_at stamps time) ≡ stamps
 stamped_so false time = refl
 stamped_so true time = refl
 

@@ -5,7 +5,7 @@ use Rattle.std.specs.Cmp.{IsEquivalence}
 use Rattle.std.specs.List.{AllByRecursion, IsDistinct}
 use Rattle.std.specs.Str.{bytes_eq}
 use Rattle.std.proofs.lemmas.Bool.{cases_eq, eqb-true}
-use Rattle.std.proofs.lemmas.List.{length-append, reverse-reverse}
+use Rattle.std.proofs.lemmas.List.{length-append, reverse-reverse, nil_from_length}
 use Rattle.std.proofs.lemmas.List.Sorted.{IsPermutation-reverse}
 use Rattle.std.proofs.lemmas.Map.Keys.{IsDistinct-head, IsDistinct-tail, IsDistinct-cons, IsDistinct-IsPermutation}
 use Rattle.std.proofs.lemmas.Map.Made.{is_member-Decides, length-le_from_is_member}
@@ -96,7 +96,7 @@ holder all file = elim (holder_among all file (paths_in all)) [
 ]
 
 -- a path that loses its file when a file's names are taken named this one
-without_keeps : (file : ℕ) (ns : Names) (path : List ℕ) (other : ℕ) → other ≢ file → file_at ns path ≡ Some other → file_at (without file ns) path ≡ Some other
+pub without_keeps : (file : ℕ) (ns : Names) (path : List ℕ) (other : ℕ) → other ≢ file → file_at ns path ≡ Some other → file_at (without file ns) path ≡ Some other
 without_keeps file [] path other differs found = absurd (cc)
 without_keeps file (n ∷ ns) path other differs found =
     let rest = without_keeps file ns path other differs in
@@ -233,14 +233,10 @@ all_lost [] old lawful = record {
         let one = ap length before.goes_on ∙ length-append before.events last in
         let two = ap length between.goes_on ∙ length-append between.events first in
         let three = ap length after.goes_on ∙ length-append after.events old in
-        let empty : [] ≡ between.events = no_events between.events (omega (arith, one, two, three)) in
+        let empty : [] ≡ between.events = sym (nil_from_length between.events (omega (arith, one, two, three))) in
         let same : last ≡ first = between.goes_on ∙ ap (λ (es : List Event). es ++ first) (sym empty) in
         let never : None ≡ Some file = sym none ∙ ap (λ (h : History). file_at (names h) path) same ∙ named in
         absurd (cc)
-      where
-        no_events : (es : List Event) → length es ≡ 0 → [] ≡ es
-        no_events [] is = refl
-        no_events (e ∷ es) is = absurd (omega (arith, is))
 all_lost (create file name ∷ events) old lawful =
     let mid : History = events ++ old in
     keeps_lost (create file name) old mid refl (λ path lost. let none = with_name (names mid) file name path lost.gone in let never : None ≡ Some lost.file = sym none ∙ lost.held in absurd (cc)) (all_lost events old lawful.1)

@@ -1,4 +1,3 @@
-pub mod RowLemmas
 pub mod DifferLemmas
 pub mod ImageLemmas
 pub mod EraLemmas

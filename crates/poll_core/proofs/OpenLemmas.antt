@@ -1,13 +1,13 @@
 -- Calls on the way to a session, one after another.
 use Rattle.std.proofs.Common.{ℕ, List, refl}
-use Rattle.outside.proofs.Passing.{passes_weaker, passes_after_same}
+use Rattle.outside.proofs.Passing.{passes_after_same}
 use Rattle.outside.specs.Crash.{Passes}
 use Rattle.outside.specs.Image.{Same}
 use Rattle.outside.specs.Images.{Images}
 use Rattle.outside.specs.declared.disk.DiskFile.{DiskFile}
 use Rattle.outside.specs.declared.fault.CallFault.{CallFault}
 use Rattle.outside.specs.declared.fault.CallFault.TheVariants as call
-use Rattle.poll_core.proofs.DiskLemmas.{reopens_none, reopens_same}
+use Rattle.poll_core.proofs.DiskLemmas.{reopens_none}
 use Rattle.poll_core.specs.OpenCause.{call_refusal, IsOfSettings}
 use Rattle.poll_core.specs.Reopens.{Reopens}
 use Rattle.pipeline.specs.AsRules.{rules_of}
@@ -18,9 +18,6 @@ use Rattle.poll_core.specs.declared.fault.OpenFault.{OpenFault}
 use Rattle.poll_core.specs.declared.fault.OpenFault.TheVariants.{Settings, Build, Disk, CheckpointBad, SettingsChanged, OutputShort, Memory}
 
 module _ {D : Type 0} {images : Images DiskFile D} where
-  pub reopens_by_none : {old new : D} → Passes images Same old new → Passes images Reopens old new
-  reopens_by_none passes = passes_weaker passes reopens_same
-
   pub reopens_then : {old mid new : D} → Passes images Same old mid → Passes images Reopens mid new → Passes images Reopens old new
   reopens_then a b = passes_after_same a b reopens_none
 

@@ -1,7 +1,7 @@
 -- What a poll leaves of a disk: that of its pass, and of keeping it.
-use Rattle.std.proofs.Common.{◌≡◌, ◌⊎◌, ℕ, ◌+◌, List, [], ◌∷◌, ◌++◌, length, Option, None, Some, refl, sym, ap, subst, ◌∙◌, arith, inl, inr}
+use Rattle.std.proofs.Common.{◌≡◌, ◌⊎◌, ℕ, ◌+◌, List, [], ◌∷◌, ◌++◌, length, Option, None, Some, sym, ap, subst, ◌∙◌, arith, inl, inr}
 use Rattle.std.specs.Prelude.{IsTrue}
-use Rattle.std.proofs.lemmas.List.{length-append}
+use Rattle.std.proofs.lemmas.List.{length-append, nil_from_length}
 use Rattle.checkpoint_journal.specs.Memory.{EndsWithMemory, HasMemory, KeepsMemory}
 use Rattle.checkpoint_journal.specs.Puts.{KeepsFiles}
 use Rattle.checkpoint_journal.specs.declared.journal.Journal.{Journal}
@@ -170,11 +170,7 @@ module _ {D : Type 0} (meaning : DiskMeaning D) (session : Session) (disk mid : 
     }
 
     pub none_added : end ≡ kept_of session → lines_text added ≡ []
-    none_added same = sym (none_of (lines_text added) (omega (arith, same, appends.end_is)))
-      where
-        none_of : (bytes : List ℕ) → length bytes ≡ 0 → [] ≡ bytes
-        none_of [] is = refl
-        none_of (byte ∷ bytes) is = absurd (omega (arith, is))
+    none_added same = nil_from_length (lines_text added) (omega (arith, same, appends.end_is))
 
     -- where nothing was added, the same stands
     pub left_stands : (next : Session) → end ≡ kept_of session → journal_of_session next ≡ journal_of_session session → checkpoint_of_session next ≡ checkpoint_of_session session → StandsOn meaning.images next mid

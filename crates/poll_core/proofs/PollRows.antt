@@ -31,8 +31,8 @@ use Rattle.outside.specs.declared.disk.DiskFile.{DiskFile}
 use Rattle.pipeline.specs.AsRules.{rules_of}
 use Rattle.poll_core.proofs.EraLemmas.{poll_with}
 use Rattle.poll_core.proofs.Flagged.{StandsAt, flagged_all, flagged_ascend, flagged_has, flagged_stand}
+use Rattle.checkpoint_journal.proofs.RowLemmas.{rows_in_order}
 use Rattle.pipeline.proofs.ForeignRows.{all_fine}
-use Rattle.poll_core.proofs.RowLemmas.{rows_in_order}
 use Rattle.poll_core.specs.Inner.Begun.{IsBegun}
 use Rattle.poll_core.specs.IsSession.{IsSession}
 use Rattle.poll_core.specs.Inner.Kept.{KeepsTime}

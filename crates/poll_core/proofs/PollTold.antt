@@ -91,9 +91,6 @@ module _ {T D : Type 0} (means : Meanings T D) (session : Session) (setup : Setu
   pub added_by : List Mark
   added_by = passed.takes.takes.added
 
-  gain_by : Gain
-  gain_by = passed.takes.gain
-
   pub end_by : taking.end ≡ kept_of session + length (lines_text passed.takes.takes.added)
   end_by = passed.takes.takes.appends.end_is ∙ ap (λ (n : ℕ). n + length (lines_text passed.takes.takes.added)) passed.is_begun.end_is
 

@@ -13,7 +13,7 @@ use Rattle.outside.specs.declared.disk.DiskFile.TheVariants.{Output}
 use Rattle.poll_core.proofs.EraLemmas.{eras_ending, ending_last, ending_texts}
 use Rattle.poll_core.proofs.ImageLemmas.{one_found}
 use Rattle.poll_core.proofs.SessionLemmas.{kept_found, left_goes_on, session_sound}
-use Rattle.poll_core.proofs.RowLemmas.{rows_in_order}
+use Rattle.checkpoint_journal.proofs.RowLemmas.{rows_in_order}
 use Rattle.poll_core.specs.Found.{IsFound}
 use Rattle.poll_core.specs.IsSession.{IsSession}
 use Rattle.poll_core.specs.Polled.{ComesAfter, Gains, Stays, Steps}

@@ -14,7 +14,7 @@ use Rattle.outside.specs.Image.{Image}
 use Rattle.outside.specs.declared.disk.DiskFile.{DiskFile}
 use Rattle.outside.specs.declared.disk.DiskFile.TheVariants.{Output}
 use Rattle.poll_core.proofs.DiskLemmas.{ends_goes_on}
-use Rattle.poll_core.proofs.RowLemmas.{rows_in_order}
+use Rattle.checkpoint_journal.proofs.RowLemmas.{rows_in_order}
 use Rattle.poll_core.specs.IsSession.{IsSession}
 use Rattle.poll_core.specs.Remembers.{GoesOnFrom, IsLeftBy}
 use Rattle.poll_core.specs.SessionParts.{checkpoint_of_session, rules_of_session, journal_of_session, kept_of, last_text}

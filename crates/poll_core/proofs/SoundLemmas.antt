@@ -22,7 +22,7 @@ use Rattle.poll_core.proofs.AdoptStands.{long_enough, settings_are, text_is}
 use Rattle.poll_core.proofs.EraLemmas.{sole_text}
 use Rattle.poll_core.proofs.ImageLemmas.{found_kept, long_enough_still, one_found}
 use Rattle.poll_core.proofs.RefusalLemmas.{none_foreign}
-use Rattle.poll_core.proofs.RowLemmas.{rows_in_order}
+use Rattle.checkpoint_journal.proofs.RowLemmas.{rows_in_order}
 use Rattle.pipeline.proofs.OfText.{OneSet}
 use Rattle.poll_core.proofs.SafeLemmas.{gains_long, stays_long}
 use Rattle.poll_core.proofs.SessionLemmas.{left_goes_on}

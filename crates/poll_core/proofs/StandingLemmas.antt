@@ -1,6 +1,6 @@
 -- Whatever a poll leaves, it stands where the image before it stood.
 use Rattle.std.proofs.Common.{◌≡◌, ℕ, ◌+◌, ◌≤◌, List, [], ◌∷◌, ◌++◌, length, take, Option, Some, None, refl, sym, ap, subst, ◌∙◌, arith, inl, inr}
-use Rattle.std.proofs.lemmas.List.{take_all, length-append}
+use Rattle.std.proofs.lemmas.List.{take_all, length-append, nil_from_length}
 use Rattle.checkpoint_journal.specs.Memory.{EndsWithMemory, HasMemory}
 use Rattle.checkpoint_journal.specs.declared.journal.Journal.{Journal}
 use Rattle.file_pass.specs.Full.{lines_text}
@@ -40,7 +40,7 @@ use Rattle.standing.specs.Stands.{CheckpointStands}
 
 -- ---- one image
 
-lasts : (old new : History) (image : Image DiskFile) → IsLater old new → IsStanding old image → IsStanding new image
+pub lasts : (old new : History) (image : Image DiskFile) → IsLater old new → IsStanding old image → IsStanding new image
 lasts old new image later stood = by stood.there stood.are stood.stands stood.found
   where
     by : (there : Found) → AreErasIn there stood.eras → Standing stood.eras old there (image Output) → IsFound image there → IsStanding new image
@@ -89,13 +89,9 @@ stays_by (Some journal) saved before after old new later ends size memory front 
           (checkpoint_lasts by.eras by.are.laws before after saved (old Output) later by.stands);
     }
 
-none_of : (bytes : List ℕ) → length bytes ≡ 0 → [] ≡ bytes
-none_of [] none = refl
-none_of (byte ∷ bytes) none = absurd (omega (arith, none))
-
 -- an output that ends with what is kept of it
 kept_whole : (eras : Eras) (there : Found) (checkpoint : Checkpoint) (history : History) (output : List ℕ) → checkpoint_of eras there ≡ checkpoint → length output ≡ checkpoint.output_length → Standing eras history there output → kept there output ≡ output
-kept_whole eras nothing checkpoint history output begins size stands = none_of output (size ∙ sym (ap (λ (c : Checkpoint). c.output_length) begins))
+kept_whole eras nothing checkpoint history output begins size stands = sym (nil_from_length output (size ∙ sym (ap (λ (c : Checkpoint). c.output_length) begins)))
 kept_whole eras damaged checkpoint history output begins size stands = absurd stands
 kept_whole eras (found own) checkpoint history output begins size stands =
     take_all own.output_length output (omega (arith, size, ap (λ (c : Checkpoint). c.output_length) begins))

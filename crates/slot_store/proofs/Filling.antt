@@ -1,7 +1,7 @@
 -- A buffer that is filled piece by piece.
 use Rattle.std.proofs.Common.{◌≡◌, ℕ, ◌+◌, ◌-◌, ◌<◌, ◌≤◌, List, ◌++◌, length, take, drop, refl, sym, ◌∙◌, ap, arith, length-append, length-drop, take-append-drop}
-use Rattle.std.proofs.lemmas.List.{take-take, drop-take, drop-drop, take_at, drop_at, length-take-le, take_all}
-use Rattle.std.proofs.lemmas.Slice.{take-put_mid, take-put_mid_below}
+use Rattle.std.proofs.lemmas.List.{take-take, drop-take, drop-drop, take_at, drop_at, length-take-le}
+use Rattle.std.proofs.lemmas.Slice.{take-put_mid}
 use Rattle.outside.specs.Content.{Gives}
 use borrow.Rule.Slice.PartMut.{put_mid}
 
@@ -48,13 +48,3 @@ filled_on offset content buffer piece filled count within long front gives = rec
   reached = omega (arith, gives.reaches, length-drop (offset + filled) content, length-drop offset content, front.reached);
   bytes = fills_more (drop offset content) buffer piece filled count within long gives.within front.bytes (gives.bytes ∙ ap (λ rest. take count rest) (sym (drop-drop filled offset content)));
 }
-
--- nothing more was to be had
-pub filled_up : (offset : ℕ) (content buffer piece : List ℕ) (filled : ℕ) → filled < length buffer → length piece ≡ length buffer - filled → IsFilled offset content buffer filled → Gives content (offset + filled) piece 0 → take filled (put_mid filled (length buffer - filled) buffer piece) ≡ take (length buffer) (drop offset content)
-filled_up offset content buffer piece filled within long front gives =
-    let rest = drop offset content in
-    let short : length rest ≤ filled = omega (arith, gives.ends refl (omega arith), length-drop offset content) in
-    take-put_mid_below filled (length buffer - filled) buffer piece filled (omega arith) (omega arith)
-    ∙ front.bytes
-    ∙ take_all filled rest short
-    ∙ sym (take_all (length buffer) rest (omega arith))

@@ -1,5 +1,5 @@
 -- Tokens up to a bound.
-use Rattle.std.proofs.Common.{◌≡◌, ℕ, ◌+◌, ◌≤◌, List, [], ◌++◌, length, drop, refl, sym, ap, subst, ◌∙◌, append_assoc, arith}
+use Rattle.std.proofs.Common.{◌≡◌, ℕ, ◌+◌, ◌≤◌, List, [], ◌++◌, drop, refl, sym, ap, subst, ◌∙◌, append_assoc, arith}
 use Rattle.std.proofs.lemmas.List.{append-nil, map-append}
 use Rattle.std.proofs.lemmas.List.Sums.{sum_by-append}
 use Rattle.line_splitter.specs.Cuts.{Cut}
@@ -19,10 +19,6 @@ module _ (rules : Rules) (laws : AreTokenRules rules) where
 
   pub up_to_all : (content : List ℕ) → UpTo rules content (used rules content) (tokens_of rules content)
   up_to_all content = record { taken = rules.cuts content; behind = []; split = sym (append-nil (rules.cuts content)); uses = refl; are = refl }
-
-  pub up_to_within : (content : List ℕ) (bound : ℕ) (tokens : List (List ℕ)) → UpTo rules content bound tokens → bound ≤ length content
-  up_to_within content bound tokens up =
-      omega (arith, laws.within content, ap used_by up.split, used-append up.taken up.behind, up.uses)
 
   pub up_to_lasts : (content more : List ℕ) (bound : ℕ) (tokens : List (List ℕ)) → UpTo rules content bound tokens → UpTo rules (content ++ more) bound tokens
   up_to_lasts content more bound tokens up =

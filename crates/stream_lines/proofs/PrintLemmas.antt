@@ -16,6 +16,7 @@ use Rattle.stream_lines.specs.Limits.{most_printed}
 use Rattle.stream_lines.specs.Prints.{Prints, PrintsBefore, PrintsPart, Tells}
 use Rattle.stream_lines.specs.declared.fault.StreamFault.{StreamFault}
 use Rattle.stream_lines.specs.declared.fault.StreamFault.TheVariants.{Source, Report, Long, Full, Memory}
+use Rattle.file_pass.proofs.GoingOn.{text_append}
 
 pub prints_then : (front back : List ℕ) (begun mid new : Option (List ℕ)) → Told (Prints front) begun mid → Told (Prints back) mid new → Told (Prints (front ++ back)) begun new
 prints_then front back begun mid new =
@@ -63,9 +64,6 @@ write_tells lines fault result old new is part = subst (λ (r : Result Unit Stre
 pub memory_tells : (lines : List Mark) (result : Result Unit StreamFault) (old new : Option (List ℕ)) → result ≡ Err Memory → Told (PrintsPart (lines_text lines)) old new → Tells lines result old new
 memory_tells lines result old new is part = subst (λ (r : Result Unit StreamFault). Tells lines r old new) (sym is) part
 
-pub text_on : (front back : List Mark) → lines_text (front ++ back) ≡ lines_text front ++ lines_text back
-text_on front back = flat_map-append line_of front back
-
 -- those before the line that is too much were printed, behind lines that aren't
 pub before_then : (printed : ℕ) (earlier marks : List Mark) (size : ℕ) (begun mid new : Option (List ℕ)) → printed ≡ length (lines_text earlier)
     → (crosses : Crosses most_printed printed marks size) → Told (Prints (lines_text earlier)) begun mid → Told (Prints (lines_text crosses.front)) mid new
@@ -76,20 +74,20 @@ before_then printed earlier marks size begun mid new counted crosses so_far next
     last = crosses.last;
     back = crosses.back;
     split = ap (λ (l : List Mark). earlier ++ l) crosses.split ∙ sym (append_assoc earlier crosses.front (crosses.last ∷ crosses.back));
-    within_before = omega (arith, counted, crosses.within_before, ap length (text_on earlier crosses.front), length-append (lines_text earlier) (lines_text crosses.front));
+    within_before = omega (arith, counted, crosses.within_before, ap length (text_append earlier crosses.front), length-append (lines_text earlier) (lines_text crosses.front));
     size_then =
         let whole : lines_text ((earlier ++ crosses.front) ++ crosses.last ∷ []) ≡ lines_text earlier ++ lines_text (crosses.front ++ crosses.last ∷ []) =
-        ap lines_text (append_assoc earlier crosses.front (crosses.last ∷ [])) ∙ text_on earlier (crosses.front ++ crosses.last ∷ []) in
+        ap lines_text (append_assoc earlier crosses.front (crosses.last ∷ [])) ∙ text_append earlier (crosses.front ++ crosses.last ∷ []) in
         omega (arith, counted, crosses.size_then, ap length whole, length-append (lines_text earlier) (lines_text (crosses.front ++ crosses.last ∷ [])));
     too_much = crosses.too_much;
   };
-  told = subst (λ (l : List ℕ). Told (Prints l) begun new) (sym (text_on earlier crosses.front)) (prints_then (lines_text earlier) (lines_text crosses.front) begun mid new so_far next);
+  told = subst (λ (l : List ℕ). Told (Prints l) begun new) (sym (text_append earlier crosses.front)) (prints_then (lines_text earlier) (lines_text crosses.front) begun mid new so_far next);
 }
 
 -- what was printed of some lines is a part of these and more
 pub earlier_part : (earlier more all : List Mark) (begun now : Option (List ℕ)) → all ≡ earlier ++ more → Told (Prints (lines_text earlier)) begun now → Told (PrintsPart (lines_text all)) begun now
 earlier_part earlier more all begun now is so_far =
-    subst (λ (l : List ℕ). Told (PrintsPart l) begun now) (sym (ap lines_text is ∙ text_on earlier more))
+    subst (λ (l : List ℕ). Told (PrintsPart l) begun now) (sym (ap lines_text is ∙ text_append earlier more))
     (part_on (lines_text earlier) (lines_text more) begun now (whole_is_part (lines_text earlier) begun now so_far))
 
 pub no_part : (text : List ℕ) (now : Option (List ℕ)) → Told (PrintsPart text) now now

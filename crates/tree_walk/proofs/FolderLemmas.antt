@@ -2,7 +2,7 @@
 use Rattle.std.proofs.Common.{◌≡◌, ◌≢◌, ℕ, zero, suc, ◌+◌, ◌<◌, ◌≤◌, List, [], ◌∷◌, ◌++◌, ◌∙◌, ap, sym, refl, subst, length, take, drop, get_or, Bool, true, false, not, cond, nat_eq, ◌&&◌, inl, inr, ◌⊎◌, arith, append_assoc, length-append}
 use Rattle.std.proofs.Math.Seq.{take-suc, take-length}
 use Rattle.std.proofs.lemmas.Bool.{and_parts, and_from, not-true, eqb-true}
-use Rattle.std.proofs.lemmas.List.{append-nil, take-append-drop}
+use Rattle.std.proofs.lemmas.List.{append-nil, take-append-drop, length-take-le}
 use Rattle.std.proofs.lemmas.List.Sums.{sum_by-cons}
 use Rattle.std.proofs.lemmas.Slice.Eq.{bytes_eq-Decides}
 use Rattle.std.specs.Prelude.{IsTrue}
@@ -14,6 +14,7 @@ use Rattle.glob_match.specs.Path.{is_absolute}
 use Rattle.outside.specs.Listing.{path_within}
 use Rattle.outside.specs.Path.{in_front, components, relative, is_component, is_path, is_name, is_below}
 use Rattle.standing.specs.Pass.{root_of, IsOnWay}
+use Rattle.tree_walk.proofs.Worlds.{starts_self}
 use Rattle.tree_walk.specs.Depth.{count_of, depth}
 
 -- a path in the words of globs
@@ -197,12 +198,6 @@ module _ (path : List ℕ) (proper : is_path path ≡ true) where
       all_taken (x ∷ all) zero h = refl
       all_taken (x ∷ all) (suc k) h = let both = and_parts (is_clear x) (list_all is_clear all) h in and_from (is_clear x) (list_all is_clear (take k all)) both.0 (all_taken all k both.1)
 
-      size_taken : (all : List (List ℕ)) (k : ℕ) → k ≤ length all → length (take k all) ≡ k
-      size_taken [] zero l = refl
-      size_taken [] (suc k) l = absurd (omega arith)
-      size_taken (x ∷ all) zero l = refl
-      size_taken (x ∷ all) (suc k) l = ap suc (size_taken all k (omega arith))
-
       by : (all : List (List ℕ)) → parts path ≡ all → count < length all → list_all is_component all ≡ true → list_all is_clear all ≡ true → Named count
       by [] n l p c = absurd (omega arith)
       by (first ∷ others) n l p c =
@@ -214,7 +209,7 @@ module _ (path : List ℕ) (proper : is_path path ≡ true) where
             behind = drop count others;
             taken = ap (take (suc count)) n;
             whole = n ∙ ap (λ (t : List (List ℕ)). first ∷ t) (sym (take-append-drop count others));
-            size = ap suc (size_taken others count (omega arith));
+            size = ap suc (length-take-le count others (omega arith));
             starts = begins first each.0 clear.0;
             clear_first = clear.0;
             clear_more = all_taken others count clear.1;
@@ -290,16 +285,8 @@ module _ (path : List ℕ) (proper : is_path path ≡ true) where
           by (inl none) e = let is : b.byte ∷ b.others ≡ [] = sym (ap (λ (r : List ℕ). r ++ join_with_byte 47 (n.first ∷ n.more)) none ∙ b.is) ∙ e in cc is
           by (inr one) e = let is : 47 ∷ join_with_byte 47 (n.first ∷ n.more) ≡ [] = sym (ap (λ (r : List ℕ). r ++ join_with_byte 47 (n.first ∷ n.more)) one) ∙ e in cc is
 
-      starts : (xs ys : List ℕ) → starts_with nat_eq (xs ++ ys) xs ≡ true
-      starts [] [] = refl
-      starts [] (y ∷ ys) = refl
-      starts (x ∷ xs) ys = and_from (nat_eq x x) (starts_with nat_eq (xs ++ ys) xs) (same x) (starts xs ys)
-        where
-          same : (k : ℕ) → nat_eq k k ≡ true
-          same k = search (Rattle.std.proofs.Common.rules)
-
       below : (folder whole rest : List ℕ) → whole ≡ folder ++ 47 ∷ rest → IsTrue (is_below folder whole)
-      below folder whole rest e = rw e (subst (λ (t : List ℕ). starts_with nat_eq t (folder ++ 47 ∷ []) ≡ true) (append_assoc folder (47 ∷ []) rest) (starts (folder ++ 47 ∷ []) rest))
+      below folder whole rest e = rw e (subst (λ (t : List ℕ). starts_with nat_eq t (folder ++ 47 ∷ []) ≡ true) (append_assoc folder (47 ∷ []) rest) (starts_self (folder ++ 47 ∷ []) rest))
 
   pub front_on_way : (count : ℕ) → count < length (parts path) → IsOnWay path (front path count)
   front_on_way zero within = inl (append-nil (root_of path))

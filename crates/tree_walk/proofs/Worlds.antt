@@ -1,6 +1,6 @@
 -- What paths name at a moment, and what lists leave of a history.
-use Rattle.std.proofs.Common.{◌≡◌, ℕ, List, [], ◌∷◌, ◌++◌, refl, sym, ap, subst, ◌∙◌, Bool, true, false, cond, ◌&&◌, ◌||◌, nat_eq, ◌⊎◌, append_assoc}
-use Rattle.std.proofs.lemmas.Bool.{and_parts, and_from}
+use Rattle.std.proofs.Common.{◌≡◌, ℕ, List, [], ◌∷◌, ◌++◌, refl, sym, ap, subst, ◌∙◌, Bool, true, false, cond, ◌&&◌, ◌||◌, nat_eq, ◌⊎◌, append_assoc, eq-eqb}
+use Rattle.std.proofs.lemmas.Bool.{and_parts, and_from, and_right, or_right}
 use Rattle.std.proofs.lemmas.Slice.Eq.{bytes_eq-Decides}
 use Rattle.std.specs.Prelude.{Option, None, Some, option_map, find, is_some, IsTrue}
 use Rattle.std.specs.List.{list_any, starts_with}
@@ -79,10 +79,6 @@ named_any : (test : List ℕ → Bool) (ns : Names) (path : List ℕ) (file : �
 named_any test [] path file found passes = absurd (cc found)
 named_any test (n ∷ ns) path file found passes = by (bytes_eq n.0 path) refl found (λ behind. named_any test ns path file behind passes)
   where
-    or_right : (a b : Bool) → b ≡ true → (a || b) ≡ true
-    or_right true b e = refl
-    or_right false b e = e
-
     by : (b : Bool) → bytes_eq n.0 path ≡ b → option_map (λ (name : List ℕ × ℕ). name.1) (cond b (Some n) (find (λ name. bytes_eq name.0 path) ns)) ≡ Some file
         → (file_at ns path ≡ Some file → list_any (λ name. test name.0) ns ≡ true) → (test n.0 || list_any (λ name. test name.0) ns) ≡ true
     by true e f more = let same : test n.0 ≡ true = ap test ((bytes_eq-Decides n.0 path).0 e) ∙ passes in rw same refl
@@ -110,22 +106,15 @@ starts_shorter [] (x ∷ front) more e = e
 starts_shorter (c ∷ text) (x ∷ front) more e =
     let both = and_parts (nat_eq x c) (starts_with nat_eq text (front ++ more)) e in and_from (nat_eq x c) (starts_with nat_eq text front) both.0 (starts_shorter text front more both.1)
 
-starts_self : (front more : List ℕ) → starts_with nat_eq (front ++ more) front ≡ true
+pub starts_self : (front more : List ℕ) → starts_with nat_eq (front ++ more) front ≡ true
 starts_self [] [] = refl
 starts_self [] (y ∷ more) = refl
-starts_self (x ∷ front) more = and_from (nat_eq x x) (starts_with nat_eq (front ++ more) front) (same x) (starts_self front more)
-  where
-    same : (k : ℕ) → nat_eq k k ≡ true
-    same k = search (Rattle.std.proofs.Common.rules)
+starts_self (x ∷ front) more = and_from (nat_eq x x) (starts_with nat_eq (front ++ more) front) (eq-eqb x x refl) (starts_self front more)
 
 any_more : (p q : List ℕ → Bool) (ns : Names) → ((x : List ℕ) → p x ≡ true → q x ≡ true) → list_any (λ name. p name.0) ns ≡ true → list_any (λ name. q name.0) ns ≡ true
 any_more p q [] more e = e
 any_more p q (n ∷ ns) more e = by (p n.0) refl e (any_more p q ns more)
   where
-    or_right : (a b : Bool) → b ≡ true → (a || b) ≡ true
-    or_right true b h = refl
-    or_right false b h = h
-
     by : (b : Bool) → p n.0 ≡ b → (b || list_any (λ name. p name.0) ns) ≡ true → (list_any (λ name. p name.0) ns ≡ true → list_any (λ name. q name.0) ns ≡ true) → (q n.0 || list_any (λ name. q name.0) ns) ≡ true
     by true h k step = let here : q n.0 ≡ true = more n.0 h in rw here refl
     by false h k step = or_right (q n.0) (list_any (λ name. q name.0) ns) (step k)
@@ -159,12 +148,8 @@ folder_there ns (byte ∷ rest) name kind e = by (bytes_eq (byte ∷ rest) (47 �
     some None at f r true ef er el k = any_more (is_below path) (is_below folder) ns lower el
     some None at f r false ef er el k = absurd (cc (rw (ef, er) at k))
 
-    and_false : (a b : Bool) → b ≡ false → (a && b) ≡ false
-    and_false true b h = h
-    and_false false b h = refl
-
     by : (t : Bool) → bytes_eq folder (47 ∷ []) ≡ t → (t || list_any (λ n. is_below folder n.0) ns) ≡ true
     by true h = refl
     by false h =
         let there : kind_at ns path ≡ Some kind = rw h at e in
-        some (file_at ns path) refl (bytes_eq path []) (bytes_eq path (47 ∷ [])) (list_any (λ n. is_below path n.0) ns) refl (and_false (nat_eq byte 47) (bytes_eq (rest ++ 47 ∷ name) []) (not_root rest)) refl there
+        some (file_at ns path) refl (bytes_eq path []) (bytes_eq path (47 ∷ [])) (list_any (λ n. is_below path n.0) ns) refl (and_right (nat_eq byte 47) (bytes_eq (rest ++ 47 ∷ name) []) (not_root rest)) refl there

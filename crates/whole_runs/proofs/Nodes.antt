@@ -1,16 +1,12 @@
 -- What a node of a graph does to the states and calls, and nodes one after another.
-use Rattle.std.proofs.Common.{◌≡◌, ℕ, ◌+◌, ◌<◌, ◌≤◌, List, [], ◌++◌, refl, sym, ap, ◌∙◌, length, map, drop, get_or}
-use Rattle.std.specs.Prelude.{Option, Some, slice_get, slice_set}
-use Rattle.std.specs.Option.{option_map, option_map_or}
+use Rattle.std.proofs.Common.{◌≡◌, ℕ, ◌+◌, ◌<◌, ◌≤◌, List, [], ◌++◌, sym, ap, ◌∙◌, length, drop, get_or}
+use Rattle.std.specs.Prelude.{Some, slice_get}
 use Rattle.std.proofs.lemmas.List.{at_drop_more, at_drop_all}
-use Rattle.std.proofs.lemmas.Option.{slice_get-map, slice_get_read}
+use Rattle.std.proofs.lemmas.Option.{slice_get_read}
 use Rattle.graph_core.specs.Behavior.{Behavior}
 use Rattle.graph_core.specs.declared.NodeSpec.{NodeSpec}
-use Rattle.graph_core.specs.declared.Target.{Target}
 use Rattle.graph_core.specs.declared.Target.TheVariants.{Node}
-use Rattle.graph_core.specs.Traces.{Network, network_of, Call, state_after, by_address, calls_to, calls_of_trace, calls_from}
-use Rattle.graph_core.specs.Wiring.{ports_of}
-use Rattle.graph_core.proofs.Delivering.{ports_of_index}
+use Rattle.graph_core.specs.Traces.{Network, network_of, Call, by_address, calls_to, calls_from}
 use Rattle.whole_runs.specs.Inner.Serving.{calls_not_to, taken_by, states_behind, calls_behind, states_in_order, calls_in_order}
 
 module _ {Op State Item : Type 0} (behavior : Op → Behavior State Item) (nodes : List (NodeSpec Op)) (v : ℕ) (node : NodeSpec Op) (states : List State) (state : State)
@@ -18,27 +14,8 @@ module _ {Op State Item : Type 0} (behavior : Op → Behavior State Item) (nodes
   abbrev net : Network State Item
   net = network_of behavior nodes
 
-  has_behavior : slice_get net.behaviors v ≡ Some (behavior node.op)
-  has_behavior =
-      slice_get-map (λ (n : NodeSpec Op). behavior n.op) nodes v
-      ∙ ap (option_map (λ (n : NodeSpec Op). behavior n.op)) (slice_get_read nodes (length nodes) v node refl within is_node)
-
   has_state : slice_get states v ≡ Some state
   has_state = slice_get_read states (length nodes) v state (sym many) within is_state
-
-  pub state_taken : (served : List (Call Item)) (after : State) (states_after : List State) → after ≡ state_after (Some (behavior node.op)) state served
-      → states_after ≡ slice_set states v after → states_after ≡ taken_by net v states served
-  state_taken served after states_after a e =
-      e ∙ (ap (slice_set states v) a
-      ∙ sym (ap (λ (o : Option State). option_map_or (λ q. slice_set states v (state_after (slice_get net.behaviors v) q served)) o states) has_state
-      ∙ ap (λ (b : Option (Behavior State Item)). slice_set states v (state_after b state served)) has_behavior))
-
-  pub calls_made : (served : List (Call Item))
-      → calls_of_trace (Some (behavior node.op)) (map (λ port. port.items) node.ports.items) state served ≡ calls_from net states v served
-  calls_made served =
-      sym (ap (λ (o : Option State). option_map_or (λ q. calls_of_trace (slice_get net.behaviors v) (ports_of net.wiring v) q served) o []) has_state
-      ∙ (ap (λ (b : Option (Behavior State Item)). calls_of_trace b (ports_of net.wiring v) state served) has_behavior
-      ∙ ap (λ (p : List (List Target)). calls_of_trace (Some (behavior node.op)) p state served) (ports_of_index nodes v node within is_node)))
 
 -- a node has taken its calls, brought in order
 module _ {State Item : Type 0} (net : Network State Item) (v : ℕ) (states : List State) (calls own served : List (Call Item)) (own_are : own ≡ calls_to (Node v) calls) (served_are : served ≡ by_address own) where

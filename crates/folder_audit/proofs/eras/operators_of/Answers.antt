@@ -5,7 +5,7 @@ use Rattle.pipeline.specs.AsRules.{rules_of}
 use Rattle.pipeline.specs.declared.Pipeline.{Pipeline}
 use Rattle.standing.specs.Rows.{KeepStates}
 use Rattle.folder_audit.proofs.KeptLemmas.{one_last}
-use Rattle.folder_audit.proofs.RowLemmas.{rows_in_order}
+use Rattle.checkpoint_journal.proofs.RowLemmas.{rows_in_order}
 use Rattle.folder_audit.proofs.eras.operators_of.Goals as goal
 
 pub first_foreign-requires : goal.first_foreign-requires

@@ -1,4 +1,4 @@
-use Rattle.kept_lines.proofs.Texts.{whose_none, whose_some, whose_other}
+use Rattle.kept_lines.proofs.Texts.{whose_none}
 use Rattle.kept_lines.proofs.splitting.file_of.Goals as goal
 
 pub returns-in_default : goal.returns-in_default

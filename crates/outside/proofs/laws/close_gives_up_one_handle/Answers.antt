@@ -1,5 +1,5 @@
-use Rattle.std.proofs.Common.{◌≡◌, ℕ, List, ◌∷◌, ap, ◌∙◌, not, ◌==◌}
-use Rattle.std.specs.Prelude.{filter, None}
+use Rattle.std.proofs.Common.{◌≡◌, ℕ, ◌∷◌, ap, ◌∙◌, not, ◌==◌}
+use Rattle.std.specs.Prelude.{filter}
 use Rattle.outside.specs.Reading.{file_of}
 use Rattle.outside.proofs.Seeing.{none_after, others_stay, given_back}
 use Rattle.outside.proofs.laws.close_gives_up_one_handle.Goals as goal

@@ -3,7 +3,7 @@ use Rattle.std.proofs.lemmas.Option.{MatchOption-at_none}
 use Rattle.checkpoint_store.specs.Limits.{newest}
 use Rattle.checkpoint_store.specs.Rules.{beside_of}
 use Rattle.pipeline.specs.AsRules.{rules_of}
-use Rattle.poll_core.proofs.RowLemmas.{rows_in_order}
+use Rattle.checkpoint_journal.proofs.RowLemmas.{rows_in_order}
 use Rattle.poll_core.proofs.making.check.Goals as goal
 use Rattle.standing.specs.Rows.{KeepStates, AreInOrder}
 

@@ -8,8 +8,9 @@ use Rattle.file_pass.specs.Full.{Crosses, line_of, lines_text}
 use Rattle.stream_lines.specs.Limits.{most_printed}
 use Rattle.stream_lines.specs.Prints.{Prints, PrintsPart}
 use Rattle.stream_lines.proofs.Fronts.{front_is}
-use Rattle.stream_lines.proofs.PrintLemmas.{before_then, part_of_take, part_then, text_on, write_tells}
+use Rattle.stream_lines.proofs.PrintLemmas.{before_then, part_of_take, part_then, write_tells}
 use Rattle.stream_lines.proofs.printing.print.Goals as goal
+use Rattle.file_pass.proofs.GoingOn.{text_append}
 
 pub returns-in_err-write-clause-tells : goal.returns-in_err-write-clause-tells
 returns-in_err-write-clause-tells g c = λ earlier marks begun is counted so_far.
@@ -19,7 +20,7 @@ returns-in_err-write-clause-tells g c = λ earlier marks begun is counted so_far
     let new = written c.write.new.self in
     let part : Told (PrintsPart c.args.lines.now) mid new = part_of_take c.whole_front-before.result c.args.lines.now mid new c.in_err-write.ensures.written in
     write_tells (earlier ++ marks) c.in_err-write.field-0.0 c.from_residual.result begun new (made.1 ∙ ap Err made.2)
-    (subst (λ (l : List ℕ). Told (PrintsPart l) begun new) (sym (text_on earlier marks ∙ ap (λ (l : List ℕ). lines_text earlier ++ l) (sym is)))
+    (subst (λ (l : List ℕ). Told (PrintsPart l) begun new) (sym (text_append earlier marks ∙ ap (λ (l : List ℕ). lines_text earlier ++ l) (sym is)))
     (part_then (lines_text earlier) c.args.lines.now begun mid new so_far part))
 
 pub returns-in-Some-clause-tells : goal.returns-in-Some-clause-tells
@@ -41,5 +42,5 @@ returns-in_err-write-2-clause-tells g c = λ earlier marks begun is counted so_f
     let mid = written c.args.report.now in
     let new = written c.write-2.new.self in
     write_tells (earlier ++ marks) c.in_err-write-2.field-0.0 c.from_residual-in_err-write-2.result begun new (made.1 ∙ ap Err made.2)
-    (subst (λ (l : List ℕ). Told (PrintsPart l) begun new) (sym (text_on earlier marks ∙ ap (λ (l : List ℕ). lines_text earlier ++ l) (sym is)))
+    (subst (λ (l : List ℕ). Told (PrintsPart l) begun new) (sym (text_append earlier marks ∙ ap (λ (l : List ℕ). lines_text earlier ++ l) (sym is)))
     (part_then (lines_text earlier) c.args.lines.now begun mid new so_far c.in_err-write-2.ensures.written))

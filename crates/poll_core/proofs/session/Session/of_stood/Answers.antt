@@ -6,7 +6,7 @@ use Rattle.checkpoint_store.specs.Rules.{beside_of}
 use Rattle.file_tracker.specs.declared.row.Row.{Row}
 use Rattle.pipeline.specs.AsRules.{rules_of}
 use Rattle.poll_core.proofs.AdoptRefusals.{foreign_unadopted, kept_unadopted, short_unadopted}
-use Rattle.poll_core.proofs.RowLemmas.{rows_in_order}
+use Rattle.checkpoint_journal.proofs.RowLemmas.{rows_in_order}
 use Rattle.poll_core.proofs.session.Session.of_stood.Goals as goal
 use Rattle.poll_core.specs.AdoptFaults.{IsKeptRefusal}
 use Rattle.pipeline.specs.MadeOf.{IsMadeOf}

@@ -10,9 +10,10 @@ use Rattle.standing.specs.Marks.{Mark}
 use Rattle.stream_lines.specs.Prints.{PrintsAll, Tells}
 use Rattle.stream_lines.specs.StreamLines.{open_lines, stream_origin}
 use Rattle.stream_lines.specs.declared.fault.StreamFault.{StreamFault}
-use Rattle.stream_lines.proofs.PrintLemmas.{earlier_part, memory_tells, text_on}
+use Rattle.stream_lines.proofs.PrintLemmas.{earlier_part, memory_tells}
 use Rattle.stream_lines.proofs.StreamLemmas.{CutLaws, LineLaws, OutputLaws, fed_all, fed_lines, fed_marks, fed_stands, fed_waits, open_grows, used_few}
 use Rattle.stream_lines.proofs.stream.Stream.feed.Goals as goal
+use Rattle.file_pass.proofs.GoingOn.{text_append}
 
 pub returns-in_err-extend_from_slice-clause-tells : goal.returns-in_err-extend_from_slice-clause-tells
 returns-in_err-extend_from_slice-clause-tells g c = λ given begun taken so_far.
@@ -102,7 +103,7 @@ returns-clause-taken g c = λ given taken.
         ap length c.deref-2.ensures.value,
         ap length text,
         ap (λ (l : List Mark). length (lines_text l)) all,
-        ap length (text_on (open_lines pipeline observed given) (fed_marks pipeline laws out observed lines given c.args.self.now taken c.args.piece.now bytes c.feed.new.state c.clear.new.self.items c.feed.new.out.items behind c.clear.ensures.items goes)),
+        ap length (text_append (open_lines pipeline observed given) (fed_marks pipeline laws out observed lines given c.args.self.now taken c.args.piece.now bytes c.feed.new.state c.clear.new.self.items c.feed.new.out.items behind c.clear.ensures.items goes)),
         length-append (lines_text (open_lines pipeline observed given)) (lines_text (fed_marks pipeline laws out observed lines given c.args.self.now taken c.args.piece.now bytes c.feed.new.state c.clear.new.self.items c.feed.new.out.items behind c.clear.ensures.items goes)),
       );
     }
