@@ -1,5 +1,5 @@
 -- A map that grows at its end.
-use Rattle.std.proofs.Common.{◌≡◌, ℕ, List, [], ◌∷◌, ◌++◌, ◌∙◌, ap, sym, refl, map, subst, append_assoc}
+use Rattle.std.proofs.Common.{◌≡◌, ℕ, List, [], ◌∷◌, ◌++◌, ◌∙◌, ap, sym, refl, map, subst, append_assoc, length, arith}
 use Rattle.std.specs.Map.{keys_of}
 use Rattle.std.specs.BTreeMap.{insert_entry}
 use Rattle.std.specs.Ordering.{match_ordering, nat_cmp, ordering_reverse}
@@ -10,8 +10,10 @@ use Rattle.std.specs.List.{AllByRecursion}
 use Rattle.std.specs.List.Sorted.{IsStrictlySortedBy}
 use Rattle.std.proofs.lemmas.Map.Keys.{sorted_head, sorted_tail}
 use Rattle.entry_model.specs.declared.value.Value.{Value}
-use Rattle.entry_model.specs.Datum.{Datum, datum}
-use Rattle.entry_model.specs.Seen.{seen}
+use Rattle.entry_model.specs.Datum.{Datum}
+use Rattle.entry_model.specs.Places.{NamesAscend}
+use Rattle.entry_model.specs.Seen.{seen, unset_of}
+use Rattle.entry_model.proofs.Places.{keys_joined}
 
 abbrev pub cmp : List ℕ → List ℕ → Ordering
 cmp = slice_cmp nat_cmp
@@ -21,7 +23,7 @@ behind P [] key rest h = h.0
 behind P (k ∷ front) key rest h = behind P front key rest h.1
 
 -- a key behind all others goes to the end
-inserted_last : (es : List (List ℕ × Value)) (key : List ℕ) (value : Value) (rest : List (List ℕ)) → IsStrictlySortedBy cmp (keys_of es ++ key ∷ rest)
+pub inserted_last : (es : List (List ℕ × Value)) (key : List ℕ) (value : Value) (rest : List (List ℕ)) → IsStrictlySortedBy cmp (keys_of es ++ key ∷ rest)
     → insert_entry cmp es key value ≡ es ++ (key, value) ∷ []
 inserted_last [] key value rest s = refl
 inserted_last (e ∷ es) key value rest s =
@@ -30,30 +32,33 @@ inserted_last (e ∷ es) key value rest s =
     ap (λ (o : Ordering). match_ordering o ((key, value) ∷ e ∷ es) ((e.0, value) ∷ es) (e ∷ insert_entry cmp es key value)) greater
     ∙ ap (λ (l : List (List ℕ × Value)). e ∷ l) (inserted_last es key value rest (sorted_tail cmp e.0 (keys_of es ++ key ∷ rest) s))
 
-keys-seen : (es : List (List ℕ × Value)) → map (λ (e : List ℕ × Datum). e.0) (seen es) ≡ keys_of es
+pub keys-seen : (es : List (List ℕ × Value)) → map (λ (e : List ℕ × Datum). e.0) (seen es) ≡ keys_of es
 keys-seen [] = refl
 keys-seen (e ∷ es) = ap (λ (l : List (List ℕ)). e.0 ∷ l) (keys-seen es)
 
-seen-append : (es fs : List (List ℕ × Value)) → seen (es ++ fs) ≡ seen es ++ seen fs
-seen-append [] fs = refl
-seen-append (e ∷ es) fs = ap (λ (l : List (List ℕ × Datum)). (e.0, datum e.1) ∷ l) (seen-append es fs)
+-- one member more is put behind all that are there
+pub spread_more : (all done rest new : List (List ℕ × Value)) (name : List ℕ) (value : Value) → NamesAscend all → done ++ (name, value) ∷ rest ≡ all
+    → new ≡ insert_entry cmp done name value → new ++ rest ≡ all
+spread_more all done rest new name value s e i =
+    let keys : keys_of all ≡ keys_of done ++ name ∷ keys_of rest = sym (ap keys_of e) ∙ keys_joined done ((name, value) ∷ rest) in
+    let sorted : IsStrictlySortedBy cmp (keys_of done ++ name ∷ keys_of rest) = subst (λ (l : List (List ℕ)). IsStrictlySortedBy cmp l) keys s in
+    let last : new ≡ done ++ (name, value) ∷ [] = i ∙ inserted_last done name value (keys_of rest) sorted in
+    ap (λ (l : List (List ℕ × Value)). l ++ rest) last ∙ append_assoc done ((name, value) ∷ []) rest ∙ e
 
-keys-append : (es fs : List (List ℕ × Datum)) → map (λ (e : List ℕ × Datum). e.0) (es ++ fs) ≡ map (λ (e : List ℕ × Datum). e.0) es ++ map (λ (e : List ℕ × Datum). e.0) fs
-keys-append [] fs = refl
-keys-append (e ∷ es) fs = ap (λ (l : List (List ℕ)). e.0 ∷ l) (keys-append es fs)
+-- copies have the names
+pub copies_ascend : (es fs : List (List ℕ × Value)) → seen es ≡ seen fs → NamesAscend fs → NamesAscend es
+copies_ascend es fs e s =
+    subst (λ (l : List (List ℕ)). IsStrictlySortedBy cmp l) (sym (keys-seen fs) ∙ ap (map (λ (m : List ℕ × Datum). m.0)) (sym e) ∙ keys-seen es) s
 
--- one entry more is copied
-pub one_copied : (all es rest new : List (List ℕ × Value)) (key name : List ℕ) (value copy : Value) → IsStrictlySortedBy cmp (keys_of all)
-    → seen es ++ seen ((key, value) ∷ rest) ≡ seen all → name ≡ key → datum copy ≡ datum value → new ≡ insert_entry cmp es name copy
-    → seen new ++ seen rest ≡ seen all
-one_copied all es rest new key name value copy s e n d i =
-    let keys : keys_of all ≡ keys_of es ++ key ∷ keys_of rest = sym (keys-seen all) ∙ ap (map (λ (p : List ℕ × Datum). p.0)) (sym e)
-    ∙ keys-append (seen es) (seen ((key, value) ∷ rest)) ∙ ap (λ (l : List (List ℕ)). l ++ key ∷ map (λ (p : List ℕ × Datum). p.0) (seen rest)) (keys-seen es)
-    ∙ ap (λ (l : List (List ℕ)). keys_of es ++ key ∷ l) (keys-seen rest) in
-    let sorted : IsStrictlySortedBy cmp (keys_of es ++ key ∷ keys_of rest) = subst (λ (l : List (List ℕ)). IsStrictlySortedBy cmp l) keys s in
-    let last : new ≡ es ++ (key, copy) ∷ [] = i ∙ ap (λ (k : List ℕ). insert_entry cmp es k copy) n ∙ inserted_last es key copy (keys_of rest) sorted in
-    ap (λ (l : List (List ℕ × Value)). seen l ++ seen rest) last
-    ∙ ap (λ (l : List (List ℕ × Datum)). l ++ seen rest) (seen-append es ((key, copy) ∷ []))
-    ∙ append_assoc (seen es) (seen ((key, copy) ∷ [])) (seen rest)
-    ∙ ap (λ (c : Datum). seen es ++ (key, c) ∷ seen rest) d
-    ∙ e
+keys-unset : (es : List (List ℕ × Value)) → map (λ (m : List ℕ × Datum). m.0) (unset_of (seen es)) ≡ keys_of es
+keys-unset [] = refl
+keys-unset (e ∷ es) = ap (λ (l : List (List ℕ)). e.0 ∷ l) (keys-unset es)
+
+-- what has the names of a map is in their order
+pub unset_ascend : (es fs : List (List ℕ × Value)) → seen es ≡ unset_of (seen fs) → NamesAscend fs → NamesAscend es
+unset_ascend es fs e s =
+    subst (λ (l : List (List ℕ)). IsStrictlySortedBy cmp l) (sym (keys-unset fs) ∙ ap (map (λ (m : List ℕ × Datum). m.0)) (sym e) ∙ keys-seen es) s
+
+pub nothing_left : {X : Type 0} (l : List X) → length l ≡ 0 → l ≡ []
+nothing_left [] e = refl
+nothing_left (x ∷ xs) e = absurd (omega (arith, e))

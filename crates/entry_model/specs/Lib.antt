@@ -1,7 +1,12 @@
-pub mod Datum
-pub mod LogRecord
-pub mod Seen
+pub mod Built
+pub mod ByName
 pub mod Code
-pub mod ShortText
 pub mod Content
+pub mod Datum
 pub mod Lawful
+pub mod Lending
+pub mod LogRecord
+pub mod Places
+pub mod Seen
+pub mod ShortText
+pub mod formers

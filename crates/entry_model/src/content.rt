@@ -7,8 +7,11 @@ use arrayvec::ArrayString;
 use std::alloc::{AllocError, Global};
 use std::rc::{Rc, RcStr};
 
-/// The most bytes that stand beside their count, so that they take one allocation. A longer text takes two.
-const SHARED_ROOM: usize = 104;
+/// The most bytes of a text that isn't a line, as a rule. They stand beside their count, in one allocation.
+const PART_ROOM: usize = 104;
+
+/// The most bytes of most lines. They stand beside their count too. A longer text takes two allocations.
+const LINE_ROOM: usize = 232;
 
 #[derive(Drop)]
 pub(crate) enum Content {
@@ -20,7 +23,9 @@ pub(crate) enum Content {
 
 pub(crate) enum Counted {
     /// In one piece, beside their count.
-    Shared(Rc<ArrayString<SHARED_ROOM>>),
+    Part(Rc<ArrayString<PART_ROOM>>),
+    /// In a longer piece, beside their count.
+    Line(Rc<ArrayString<LINE_ROOM>>),
     /// In a piece of their own.
     Long(RcStr),
 }
@@ -29,7 +34,8 @@ pub(crate) enum Counted {
 impl Drop for Counted {
     fn drop(self) {
         match self {
-            Counted::Shared(_text) => {}
+            Counted::Part(_text) => {}
+            Counted::Line(_text) => {}
             Counted::Long(_text) => {}
         }
     }
@@ -78,7 +84,16 @@ impl Counted {
         ensures { IfOk result (λ counted. bytes_counted counted ≡ text.now) }
     {
         match ArrayString::from(text) {
-            Ok(shared) => Ok(Counted::Shared(Rc::new(alloc, shared)?)),
+            Ok(part) => Ok(Counted::Part(Rc::new(alloc, part)?)),
+            Err(_) => Counted::of_line(alloc, text),
+        }
+    }
+
+    fn of_line(alloc: Global, text: &str) -> Result<Counted, AllocError>
+        ensures { IfOk result (λ counted. bytes_counted counted ≡ text.now) }
+    {
+        match ArrayString::from(text) {
+            Ok(line) => Ok(Counted::Line(Rc::new(alloc, line)?)),
             Err(_) => Ok(Counted::Long(RcStr::from_str(alloc, text)?)),
         }
     }
@@ -87,7 +102,8 @@ impl Counted {
         ensures { IfOk result (λ counted. bytes_counted counted ≡ bytes_counted self.now) }
     {
         match self {
-            Counted::Shared(text) => Ok(Counted::Shared(text.clone()?)),
+            Counted::Part(text) => Ok(Counted::Part(text.clone()?)),
+            Counted::Line(text) => Ok(Counted::Line(text.clone()?)),
             Counted::Long(text) => Ok(Counted::Long(text.clone()?)),
         }
     }
@@ -96,7 +112,8 @@ impl Counted {
         ensures { result.now ≡ bytes_counted self.now }
     {
         match self {
-            Counted::Shared(text) => text.as_ref().as_str(),
+            Counted::Part(text) => text.as_ref().as_str(),
+            Counted::Line(text) => text.as_ref().as_str(),
             Counted::Long(text) => text.as_str(),
         }
     }

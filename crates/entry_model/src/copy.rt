@@ -2,15 +2,13 @@
 //
 // A value is copied, compared and dropped by a recursion as deep as the value is nested. What the agent reads
 // bounds that depth: JSON in entries and values in settings nest at most 64 deep, and saved entries 4,096.
-ghost use Rattle.std.specs.Prelude.{◌≡◌, IfOk, OnOk, map};
-ghost use Rattle.std.specs.BTreeMap.{insert_entry};
-ghost use Rattle.std.specs.Cmp.Lexicographic.{slice_cmp};
-ghost use Rattle.std.specs.Ordering.{nat_cmp};
+ghost use Rattle.std.specs.Prelude.{◌≡◌, IfOk, map};
 ghost use Rattle.entry_model.specs.Datum.{datum};
 ghost use Rattle.entry_model.specs.LogRecord.{log_record};
-ghost use Rattle.entry_model.specs.Seen.{seen};
+ghost use Rattle.entry_model.specs.Seen.{seen, unset_of};
 
-use crate::{Entry, Fields, Text, Value, Values};
+use crate::fields::FIRST_ROOM;
+use crate::{Entry, Fields, Value, Values};
 use std::alloc::{AllocError, Global};
 
 impl Value {
@@ -48,7 +46,7 @@ fn copy_value(alloc: Global, value: &Value) -> Result<Value, AllocError>
         Value::Int(number) => Ok(Value::Int(*number)),
         Value::Text(text) => Ok(Value::Text(text.share()?)),
         Value::List(values) => Ok(Value::List(copy_values(alloc, values)?)),
-        Value::Map(fields) => Ok(Value::Map(copy_fields(alloc, fields)?)),
+        Value::Map(fields) => Ok(Value::Map(copy_members(alloc, fields)?)),
     }
 }
 
@@ -63,22 +61,39 @@ fn copy_values(alloc: Global, values: &Values) -> Result<Values, AllocError>
     Ok(copies)
 }
 
-/// Members equal to these.
 #[cycle(copy)]
+fn copy_members(alloc: Global, fields: &Fields) -> Result<Fields, AllocError>
+    ensures { IfOk result (λ copies. seen copies.entries ≡ seen fields.now.entries) }
+{
+    let mut copies = Vec::with_capacity(alloc, fields.len())?;
+    for (key, value) in fields.members() {
+        let copy = copy_value(alloc, value)?;
+        copies.push((key.share()?, copy))?;
+    }
+    Ok(Fields::from_ascending(copies))
+}
+
+/// Members equal to these.
+#[inline(always)]
 pub fn copy_fields(alloc: Global, fields: &Fields) -> Result<Fields, AllocError>
     ensures { IfOk result (λ copies. seen copies.entries ≡ seen fields.now.entries) }
 {
-    let mut copies = Fields::new(alloc);
-    for (key, value) in fields.iter() {
-        let copy = copy_value(alloc, value)?;
-        insert(&mut copies, key, copy)?;
+    // Most resources have none, and then nothing is called.
+    if fields.is_empty() {
+        return Ok(Fields::new(alloc));
     }
-    Ok(copies)
+    copy_members(alloc, fields)
 }
 
-fn insert(fields: &mut Fields, key: &Text, value: Value) -> Result<(), AllocError>
-    ensures { OnOk result (fields.new.entries ≡ insert_entry (slice_cmp nat_cmp) fields.old.entries key.now value) }
+/// The names of these members, each with `Null`. There is room for as many as the first member of a map makes it for.
+pub fn unset_fields(alloc: Global, fields: &Fields) -> Result<Fields, AllocError>
+    ensures { IfOk result (λ unset. seen unset.entries ≡ unset_of (seen fields.now.entries)) }
 {
-    fields.insert(key.share()?, value)?;
-    Ok(())
+    let len = fields.len();
+    let room = if len < FIRST_ROOM { FIRST_ROOM } else { len };
+    let mut unset = Vec::with_capacity(alloc, room)?;
+    for (key, _) in fields.members() {
+        unset.push((key.share()?, Value::Null))?;
+    }
+    Ok(Fields::from_ascending(unset))
 }

@@ -86,7 +86,7 @@ fn fields_within(fields: &Fields, levels: u32) -> bool
     ensures lawful { OnTrue result (AreLawfulMembers (members_of (seen fields.now.entries))) }
     ensures ascend { KeysAscend None (members_of (seen fields.now.entries)) }
 {
-    for (key, value) in fields.iter() {
+    for (key, value) in fields.members() {
         let _key = key.as_str();
         if !value_within(value, levels) {
             return false;

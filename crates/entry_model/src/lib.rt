@@ -6,16 +6,20 @@
 //! those three views alone.
 #![tactic(auto)]
 
+mod builder;
 mod content;
 mod copy;
 mod depth;
 mod entry;
+mod fields;
 pub mod laws;
 mod short;
 mod text;
 mod value;
 
-pub use copy::copy_fields;
+pub use builder::FieldsBuilder;
+pub use copy::{copy_fields, unset_fields};
 pub use entry::{Entry, Severity};
+pub use fields::TextMap;
 pub use text::Text;
 pub use value::{Fields, Value, Values};

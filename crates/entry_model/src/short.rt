@@ -62,6 +62,7 @@ impl ShortText {
     pub(crate) fn as_str(&self) -> &str
         ensures { result.now ≡ self.now.bytes }
     {
+        // SAFETY: the invariant says that these bytes are UTF-8, and the call's `requires` is proved of them.
         unsafe { str::from_utf8_unchecked(&self.cells[..self.len as usize]) }
     }
 }

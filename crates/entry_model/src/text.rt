@@ -11,7 +11,7 @@ use std::fmt;
 use std::marker::Model;
 
 /// A text in UTF-8. Texts are ordered by their bytes. One of at most 22 bytes takes no memory besides its own place. Longer
-/// ones that were shared have their bytes in one place of memory: a copy of at most 104 bytes is one allocation, and one of
+/// ones that were shared have their bytes in one place of memory: a copy of at most 232 bytes is one allocation, and one of
 /// more is two.
 #[derive(Drop)]
 pub struct Text {

@@ -1,9 +1,8 @@
 // Values, as bodies and attributes have them.
-use crate::Text;
-use std::collections::BTreeMap;
+use crate::{Text, TextMap};
 
 /// The members of a map, in ascending byte order of their keys.
-pub type Fields = BTreeMap<Text, Value>;
+pub type Fields = TextMap<Value>;
 
 /// The values of a list, in order.
 pub type Values = Vec<Value>;
@@ -20,5 +19,5 @@ pub enum Value {
     Map(Fields),
 }
 
-// So a node of `Fields`, of fifteen members, is among the pieces of memory that glibc's `malloc` keeps at hand.
+// So sixteen members, for which the first one that is put in makes room, are among the pieces of memory that glibc's `malloc` keeps at hand.
 const _: () = prove!(size_of::<Text>() + size_of::<Value>() <= 56);

@@ -41,8 +41,8 @@ pub fn are_same_lists(one: &Values, other: &Values) -> bool
 pub fn are_same_maps(one: &Fields, other: &Fields) -> bool
     ensures { result ≡ same_members (members_seen one.now.entries) (members_seen other.now.entries) }
 {
-    let mut rest = other.iter();
-    for (key, value) in one {
+    let mut rest = other.members().iter();
+    for (key, value) in one.members() {
         match rest.next() {
             Some((name, other)) if key == name && are_same(value, other) => {}
             _ => return false,

@@ -1,5 +1,6 @@
 -- One name more of a map in memory, as members are raised from it.
-use Rattle.std.proofs.Common.{◌≡◌, ℕ, List, ◌∷◌, ◌∙◌, ap, sym, refl, subst, Option, Some, None, option_map, Bool, false}
+use Rattle.std.proofs.Common.{◌≡◌, ℕ, suc, ◌+◌, ◌<◌, List, ◌∷◌, length, drop, get_or, add-one, ◌∙◌, ap, sym, refl, subst, Option, Some, None, option_map, Bool, false}
+use Rattle.std.proofs.Math.Seq.{drop-cons}
 use Rattle.std.specs.Option.{IsSome, is_some}
 use Rattle.std.specs.BTreeMap.{is_at}
 use Rattle.std.specs.Map.{lookup, keys_of, remove_entry, set_value}
@@ -15,7 +16,7 @@ use Rattle.entry_model.specs.Lawful.{KeysAscend}
 use Rattle.field_paths.specs.MapOf.{members_seen}
 use Rattle.field_paths.specs.Members.{member_at, with_member, without_member}
 use Rattle.field_paths.proofs.Entries.{member_at-seen, with_member-set, without_member-seen}
-use Rattle.field_ops.specs.Inner.Names.{without_members, AreDisjoint, AreNamedIn}
+use Rattle.field_ops.specs.Inner.Names.{AreDisjoint, AreNamedIn}
 use Rattle.field_ops.specs.Rows.{with_members}
 use Rattle.field_ops.proofs.Raised.{Put, one_put, stays_named, named_rest, named_first}
 
@@ -24,6 +25,11 @@ Entries = List (List ℕ × Value)
 
 abbrev pub found : List ℕ → List (List ℕ × Value) → Option Value
 found name es = lookup (is_at (slice_cmp nat_cmp name)) es
+
+-- the members from one on
+pub left_from : (es : List (List ℕ × Value)) (i : ℕ) (e : List ℕ × Value) → i < length es → e ≡ get_or es i e → drop i es ≡ (e.0, e.1) ∷ drop (i + 1) es
+left_from es i e within is =
+    drop-cons es i e within ∙ ap (λ (first : List ℕ × Value). first ∷ drop (suc i) es) (sym is) ∙ ap (λ (next : ℕ). e ∷ drop next es) (sym (add-one i))
 
 -- ---- whether names are apart
 
@@ -53,10 +59,6 @@ pub removed : (name : List ℕ) (es new : List (List ℕ × Value)) → new ≡ 
 removed name es new e = ap members_seen e ∙ sym (without_member-seen name es)
 
 -- ---- one turn of each loop
-
-pub one_removed : (name : List ℕ) (v : Value) (left rest : List (List ℕ × Value)) (now new all : Members) → left ≡ (name, v) ∷ rest → new ≡ without_member name now
-    → without_members (members_seen left) now ≡ all → without_members (members_seen rest) new ≡ all
-one_removed name v left rest now new all l e h = ap (without_members (members_seen rest)) e ∙ ap (λ (one : List (List ℕ × Value)). without_members (members_seen one) now) (sym l) ∙ h
 
 pub one_reserved : (name : List ℕ) (v : Value) (left rest : List (List ℕ × Value)) (raised old now new : Members) → left ≡ (name, v) ∷ rest → new ≡ with_member name null now
     → KeysAscend None now → Put raised old (members_seen left) now → Put raised old (members_seen rest) new

@@ -1,6 +1,7 @@
 -- A member of a copied map, and a value that is no map.
 use Rattle.std.proofs.Common.{◌≡◌, ℕ, List, ◌∷◌, ◌∙◌, ap, sym, refl, option_map, Err}
-use Rattle.std.specs.BTreeMap.{BTreeMap, insert_entry, is_at}
+use Rattle.std.specs.BTreeMap.{insert_entry, is_at}
+use Rattle.entry_model.specs.ByName.{ByName}
 use Rattle.std.specs.Map.{lookup, remove_entry}
 use Rattle.std.specs.Ordering.{nat_cmp}
 use Rattle.std.specs.Cmp.Lexicographic.{slice_cmp}
@@ -19,14 +20,14 @@ use Rattle.field_ops.specs.Rows.{with_members, raised_in, where_a_map}
 use Rattle.field_ops.specs.declared.fault.FieldFault.TheVariants.{NotAMap}
 
 -- the members of what a map in memory is
-pub members_held : (holder : Datum) (members : BTreeMap (List ℕ) Value) → datum (value.Map members) ≡ holder → members_in holder ≡ members_seen members.entries
+pub members_held : (holder : Datum) (members : ByName Value) → datum (value.Map members) ≡ holder → members_in holder ≡ members_seen members.entries
 members_held holder members e = ap members_in (sym e ∙ datum_map members)
 
-pub held : (holder : Datum) (members : BTreeMap (List ℕ) Value) (name : List ℕ) → datum (value.Map members) ≡ holder
+pub held : (holder : Datum) (members : ByName Value) (name : List ℕ) → datum (value.Map members) ≡ holder
     → member_at name (members_in holder) ≡ option_map datum (lookup (is_at (slice_cmp nat_cmp name)) members.entries)
 held holder members name e = ap (member_at name) (members_held holder members e) ∙ member_at-seen name members.entries
 
-layer_refused : (layer : Value-F Value) (then_so : Members → Outcome) → ((members : BTreeMap (List ℕ) Value) → roll-Value layer ≡ value.Map members → ⊥)
+layer_refused : (layer : Value-F Value) (then_so : Members → Outcome) → ((members : ByName Value) → roll-Value layer ≡ value.Map members → ⊥)
     → where_a_map (datum_step (map-Value Value Datum datum layer)) then_so ≡ Err NotAMap
 layer_refused Value-F.Null then_so other = refl
 layer_refused (Value-F.Bool b) then_so other = refl
@@ -35,7 +36,7 @@ layer_refused (Value-F.Text bytes) then_so other = refl
 layer_refused (Value-F.List values) then_so other = refl
 layer_refused (Value-F.Map members) then_so other = absurd (other members (value.rolls-Map members))
 
-pub no_map_refused : (v : Value) (then_so : Members → Outcome) → ((members : BTreeMap (List ℕ) Value) → v ≡ value.Map members → ⊥) → where_a_map (datum v) then_so ≡ Err NotAMap
+pub no_map_refused : (v : Value) (then_so : Members → Outcome) → ((members : ByName Value) → v ≡ value.Map members → ⊥) → where_a_map (datum v) then_so ≡ Err NotAMap
 no_map_refused v then_so other = rw (fold_out-Value Datum datum_step v) (layer_refused (out-Value v) then_so (λ members e. other members (sym (roll-out-Value v) ∙ e)))
 
 -- one member more is raised
@@ -48,7 +49,7 @@ one_raised rest es new all start left name v l i h =
     ∙ ap (λ (m : List (List ℕ × Value)). with_members (members_seen m) (members_seen es)) (sym l) ∙ h
 
 -- the raised members, in the map without the member that held them
-pub raised_held : (holder : Datum) (members removed new raised : BTreeMap (List ℕ) Value) (name : List ℕ) → datum (value.Map members) ≡ holder
+pub raised_held : (holder : Datum) (members removed new raised : ByName Value) (name : List ℕ) → datum (value.Map members) ≡ holder
     → removed.entries ≡ remove_entry (is_at (slice_cmp nat_cmp name)) members.entries
     → members_seen new.entries ≡ with_members (members_seen raised.entries) (members_seen removed.entries)
     → datum (value.Map new) ≡ raised_in name holder (members_seen raised.entries)

@@ -1,8 +1,5 @@
 // Flattening a map into the one that holds it.
 ghost use Rattle.std.specs.Prelude.{◌≡◌, ◌≢◌, [], OnOk, OnErr, IfOk, IfErr, Ok, Err, Some, IsTrue};
-ghost use Rattle.std.specs.BTreeMap.{insert_entry};
-ghost use Rattle.std.specs.Cmp.Lexicographic.{slice_cmp};
-ghost use Rattle.std.specs.Ordering.{nat_cmp};
 ghost use Rattle.entry_model.specs.Datum.{datum, fields, Members, is_map};
 ghost use Rattle.entry_model.specs.LogRecord.{log_record, members_in};
 ghost use Rattle.field_paths.specs.MapOf.{members_seen};
@@ -14,9 +11,12 @@ ghost use Rattle.field_ops.specs.declared.fault.FieldFault.TheVariants.{Memory};
 
 use crate::FieldFault;
 use crate::raising::raise_in_place;
-use entry_model::{Entry, Fields, Text, Value};
+use entry_model::{Entry, Fields, FieldsBuilder, Text, Value};
 use field_paths::{FieldPath, Root};
 use std::alloc::{AllocError, Global};
+
+/// At most so many members are put one by one among those of a map of any length.
+pub(crate) const FEW: usize = 64;
 
 /// Puts the members of a map into the map that holds it, in its place.
 #[derive(Drop)]
@@ -116,25 +116,18 @@ fn flatten_member(alloc: Global, holder: &Value, name: &Text) -> Result<Value, F
     let Value::Map(raised) = member else {
         return Err(FieldFault::NotAMap);
     };
-    raise(raised, &mut members)?;
-    Ok(Value::Map(members))
+    let all = raise(alloc, raised, members)?;
+    Ok(Value::Map(all))
 }
 
 /// Puts each of some members among others, in the place of one with its name.
-pub(crate) fn raise(raised: Fields, members: &mut Fields) -> Result<(), AllocError>
-    ensures { OnOk result (members_seen members.new.entries
-        ≡ with_members (members_seen raised.entries) (members_seen members.old.entries)) }
+pub(crate) fn raise(alloc: Global, raised: Fields, members: Fields) -> Result<Fields, AllocError>
+    ensures { IfOk result (λ all. members_seen all.entries
+        ≡ with_members (members_seen raised.entries) (members_seen members.entries)) }
 {
-    for (name, value) in raised {
-        insert(members, name, value)?;
+    let mut all = FieldsBuilder::from_fields(alloc, members);
+    for (name, value) in raised.into_members() {
+        all.insert(name, value)?;
     }
-    Ok(())
-}
-
-pub(crate) fn insert(members: &mut Fields, name: Text, value: Value) -> Result<(), AllocError>
-    ensures ok { OnOk result (members.new.entries ≡ insert_entry (slice_cmp nat_cmp) members.old.entries name value) }
-    ensures err { OnErr result (members.new.entries ≡ members.old.entries) }
-{
-    members.insert(name, value)?;
-    Ok(())
+    all.finish()
 }

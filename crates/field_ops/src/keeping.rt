@@ -65,7 +65,8 @@ fn keep_listed_members(listed: &[FieldPath], root: Root, members: &mut Fields)
         ≡ members_where (any_at_member listed.now root) (members_seen members.old.entries) }
     ensures ascend { KeysAscend None (members_seen members.old.entries) }
 {
-    members.retain(|name, _value| lists(listed, root, name));
+    let _len = members.len();
+    members.retain(|member| lists(listed, root, &member.0));
 }
 
 /// Whether one of the fields is this member of the root, or below it.

@@ -9,7 +9,7 @@ ghost use Rattle.field_ops.specs.declared.fault.FieldFault.TheVariants.{Memory};
 ghost use Rattle.field_paths.specs.MapOf.{members_seen};
 
 use crate::FieldFault;
-use crate::flattening::{insert, raise};
+use crate::flattening::{FEW, raise};
 use entry_model::{Entry, Fields, Value, copy_fields};
 use field_paths::FieldPath;
 use std::alloc::{AllocError, Global};
@@ -35,7 +35,7 @@ pub fn put_members(
     Ok(())
 }
 
-// What stands goes among the members where it is less than they are, and else they go among a copy of it.
+// What stands goes among the members where it is little and no more than they are, and else they go among a copy of it.
 fn joined(alloc: Global, there: Option<&Value>, mut members: Fields) -> Result<Value, AllocError>
     ensures { IfOk result (λ value. datum value
         ≡ rows.joined (members_seen members.entries) (option_map (λ held. datum held.now) there.entry)) }
@@ -43,13 +43,12 @@ fn joined(alloc: Global, there: Option<&Value>, mut members: Fields) -> Result<V
     let Some(Value::Map(held)) = there else {
         return Ok(Value::Map(members));
     };
-    if held.len() <= members.len() {
+    if held.len() <= FEW && held.len() <= members.len() {
         put_absent(alloc, held, &mut members)?;
         return Ok(Value::Map(members));
     }
-    let mut joined = copy_fields(alloc, held)?;
-    raise(members, &mut joined)?;
-    Ok(Value::Map(joined))
+    let all = raise(alloc, members, copy_fields(alloc, held)?)?;
+    Ok(Value::Map(all))
 }
 
 // Puts a copy of each held member among the members where none has its name.
@@ -59,9 +58,9 @@ fn put_absent(alloc: Global, held: &Fields, members: &mut Fields) -> Result<(), 
     ensures { OnOk result (members_seen members.new.entries
         ≡ with_members (members_seen members.old.entries) (members_seen held.now.entries)) }
 {
-    for (name, value) in held.iter() {
-        if !members.contains_key(name) {
-            insert(members, name.share()?, value.copy(alloc)?)?;
+    for (name, value) in held.members() {
+        if let Err(at) = members.place(name) {
+            members.insert_at(at, name.share()?, value.copy(alloc)?)?;
         }
     }
     Ok(())

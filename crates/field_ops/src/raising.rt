@@ -11,15 +11,19 @@ ghost use Rattle.field_ops.specs.Rows.{with_members, raised_in, where_a_map};
 ghost use Rattle.field_ops.specs.declared.fault.FieldFault.TheVariants.{NotAMap, Memory};
 
 use crate::FieldFault;
-use crate::flattening::insert;
+use crate::flattening::FEW;
 use entry_model::{Fields, Text, Value};
 use std::alloc::AllocError;
 use std::mem;
 
-fn are_disjoint(raised: &Fields, members: &Fields) -> bool
+/// Whether the raised members are few, and none has the name of a member beside them.
+fn fit_in_place(raised: &Fields, members: &Fields) -> bool
     ensures { IsTrue result → AreDisjoint (members_seen raised.now.entries) (members_seen members.now.entries) }
 {
-    for (name, _value) in raised.iter() {
+    if raised.len() > FEW {
+        return false;
+    }
+    for (name, _value) in raised.members() {
         if members.contains_key(name) {
             return false;
         }
@@ -27,8 +31,8 @@ fn are_disjoint(raised: &Fields, members: &Fields) -> bool
     true
 }
 
-/// Puts the members of the map at the name in its place. Answers false, and changes nothing, where one of them has the name of a
-/// member beside the map, or the map's own.
+/// Puts the members of the map at the name in its place. Answers false, and changes nothing, where they are more than a few, or
+/// one of them has the name of a member beside the map, or the map's own.
 pub(crate) fn raise_in_place(holder: &mut Value, name: &Text) -> Result<bool, FieldFault>
     ensures ok { IfOk result (λ is_raised. IsTrue is_raised → (raised : Members)
         × (member_at name.now (members_in (datum holder.old)) ≡ Some (fields raised))
@@ -65,7 +69,7 @@ fn raise_among(members: &mut Fields, name: &Text) -> Result<bool, FieldFault>
     ensures err { OnErr result (members_seen members.new.entries ≡ members_seen members.old.entries) }
 {
     let raised = take_map(members, name)?;
-    if !are_disjoint(&raised, members) {
+    if !fit_in_place(&raised, members) {
         let whole = Value::Map(raised);
         put(members, name, whole);
         return Ok(false);
@@ -121,7 +125,7 @@ fn reserve(raised: &Fields, members: &mut Fields) -> Result<(), AllocError>
     ensures named { OnOk result (AreNamedIn (members_seen raised.now.entries) (members_seen members.new.entries)) }
     ensures err { OnErr result (members_seen members.new.entries ≡ members_seen members.old.entries) }
 {
-    for (name, _value) in raised.iter() {
+    for (name, _value) in raised.members() {
         if let Err(fault) = reserve_name(name, members) {
             remove_all(raised, members);
             return Err(fault);
@@ -136,14 +140,14 @@ fn reserve_name(name: &Text, members: &mut Fields) -> Result<(), AllocError>
     ensures ascend { KeysAscend None (members_seen members.old.entries) }
 {
     let _len = members.len();
-    insert(members, name.share()?, Value::Null)
+    members.insert(name.share()?, Value::Null)
 }
 
 fn remove_all(names: &Fields, members: &mut Fields)
     ensures { members_seen members.new.entries
         ≡ without_members (members_seen names.now.entries) (members_seen members.old.entries) }
 {
-    for (name, _value) in names.iter() {
+    for (name, _value) in names.members() {
         remove(members, name);
     }
 }
@@ -153,7 +157,7 @@ fn fill(raised: Fields, members: &mut Fields)
     requires { AreNamedIn (members_seen raised.entries) (members_seen members.old.entries) }
     ensures { members_seen members.new.entries ≡ with_members (members_seen raised.entries) (members_seen members.old.entries) }
 {
-    for (name, value) in raised {
+    for (name, value) in raised.into_members() {
         put(members, &name, value);
     }
 }

@@ -3,7 +3,8 @@ use Rattle.std.proofs.Common.{◌≡◌, ℕ, suc, ◌+◌, ◌<◌, ◌≤◌, 
 use Rattle.std.proofs.lemmas.List.{map_push}
 use Rattle.std.proofs.lemmas.Str.{IsCharBoundary-after_ascii}
 use Rattle.std.specs.Str.{IsUtf8, IsCharBoundary}
-use Rattle.std.specs.BTreeMap.{BTreeMap, insert_entry}
+use Rattle.std.specs.BTreeMap.{insert_entry}
+use Rattle.entry_model.specs.ByName.{ByName}
 use Rattle.std.specs.Cmp.Lexicographic.{slice_cmp}
 use Rattle.std.specs.Ordering.{match_ordering, nat_cmp}
 use Rattle.std.specs.declared.cmp.Ordering.{Ordering}
@@ -209,14 +210,14 @@ seen-insert (e ∷ es) name one = by (slice_cmp nat_cmp name e.0) (seen-insert e
 pub seen_put : (new entries : List (List ℕ × Value)) (name : List ℕ) (one : Value) → new ≡ insert_entry (slice_cmp nat_cmp) entries name one → put (seen entries) name (datum one) ≡ seen new
 seen_put new entries name one e = sym (ap seen e ∙ seen-insert entries name one)
 
-pub map_put : (members : BTreeMap (List ℕ) Value) (entries : List (List ℕ × Value)) (name : List ℕ) (one : Value) → members.entries ≡ insert_entry (slice_cmp nat_cmp) entries name one
+pub map_put : (members : ByName Value) (entries : List (List ℕ × Value)) (name : List ℕ) (one : Value) → members.entries ≡ insert_entry (slice_cmp nat_cmp) entries name one
     → fields (members_of (put (seen entries) name (datum one))) ≡ datum (value.Map members)
 map_put members entries name one e = ap (λ (l : List Member). fields (members_of l)) (seen_put members.entries entries name one e) ∙ sym (datum_map members)
 
 pub no_items_in : (values : Vec Value Global) → values.items ≡ [] → list no_items ≡ datum (value.List values)
 no_items_in values e = sym (datum_list values ∙ ap (λ (l : List Value). list (items_of (map datum l))) e)
 
-pub no_members_in : (members : BTreeMap (List ℕ) Value) → members.entries ≡ [] → fields no_members ≡ datum (value.Map members)
+pub no_members_in : (members : ByName Value) → members.entries ≡ [] → fields no_members ≡ datum (value.Map members)
 no_members_in members e = sym (datum_map members ∙ ap (λ (l : List (List ℕ × Value)). fields (members_of (seen l))) e)
 
 pub reads_as : (bytes : List ℕ) (at next room : ℕ) (f : List Frame → State) (x y : Datum) → x ≡ y → Leads {Around = List Frame} bytes at f next (λ frames. state (has_value x) frames room)

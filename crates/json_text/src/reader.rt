@@ -15,7 +15,7 @@ use crate::JsonFault;
 use crate::bytes::{byte_at, expect, skip_blanks, stands};
 use crate::number::number;
 use crate::strings::string;
-use entry_model::{Fields, Text, Value, Values};
+use entry_model::{Fields, FieldsBuilder, Text, Value, Values};
 use std::alloc::{AllocError, Global};
 
 /// How many lists and objects may be open at once.
@@ -183,7 +183,7 @@ fn members(alloc: Global, text: &str, at: usize, room: usize) -> Result<(Value, 
     requires { at ≤ length text.now }
     ensures { Reads text.now at (λ frames. state (wants_name []) frames room) (value_read_as (suc room)) result }
 {
-    let mut fields = Fields::new(alloc);
+    let mut fields = FieldsBuilder::new(alloc);
     let mut place = at;
     loop {
         let (name, behind) = match name(alloc, text, place) {
@@ -197,7 +197,8 @@ fn members(alloc: Global, text: &str, at: usize, room: usize) -> Result<(Value, 
         put(&mut fields, name, one)?;
         let end = skip_blanks(text, next);
         if stands(text, end, b'}') {
-            return Ok((Value::Map(fields), end + 1));
+            let members = fields.finish()?;
+            return Ok((Value::Map(members), end + 1));
         }
         if !stands(text, end, b',') {
             return Err(JsonFault::Syntax { at: end });
@@ -207,11 +208,10 @@ fn members(alloc: Global, text: &str, at: usize, room: usize) -> Result<(Value, 
 }
 
 /// Puts a member into the object. The value of an earlier one of the name goes.
-fn put(fields: &mut Fields, name: Text, value: Value) -> Result<(), AllocError>
+fn put(fields: &mut FieldsBuilder, name: Text, value: Value) -> Result<(), AllocError>
     ensures { OnOk result (fields.new.entries ≡ insert_entry (slice_cmp nat_cmp) fields.old.entries name value) }
 {
-    fields.insert(name, value)?;
-    Ok(())
+    fields.insert(name, value)
 }
 
 /// The name of a member with its colon, and the place behind them.

@@ -5,8 +5,7 @@ use Rattle.std.proofs.lemmas.List.{append-nil}
 use Rattle.entry_model.specs.LogRecord.{LogRecord}
 use Rattle.op_kinds.specs.Inner.Applied.{Effect, Puts, IsApplied, effect}
 use Rattle.op_kinds.specs.Kept.{Kept, open_groups, keeps_groups, fresh_kept}
-use Rattle.op_kinds.specs.Operator.{Act, Operator, conditional, router, Made, row, holds_groups, joined, with_groups, sending, done, guarded, holds, or_unchanged, on_one_port, has_groups, after}
-use Rattle.op_kinds.specs.declared.action.Applied.{Applied}
+use Rattle.op_kinds.specs.Operator.{Operator, conditional, router, Made, row, holds_groups, joined, with_groups, sending, done, guarded, holds, or_unchanged, has_groups, after}
 use Rattle.op_kinds.specs.declared.action.Applied.TheVariants.{Done, Faulty}
 use Rattle.recombine.specs.Recombined as join
 
@@ -31,21 +30,6 @@ was_sent_on false None entry back e out is grown gives = record {
 }
 
 -- ---- what an act did
-
-pub row_done : (asked : Option (List LogRecord)) (entry : LogRecord) (kept : Kept) (out out_then : List (ℕ × LogRecord)) (sent : List LogRecord) → Some sent ≡ asked → out_then ≡ out ++ on_one_port sent
-    → IsApplied (option_map (sending kept) asked) entry (effect kept kept out out_then) Done
-row_done asked entry kept out out_then sent is grown = rw (← is) (record { kept = refl; out = grown })
-
-pub row_refused : (asked : Option (List LogRecord)) (entry back : LogRecord) (kept : Kept) (out out_then : List (ℕ × LogRecord)) → None ≡ asked → back ≡ entry → out_then ≡ out
-    → IsApplied (option_map (sending kept) asked) entry (effect kept kept out out_then) (Faulty back)
-row_refused asked entry back kept out out_then is same out_is = rw (← is) (record { same = same; kept = refl; out = out_is })
-
--- an act that holds groups, and another
-pub by_groups : (act : Act) (kept : Kept) (entry : LogRecord) (e : Effect) (applied : Applied) → holds_groups act ≡ true → IsApplied (option_map with_groups (joined act (open_groups kept) entry)) entry e applied → IsApplied (done act kept entry) entry e applied
-by_groups act kept entry e applied is did = rw is did
-
-pub by_row : (act : Act) (kept : Kept) (entry : LogRecord) (e : Effect) (applied : Applied) → holds_groups act ≡ false → IsApplied (option_map (sending kept) (row act entry)) entry e applied → IsApplied (done act kept entry) entry e applied
-by_row act kept entry e applied is did = rw is did
 
 -- ---- kinds
 

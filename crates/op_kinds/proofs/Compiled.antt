@@ -13,13 +13,13 @@ use Rattle.field_paths.proofs.Faults.{one_path}
 use Rattle.field_paths.specs.PathText.{IsPathText}
 use Rattle.field_paths.specs.Place.{Place}
 use Rattle.op_kinds.specs.AnyOpView.{act_of}
-use Rattle.op_kinds.specs.Compiled.{joining_of, IsPathIfAny, ArePathTexts, AreExpressions, Does, Routes, IsCondition, IsCompiledTo, drops_faulty}
+use Rattle.op_kinds.specs.Compiled.{joining_of, IsPathIfAny, ArePathTexts, AreExpressions, Does, Routes, IsCondition, IsCompiledTo}
 use Rattle.op_kinds.specs.Operator as operator
 use Rattle.op_kinds.specs.Operator.{Act, Operator, conditional, router}
 use Rattle.op_kinds.specs.Parsers.{columns_of, delimiters_of, protocol_of}
 use Rattle.op_kinds.specs.Said.{by_pattern, as_json, as_record, as_pairs}
 use Rattle.op_kinds.specs.Readings.{Reading, path, member, expression, pattern, names, IsFaulty, own_readings, parser_readings, paths_if_any, condition_readings, readings, route_reading, IsLeastCause, AreRead}
-use Rattle.op_kinds.specs.Inner.WorkView.{IsWorkOf, operator_of}
+use Rattle.op_kinds.specs.Inner.WorkView.{IsWorkOf}
 use Rattle.op_kinds.specs.declared.cause.OpCause.{OpCause}
 use Rattle.op_kinds.specs.declared.compiling.Work.{Work}
 use Rattle.op_kinds.specs.declared.compiling.Work.TheVariants.{Act as ActWork, Route}
@@ -288,8 +288,3 @@ one_operator spec (router trees has) (router others also_has) is also =
     ap (λ t. router t has) same.0 ∙ ap (router others) same.1
 
 -- ---- an operator with its condition
-
-pub work_with_condition : (spec : OpSpec) (work : Work) (condition : Option Tree) → IsWorkOf spec.kind work → IsCondition spec.condition condition
-    → IsCompiledTo spec (operator_of condition (drops_faulty spec.kind spec.on_error) work)
-work_with_condition spec (ActWork action) condition is read = (read, is, refl)
-work_with_condition spec (Route made) condition is read = (condition, read, is)

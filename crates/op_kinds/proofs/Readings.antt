@@ -31,15 +31,6 @@ use Rattle.time_layout.specs.declared.fault.LayoutFault.TheVariants as layout_fa
 
 -- ---- members of lists
 
-pub has-front : {X : Type 0} (xs ys : List X) (x : X) → Has xs x → Has (xs ++ ys) x
-has-front [] ys x has = absurd has
-has-front (y ∷ xs) ys x (inl is) = inl is
-has-front (y ∷ xs) ys x (inr has) = inr (has-front xs ys x has)
-
-pub has-back : {X : Type 0} (xs ys : List X) (x : X) → Has ys x → Has (xs ++ ys) x
-has-back [] ys x has = has
-has-back (y ∷ xs) ys x has = inr (has-back xs ys x has)
-
 pub has-either : {X : Type 0} (xs ys : List X) (x : X) → Has (xs ++ ys) x → Has xs x ⊎ Has ys x
 has-either [] ys x has = inr has
 has-either (y ∷ xs) ys x (inl is) = inl (inl is)
@@ -49,11 +40,6 @@ pub has-map : {X Y : Type 0} (f : X → Y) (xs : List X) (y : Y) → Has (map f 
 has-map f [] y has = absurd has
 has-map f (x ∷ xs) y (inl is) = (x, is, inl refl)
 has-map f (x ∷ xs) y (inr has) = let found = has-map f xs y has in (found.0, found.1, inr found.2)
-
-pub has-at : {X Y : Type 0} (f : X → Y) (xs : List X) (index : ℕ) (x : X) → index < length xs → slice_index_or xs index x ≡ x → Has (map f xs) (f x)
-has-at f [] index x within at = absurd (omega (arith, within))
-has-at f (y ∷ xs) zero x within at = inl (ap f (sym at))
-has-at f (y ∷ xs) (suc index) x within at = inr (has-at f xs index x (omega (arith, within)) at)
 
 -- ---- causes
 
@@ -106,9 +92,6 @@ some_rank (names text) = omega arith
 some_rank (layout text) = omega arith
 some_rank (go_layout text) = omega arith
 some_rank (count text) = omega arith
-
-not_memory : (reading : Reading) (at : ℕ) → cause_at reading at ≢ cause.Memory
-not_memory reading at is = omega (arith, rank_is reading at, some_rank reading, ap number is)
 
 ordered : (n m : ℕ) → (n ≤ m) ⊎ (m < n)
 ordered zero m = inl (omega arith)

@@ -105,10 +105,6 @@ state_stands kinds text is =
     let both = and_parts (are_of_kinds kinds (states_in kinds text)) (bytes_eq (state_text (states_in kinds text)) text) is in
     record { are = test_kinds kinds (states_in kinds text) both.0; same = (bytes_eq-Decides (state_text (states_in kinds text)) text).0 both.1 }
 
-pub spelled_is_state : (kinds : List Bool) (text : List ℕ) (states : List Kept) → IsBytes text → SpellOf kinds text states → is_state_text kinds text ≡ true
-spelled_is_state kinds text states fits spell =
-    subst (λ (t : List ℕ). is_state_text kinds t ≡ true) (spelled_text kinds text states fits spell) (text_is_state kinds states spell.kinds)
-
 -- a text of bytes that stands for states spells them
 told_spells : (kinds : List Bool) (text : List ℕ) (states : List Kept) → IsBytes text → Are kinds states → states_in kinds text ≡ states → state_text states ≡ text → SpellOf kinds text states
 unfolding state_text

@@ -134,10 +134,6 @@ spelled_is_read kinds bytes states spell =
     ap (all_at kinds) (spell.spelled ∙ sym (append-nil (states_spelling states)))
     ∙ ap (λ (r : Reading (List Kept)). r >>= λ x. ended x.0 x.1) (states_again kinds states [] spell.kinds spell.lawful)
 
-pub one_spelled : (kinds : List Bool) (bytes : List ℕ) (states others : List Kept) → SpellOf kinds bytes states → SpellOf kinds bytes others → states ≡ others
-one_spelled kinds bytes states others one other =
-    ap (λ (x : List Kept × List ℕ). x.0) (ok_is (states, []) (others, []) (sym (spelled_is_read kinds bytes states one) ∙ spelled_is_read kinds bytes others other))
-
 -- ---- bytes that spell none
 
 -- what reading tells where it can't go on

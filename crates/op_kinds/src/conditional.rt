@@ -35,6 +35,11 @@ impl Conditional {
         ensures emits { OnOk result (out.new.items ≡ out.old.items ++ on_one_port (or_unchanged self.now.drops_faulty state.old item
             (operator.made (option_map tree_of self.now.condition) (act_of self.now.action) state.old item)).sent) }
     {
+        // Nothing is asked and nothing done.
+        if let (None, Action::Noop) = (&self.condition, &self.action) {
+            out.push((0, item))?;
+            return Ok(());
+        }
         match self.apply(alloc, state, item, out)? {
             Applied::Done => Ok(()),
             Applied::Faulty(item) => {

@@ -1,6 +1,6 @@
 -- The members of a record that are there only where it has something to say.
 use Rattle.std.proofs.Common.{◌≡◌, ℕ, List, [], ◌∷◌, ◌++◌, ◌∙◌, sym, refl, codes}
-use Rattle.std.specs.BTreeMap.{BTreeMap}
+use Rattle.entry_model.specs.ByName.{ByName}
 use Rattle.entry_model.specs.declared.value.Value.{Value, roll-Value, out-Value, roll-out-Value, map-Value}
 use Rattle.entry_model.specs.declared.value.Value.TheOpen.{Value-F}
 use Rattle.entry_model.specs.declared.value.Value.TheVariants as value
@@ -19,7 +19,7 @@ named (x ∷ xs) some = refl
 abbrev layer_datum : Value-F Value → Datum
 layer_datum layer = datum_step (map-Value Value Datum datum layer)
 
-layer_without : (layer : Value-F Value) → ((members : BTreeMap (List ℕ) Value) → roll-Value layer ≡ value.Map members → ⊥) → members_in (layer_datum layer) ≡ no_members
+layer_without : (layer : Value-F Value) → ((members : ByName Value) → roll-Value layer ≡ value.Map members → ⊥) → members_in (layer_datum layer) ≡ no_members
 layer_without Value-F.Null other = refl
 layer_without (Value-F.Bool b) other = refl
 layer_without (Value-F.Int z) other = refl
@@ -28,7 +28,7 @@ layer_without (Value-F.List values) other = refl
 layer_without (Value-F.Map members) other = absurd (other members (value.rolls-Map members))
 
 -- a value that is no map has no members
-pub no_members_in : (attributes : Value) → ((members : BTreeMap (List ℕ) Value) → attributes ≡ value.Map members → ⊥) → members_in (datum attributes) ≡ no_members
+pub no_members_in : (attributes : Value) → ((members : ByName Value) → attributes ≡ value.Map members → ⊥) → members_in (datum attributes) ≡ no_members
 no_members_in attributes other = rw (fold_out-Value Datum datum_step attributes) (layer_without (out-Value attributes) (λ members e. other members (sym (roll-out-Value attributes) ∙ e)))
 
 layer_body : (layer : Value-F Value) → (roll-Value layer ≡ value.Null → ⊥) → body_text (layer_datum layer) ≡ codes ",\"body\":" ++ value_text (layer_datum layer)

@@ -1,19 +1,9 @@
 -- Lines whose attributes split at the record's number.
-use Rattle.std.proofs.Common.{◌≡◌, ℕ, pos, Bool, true, false, List, [], ◌∷◌, ◌++◌, ◌∙◌, Option, refl, sym, ap, cond, codes, decimal, All}
-use Rattle.std.proofs.lemmas.Bool.{false≢true}
+use Rattle.std.proofs.Common.{◌≡◌, ℕ, zero, suc, pos, List, [], ◌∷◌, ◌++◌, ◌∙◌, Option, Result, Ok, Err, IfOk, IfErr, refl, sym, ap, codes, decimal, take, drop}
 use Rattle.std.proofs.lemmas.List.{append_assoc}
-use Rattle.std.proofs.lemmas.List.Elements.{All-head, All-tail}
-use Rattle.std.proofs.lemmas.Map.{NonePasses}
-use Rattle.std.proofs.lemmas.Map.Entries.{none_below_head}
 use Rattle.std.proofs.lemmas.Map.Lookups.{exact_bytes}
-use Rattle.std.specs.BTreeMap.{is_at}
-use Rattle.std.specs.Cmp.Lexicographic.{slice_cmp, nat_list_cmp_total}
-use Rattle.std.specs.List.Sorted.{IsStrictlySortedBy}
-use Rattle.std.specs.Map.{keys_of, remove_entry}
-use Rattle.std.specs.Ordering.{match_ordering, is_eq, is_gt, nat_cmp}
-use Rattle.std.specs.declared.cmp.Ordering.{Ordering}
-use Rattle.std.specs.declared.cmp.Ordering.TheVariants.{Less, Equal, Greater}
 use Rattle.entry_model.specs.declared.value.Value.{Value}
+use Rattle.entry_model.specs.Places.{StandsAt, FitsAt}
 use Rattle.entry_model.specs.Datum.{Datum, int, datum, Members, member}
 use Rattle.field_paths.specs.Members.{with_member}
 use Rattle.field_paths.specs.MapOf.{members_seen}
@@ -40,63 +30,64 @@ follow_none : (es : List (List ℕ × Value)) → follow [] es ≡ comma_behind 
 follow_none [] = refl
 follow_none (e ∷ es) = refl
 
-with_ahead : (name : List ℕ) (value : Datum) (below rest : List (List ℕ × Value)) (before : List ℕ) → All (λ k. is_gt (slice_cmp nat_cmp name k) ≡ true) (keys_of below)
-    → members_text before (with_member name value (members_seen (below ++ rest))) ≡ members_text before (members_seen below) ++ members_text (follow before below) (with_member name value (members_seen rest))
-with_ahead name value [] rest before all = refl
-with_ahead name value (e ∷ es) rest before all =
-    by (slice_cmp nat_cmp name e.0) (All-head (λ k. is_gt (slice_cmp nat_cmp name k) ≡ true) e.0 (keys_of es) all)
-    (with_ahead name value es rest (codes ",") (All-tail (λ k. is_gt (slice_cmp nat_cmp name k) ≡ true) e.0 (keys_of es) all) ∙ ap (λ s. members_text (codes ",") (members_seen es) ++ members_text s (with_member name value (members_seen rest))) (follow_comma es))
-  where
-    by : (r : Ordering) → is_gt r ≡ true
-        → members_text (codes ",") (with_member name value (members_seen (es ++ rest))) ≡ members_text (codes ",") (members_seen es) ++ members_text (codes ",") (with_member name value (members_seen rest))
-        → members_text before (match_ordering r (member name value (member e.0 (datum e.1) (members_seen (es ++ rest)))) (member e.0 value (members_seen (es ++ rest))) (member e.0 (datum e.1) (with_member name value (members_seen (es ++ rest)))))
-        ≡ before ++ key_value_text e.0 (value_text (datum e.1)) ++ members_text (codes ",") (members_seen es) ++ members_text (codes ",") (with_member name value (members_seen rest))
-    by Less p later = absurd (false≢true p)
-    by Equal p later = absurd (false≢true p)
-    by Greater p later =
-        ap (λ t. before ++ key_value_text e.0 (value_text (datum e.1)) ++ t) later
-        ∙ sym (append_assoc (before ++ key_value_text e.0 (value_text (datum e.1))) (members_text (codes ",") (members_seen es)) (members_text (codes ",") (with_member name value (members_seen rest))))
+one_more : (front ms comma own more : List ℕ) → front ++ (ms ++ comma ++ own ++ more) ≡ front ++ ms ++ comma ++ own ++ more
+one_more front ms comma own more = simp append_assoc
 
-none_removed : (test : List ℕ → Bool) (es : List (List ℕ × Value)) → NonePasses test es → remove_entry test es ≡ es
-none_removed test [] h = refl
-none_removed test (e ∷ es) h = rw (h.0, none_removed test es h.1) refl
+one_ahead : (before : List ℕ) (e : List ℕ × Value) (with : Members) (below : List (List ℕ × Value)) (own more : List ℕ)
+    → members_text (codes ",") with ≡ members_text (codes ",") (members_seen below) ++ follow (codes ",") below ++ own ++ more
+    → members_text before (member e.0 (datum e.1) with) ≡ members_text before (members_seen (e ∷ below)) ++ follow before (e ∷ below) ++ own ++ more
+one_ahead before e with below own more later =
+    let front = before ++ key_value_text e.0 (value_text (datum e.1)) in
+    ap (λ t. front ++ t) (later ∙ ap (λ s. members_text (codes ",") (members_seen below) ++ s ++ own ++ more) (follow_comma below))
+    ∙ one_more front (members_text (codes ",") (members_seen below)) (codes ",") own more
 
-with_behind : (name : List ℕ) (value : Datum) (rest : List (List ℕ × Value)) (before : List ℕ) → IsStrictlySortedBy (slice_cmp nat_cmp) (keys_of rest) → All (λ k. is_gt (slice_cmp nat_cmp name k) ≡ false) (keys_of rest)
-    → members_text before (with_member name value (members_seen rest)) ≡ before ++ key_value_text name (value_text value) ++ members_text (codes ",") (members_seen (remove_entry (is_at (slice_cmp nat_cmp name)) rest))
-with_behind name value [] before sorted all = refl
-with_behind name value (e ∷ es) before sorted all = by (slice_cmp nat_cmp name e.0) refl (All-head (λ k. is_gt (slice_cmp nat_cmp name k) ≡ false) e.0 (keys_of es) all)
-  where
-    by : (r : Ordering) → slice_cmp nat_cmp name e.0 ≡ r → is_gt r ≡ false
-        → members_text before (match_ordering r (member name value (member e.0 (datum e.1) (members_seen es))) (member e.0 value (members_seen es)) (member e.0 (datum e.1) (with_member name value (members_seen es))))
-        ≡ before ++ key_value_text name (value_text value) ++ members_text (codes ",") (members_seen (cond (is_eq r) es (e ∷ remove_entry (is_at (slice_cmp nat_cmp name)) es)))
-    by Less p n = ap (λ (l : List (List ℕ × Value)). before ++ key_value_text name (value_text value) ++ members_text (codes ",") (members_seen (e ∷ l))) (sym (none_removed (is_at (slice_cmp nat_cmp name)) es (none_below_head nat_list_cmp_total name e es sorted p).1))
-    by Equal p n = ap (λ k. before ++ key_value_text k (value_text value) ++ members_text (codes ",") (members_seen es)) (sym (exact_bytes name e.0 p))
-    by Greater p n = absurd (false≢true (sym n))
+-- the name stands at this place
+pub with_standing : (name : List ℕ) (value : Datum) (es : List (List ℕ × Value)) (at : ℕ) (before : List ℕ) → StandsAt name es at
+    → members_text before (with_member name value (members_seen es))
+    ≡ members_text before (members_seen (take at es)) ++ follow before (take at es) ++ key_value_text name (value_text value) ++ members_text (codes ",") (members_seen (drop (suc at) es))
+with_standing name value [] at before h = absurd h
+with_standing name value (e ∷ es) zero before h = rw h (ap (λ k. before ++ key_value_text k (value_text value) ++ members_text (codes ",") (members_seen es)) (sym (exact_bytes name e.0 h)))
+with_standing name value (e ∷ es) (suc at) before h =
+    rw h.0 (one_ahead before e (with_member name value (members_seen es)) (take at es) (key_value_text name (value_text value)) (members_text (codes ",") (members_seen (drop (suc at) es))) (with_standing name value es at (codes ",") h.1))
+
+-- the name would stand there
+pub with_fitting : (name : List ℕ) (value : Datum) (es : List (List ℕ × Value)) (at : ℕ) (before : List ℕ) → FitsAt name es at
+    → members_text before (with_member name value (members_seen es))
+    ≡ members_text before (members_seen (take at es)) ++ follow before (take at es) ++ key_value_text name (value_text value) ++ members_text (codes ",") (members_seen (drop at es))
+with_fitting name value [] zero before h = refl
+with_fitting name value [] (suc at) before h = absurd h
+with_fitting name value (e ∷ es) zero before h = rw h refl
+with_fitting name value (e ∷ es) (suc at) before h =
+    rw h.0 (one_ahead before e (with_member name value (members_seen es)) (take at es) (key_value_text name (value_text value)) (members_text (codes ",") (members_seen (drop at es))) (with_fitting name value es at (codes ",") h.1))
+
+-- what stands around the name's place
+pub with_place : (name : List ℕ) (value : Datum) (place : Result ℕ ℕ) (es ms ahead rest : List (List ℕ × Value)) → ms ≡ es
+    → IfOk place (StandsAt name es) → IfErr place (FitsAt name es)
+    → IfOk place (λ at. (ahead ≡ take at ms) × (rest ≡ drop (suc at) ms)) → IfErr place (λ at. (ahead ≡ take at ms) × (rest ≡ drop at ms))
+    → members_text [] (with_member name value (members_seen es))
+    ≡ members_text [] (members_seen ahead) ++ comma_behind ahead ++ key_value_text name (value_text value) ++ members_text (codes ",") (members_seen rest)
+with_place name value (Ok at) es ms ahead rest same stands fits found missing =
+    rw (found.0, found.1, same, sym (follow_none (take at es))) (with_standing name value es at [] stands)
+with_place name value (Err at) es ms ahead rest same stands fits found missing =
+    rw (missing.0, missing.1, same, sym (follow_none (take at es))) (with_fitting name value es at [] fits)
 
 number_between : (old ms comma key name value begin n end close more text : List ℕ)
-    → old ++ ms ++ comma ++ key ++ name ++ (value ++ begin) ++ n ++ ((end ++ close) ++ more ++ text) ≡ old ++ (ms ++ (comma ++ (key ++ name ++ value ++ (begin ++ n ++ end) ++ close) ++ more)) ++ text
+    → old ++ ms ++ comma ++ key ++ name ++ (value ++ begin) ++ n ++ ((end ++ close) ++ more ++ text) ≡ old ++ (ms ++ comma ++ (key ++ name ++ value ++ (begin ++ n ++ end) ++ close) ++ more) ++ text
 number_between old ms comma key name value begin n end close more text = simp append_assoc
 
 -- what is written ahead of the number, the number, and what is written behind it
-pub split_at_number : (name : List ℕ) (n : ℕ) (es below rest : List (List ℕ × Value)) (old ahead named behind : List ℕ)
-    → es ≡ below ++ rest → All (λ k. is_gt (slice_cmp nat_cmp name k) ≡ true) (keys_of below) → All (λ k. is_gt (slice_cmp nat_cmp name k) ≡ false) (keys_of rest) → IsStrictlySortedBy (slice_cmp nat_cmp) (keys_of rest)
+pub around_number : (name : List ℕ) (n : ℕ) (below rest : List (List ℕ × Value)) (old ahead named behind : List ℕ)
     → ahead ≡ old ++ members_text [] (members_seen below) ++ comma_behind below
     → named ≡ ahead ++ codes "{\"key\":\"" ++ escaped name ++ codes "\",\"value\":{\"intValue\":\""
-    → behind ≡ codes "\"}}" ++ members_text (codes ",") (members_seen (remove_entry (is_at (slice_cmp nat_cmp name)) rest)) ++ codes "],\"body\":{\"stringValue\":\""
-    → named ++ decimal n ++ behind ≡ old ++ members_text [] (with_member name (int (pos n)) (members_seen es)) ++ codes "],\"body\":{\"stringValue\":\""
-split_at_number name n es below rest old ahead named behind parts above from sorted ahead_is named_is behind_is =
-    let own = key_value_text name (value_text (int (pos n))) in
-    let more = members_text (codes ",") (members_seen (remove_entry (is_at (slice_cmp nat_cmp name)) rest)) in
-    let text : members_text [] (with_member name (int (pos n)) (members_seen es)) ≡ members_text [] (members_seen below) ++ (comma_behind below ++ own ++ more) =
-    ap (λ (l : List (List ℕ × Value)). members_text [] (with_member name (int (pos n)) (members_seen l))) parts
-    ∙ with_ahead name (int (pos n)) below rest [] above
-    ∙ ap (λ t. members_text [] (members_seen below) ++ t) (with_behind name (int (pos n)) rest (follow [] below) sorted from ∙ ap (λ s. s ++ own ++ more) (follow_none below)) in
+    → behind ≡ codes "\"}}" ++ members_text (codes ",") (members_seen rest) ++ codes "],\"body\":{\"stringValue\":\""
+    → named ++ decimal n ++ behind ≡ old ++ (members_text [] (members_seen below) ++ comma_behind below ++ key_value_text name (value_text (int (pos n))) ++ members_text (codes ",") (members_seen rest)) ++ codes "],\"body\":{\"stringValue\":\""
+around_number name n below rest old ahead named behind ahead_is named_is behind_is =
+    let more = members_text (codes ",") (members_seen rest) in
     let left : named ≡ old ++ members_text [] (members_seen below) ++ comma_behind below ++ codes "{\"key\":\"" ++ escaped name ++ codes "\",\"value\":{\"intValue\":\"" =
     named_is ∙ ap (λ t. t ++ codes "{\"key\":\"" ++ escaped name ++ codes "\",\"value\":{\"intValue\":\"") ahead_is in
     ap (λ t. t ++ decimal n ++ behind) left
     ∙ ap (λ t. old ++ members_text [] (members_seen below) ++ comma_behind below ++ codes "{\"key\":\"" ++ escaped name ++ codes "\",\"value\":{\"intValue\":\"" ++ decimal n ++ t) behind_is
     ∙ number_between old (members_text [] (members_seen below)) (comma_behind below) (codes "{\"key\":\"") (escaped name) (codes "\",\"value\":") (codes "{\"intValue\":\"") (decimal n) (codes "\"}") (codes "}") more (codes "],\"body\":{\"stringValue\":\"")
-    ∙ ap (λ t. old ++ t ++ codes "],\"body\":{\"stringValue\":\"") (sym text)
 
 -- ---- a line, of what it is filled in
 

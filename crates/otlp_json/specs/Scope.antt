@@ -1,5 +1,6 @@
 -- A line in three parts: what it tells of its entry, what the lines of a file share, and what follows from its number on.
 use Rattle.std.specs.Prelude.{ℕ, List, ◌++◌, Option, codes, decimal}
+use Rattle.entry_model.specs.Datum.{Members}
 use Rattle.entry_model.specs.LogRecord.{LogRecord}
 use Rattle.otlp_json.specs.RecordText.{attributes_text, body_text, severity_number_text, severity_name_text, observed_text, time_text}
 
@@ -19,7 +20,13 @@ entry_text observed entry =
     codes "{\"resourceLogs\":[{\"resource\":{\"attributes\":" ++ attributes_text entry.resource
     ++ codes "},\"scopeLogs\":[{\"logRecords\":[{\"attributes\":" ++ record_members observed entry
 
--- from there up to the line's number
+-- up to the value of the record's first member, for the members of the resource
+unfoldable pub resource_text : Members → List ℕ
+resource_text resource =
+    codes "{\"resourceLogs\":[{\"resource\":{\"attributes\":" ++ attributes_text resource
+    ++ codes "},\"scopeLogs\":[{\"logRecords\":[{\"attributes\":"
+
+-- from the record's closing brace up to the line's number
 unfoldable pub scope_text : ℕ → List ℕ
 scope_text id =
     codes "}],\"scope\":{\"attributes\":[{\"key\":\"agent.file\",\"value\":{\"intValue\":\"" ++ decimal id

@@ -112,7 +112,7 @@ fn put_escape(byte: u8, block: &mut [u8], made: usize) -> usize
 }
 
 #[inline(always)]
-fn put(bytes: &[u8], block: &mut [u8], made: usize) -> usize
+pub fn put(bytes: &[u8], block: &mut [u8], made: usize) -> usize
     requires { made + length bytes.now ≤ length block.old }
     ensures bytes { take result block.new ≡ take made block.old ++ bytes.now }
     ensures made { result ≡ made + length bytes.now }

@@ -61,7 +61,7 @@ fn members_have_integers(fields: &Fields)
     ensures { MembersHaveIntegers
         (members_of (map (λ field. (field.0, datum field.1)) fields.now.entries)) }
 {
-    for (_key, value) in fields {
+    for (_key, value) in fields.members() {
         value_has_integers(value);
     }
 }

@@ -8,10 +8,11 @@
 #![tactic(auto)]
 
 ghost use Rattle.std.specs.Prelude.{◌≡◌, ◌++◌, OnOk, OnErr};
-ghost use Rattle.entry_model.specs.LogRecord.{log_record};
+ghost use Rattle.entry_model.specs.Datum.{datum};
+ghost use Rattle.entry_model.specs.LogRecord.{log_record, members_in};
 ghost use Rattle.otlp_json.specs.HasFront.{HasFront};
 ghost use Rattle.otlp_json.specs.OutputLine.{output_line};
-ghost use Rattle.otlp_json.specs.Scope.{entry_text, scope_text, end_text};
+ghost use Rattle.otlp_json.specs.Scope.{entry_text, resource_text, scope_text, end_text};
 
 mod block;
 mod escape;
@@ -22,9 +23,10 @@ mod record;
 mod scope;
 mod string;
 mod template;
+mod text_member;
 mod value;
 
-use entry_model::Entry;
+use entry_model::{Entry, Value};
 pub use scope::Scope;
 use std::alloc::{AllocError, Global};
 pub use template::Template;
@@ -78,10 +80,24 @@ pub(crate) fn append_entry(
     ensures ok { OnOk result (out.new.items ≡ out.old.items ++ entry_text observed (log_record entry.now)) }
     ensures front { HasFront out.old.items out.new.items }
 {
-    out.extend_from_slice(b"{\"resourceLogs\":[{\"resource\":{\"attributes\":")?;
-    record::append_attributes(&entry.resource, out)?;
-    out.extend_from_slice(b"},\"scopeLogs\":[{\"logRecords\":[{\"attributes\":")?;
+    append_resource(&entry.resource, out)?;
     record::append_record_members(observed, entry, out)
+}
+
+// Up to the value of the record's first member.
+fn append_resource(resource: &Value, out: &mut Vec<u8>) -> Result<(), AllocError>
+    ensures ok { OnOk result (out.new.items ≡ out.old.items ++ resource_text (members_in (datum resource.now))) }
+    ensures front { HasFront out.old.items out.new.items }
+{
+    // Most resources have no members: all of it is one piece then.
+    if record::has_none(resource) {
+        return out.extend_from_slice(
+            b"{\"resourceLogs\":[{\"resource\":{\"attributes\":[]},\"scopeLogs\":[{\"logRecords\":[{\"attributes\":",
+        );
+    }
+    out.extend_from_slice(b"{\"resourceLogs\":[{\"resource\":{\"attributes\":")?;
+    record::append_attributes(resource, out)?;
+    out.extend_from_slice(b"},\"scopeLogs\":[{\"logRecords\":[{\"attributes\":")
 }
 
 // From the record's closing brace up to the line's number.

@@ -1,15 +1,14 @@
 // A LogRecord, and the attributes of a record or a resource.
-ghost use Rattle.std.specs.Prelude.{◌≡◌, ◌++◌, OnOk};
-ghost use Rattle.entry_model.specs.Datum.{datum};
+ghost use Rattle.std.specs.Prelude.{◌≡◌, ◌++◌, IsTrue, OnOk};
+ghost use Rattle.entry_model.specs.Datum.{datum, no_members};
 ghost use Rattle.entry_model.specs.LogRecord.{log_record, members_in};
-ghost use Rattle.field_paths.specs.MapOf.{members_seen};
 ghost use Rattle.otlp_json.specs.HasFront.{HasFront};
 ghost use Rattle.otlp_json.specs.RecordText.{attributes_text, body_text, severity_number_text, severity_name_text, nanoseconds_text};
 ghost use Rattle.otlp_json.specs.Scope.{record_members};
 
 use crate::string::{append_decimal, append_escaped};
-use crate::value::{append_opened_members, append_value};
-use entry_model::{Entry, Fields, Value};
+use crate::value::{append_fields, append_value};
+use entry_model::{Entry, Value};
 use std::alloc::AllocError;
 
 /// From the first member's value on, without the closing brace.
@@ -40,16 +39,15 @@ pub fn append_attributes(attributes: &Value, out: &mut Vec<u8>) -> Result<(), Al
     append_fields(fields, out)
 }
 
-pub fn append_fields(fields: &Fields, out: &mut Vec<u8>) -> Result<(), AllocError>
-    ensures ok { OnOk result (out.new.items
-        ≡ out.old.items ++ attributes_text (members_seen fields.now.entries)) }
-    ensures front { HasFront out.old.items out.new.items }
+/// Whether it is a map without members.
+#[inline(always)]
+pub fn has_none(attributes: &Value) -> bool
+    ensures { IsTrue result → members_in (datum attributes.now) ≡ no_members }
 {
-    if fields.is_empty() {
-        return out.extend_from_slice(b"[]");
+    match attributes {
+        Value::Map(fields) => fields.is_empty(),
+        _ => false,
     }
-    append_opened_members(b"[{\"key\":\"", fields, out)?;
-    out.extend_from_slice(b"]")
 }
 
 fn append_body(body: &Value, out: &mut Vec<u8>) -> Result<(), AllocError>

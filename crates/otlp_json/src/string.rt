@@ -92,8 +92,8 @@ fn append_escape(byte: u8, out: &mut Vec<u8>) -> Result<(), AllocError>
     }
 }
 
-// Appending nothing costs as much as appending a byte.
-fn append_run(run: &[u8], out: &mut Vec<u8>) -> Result<(), AllocError>
+/// Appending nothing costs as much as appending a byte.
+pub fn append_run(run: &[u8], out: &mut Vec<u8>) -> Result<(), AllocError>
     ensures ok { OnOk result (out.new.items ≡ out.old.items ++ run.now) }
     ensures front { HasFront out.old.items out.new.items }
 {

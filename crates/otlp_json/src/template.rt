@@ -1,5 +1,5 @@
 // Lines that share all but a text and numbers.
-ghost use Rattle.std.specs.Prelude.{◌≡◌, ◌++◌, ℕ, List, [], Option, is_some, pos, codes, decimal, IfOk, OnOk, OnErr};
+ghost use Rattle.std.specs.Prelude.{◌≡◌, ◌<◌, ◌≤◌, ◌++◌, ℕ, suc, List, [], Option, is_some, pos, codes, decimal, drop, length, take, IfErr, IfOk, OnOk, OnErr};
 ghost use Rattle.entry_model.specs.Datum.{int, Members};
 ghost use Rattle.field_paths.specs.MapOf.{members_seen};
 ghost use Rattle.field_paths.specs.Members.{with_member};
@@ -7,13 +7,13 @@ ghost use Rattle.otlp_json.specs.Escaped.{escaped};
 ghost use Rattle.otlp_json.specs.HasFront.{HasFront};
 ghost use Rattle.otlp_json.specs.OutputLine.{output_line};
 ghost use Rattle.otlp_json.specs.Template.{IsTemplate, numbered, text_record, number_text, comma_behind, filled};
-ghost use Rattle.otlp_json.specs.ValueText.{members_text};
+ghost use Rattle.otlp_json.specs.ValueText.{members_text, key_value_text, value_text};
 
-use crate::record::{append_fields, append_nanoseconds};
+use crate::record::append_nanoseconds;
 use crate::string::{append_decimal, append_escaped};
-use crate::value::{append_members, append_opened_members};
+use crate::value::{append_fields, append_opened_members};
 use crate::{append_end, append_scope};
-use entry_model::{Fields, Text};
+use entry_model::{Fields, Text, Value};
 use std::alloc::{AllocError, Global};
 
 /// What the lines of texts share that are of one file and have the same observed time, resource and attributes, but for
@@ -126,40 +126,72 @@ fn append_attributes(
 {
     match number {
         None => {
-            append_members(&attributes, front)?;
+            append_opened_members(b"{\"key\":\"", attributes.members(), front)?;
             front.extend_from_slice(b"],\"body\":{\"stringValue\":\"")?;
             Ok(Vec::new(alloc))
         }
-        Some(name) => append_numbered(alloc, attributes, &name, front),
+        Some(name) => append_numbered(alloc, &attributes, &name, front),
     }
 }
 
 // The same for records with a number.
 fn append_numbered(
     alloc: Global,
-    mut attributes: Fields,
+    attributes: &Fields,
     name: &Text,
     front: &mut Vec<u8>,
 ) -> Result<Vec<u8>, AllocError>
     ensures { IfOk result (λ behind. (n : ℕ)
         → front.new.items ++ decimal n ++ behind.items
-        ≡ front.old.items ++ members_text [] (with_member name.now (int (pos n)) (members_seen attributes.entries)) ++ codes "],\"body\":{\"stringValue\":\"") }
+        ≡ front.old.items ++ members_text [] (with_member name.now (int (pos n)) (members_seen attributes.now.entries)) ++ codes "],\"body\":{\"stringValue\":\"") }
 {
-    let mut rest = attributes.split_off(name)?;
-    rest.remove(name);
-    append_ahead(&attributes, front)?;
+    let (ahead, rest) = around(attributes.members(), attributes.place(name));
+    append_around(alloc, ahead, name, rest, front)
+}
+
+// The members ahead of a name's place, and those behind it.
+fn around(
+    members: &[(Text, Value)],
+    place: Result<usize, usize>,
+) -> (&[(Text, Value)], &[(Text, Value)])
+    requires found { IfOk place (λ at. at < length members.now) }
+    requires missing { IfErr place (λ at. at ≤ length members.now) }
+    ensures found { IfOk place (λ at. (result.0.now ≡ take at members.now) × (result.1.now ≡ drop (suc at) members.now)) }
+    ensures missing { IfErr place (λ at. (result.0.now ≡ take at members.now) × (result.1.now ≡ drop at members.now)) }
+{
+    match place {
+        Ok(at) => (&members[..at], &members[at + 1..]),
+        Err(at) => (&members[..at], &members[at..]),
+    }
+}
+
+// `ahead` stands ahead of the number's member, and `rest` behind it.
+fn append_around(
+    alloc: Global,
+    ahead: &[(Text, Value)],
+    name: &Text,
+    rest: &[(Text, Value)],
+    front: &mut Vec<u8>,
+) -> Result<Vec<u8>, AllocError>
+    ensures { IfOk result (λ behind. (n : ℕ)
+        → front.new.items ++ decimal n ++ behind.items
+        ≡ front.old.items
+        ++ (members_text [] (members_seen ahead.now) ++ comma_behind ahead.now ++ key_value_text name.now (value_text (int (pos n))) ++ members_text (codes ",") (members_seen rest.now))
+        ++ codes "],\"body\":{\"stringValue\":\"") }
+{
+    append_ahead(ahead, front)?;
     append_name(name.as_str(), front)?;
     let mut behind = Vec::new(alloc);
-    append_behind(&rest, &mut behind)?;
+    append_behind(rest, &mut behind)?;
     Ok(behind)
 }
 
 // The members, with a comma behind each.
-fn append_ahead(fields: &Fields, out: &mut Vec<u8>) -> Result<(), AllocError>
-    ensures { OnOk result (out.new.items ≡ out.old.items ++ members_text [] (members_seen fields.now.entries) ++ comma_behind fields.now.entries) }
+fn append_ahead(members: &[(Text, Value)], out: &mut Vec<u8>) -> Result<(), AllocError>
+    ensures { OnOk result (out.new.items ≡ out.old.items ++ members_text [] (members_seen members.now) ++ comma_behind members.now) }
 {
-    append_members(fields, out)?;
-    if fields.is_empty() {
+    append_opened_members(b"{\"key\":\"", members, out)?;
+    if members.is_empty() {
         return Ok(());
     }
     out.extend_from_slice(b",")
@@ -175,10 +207,10 @@ fn append_name(name: &str, out: &mut Vec<u8>) -> Result<(), AllocError>
 }
 
 // From behind a member's number up to the text: the members that follow it.
-fn append_behind(fields: &Fields, out: &mut Vec<u8>) -> Result<(), AllocError>
-    ensures { OnOk result (out.new.items ≡ out.old.items ++ codes "\"}}" ++ members_text (codes ",") (members_seen fields.now.entries) ++ codes "],\"body\":{\"stringValue\":\"") }
+fn append_behind(members: &[(Text, Value)], out: &mut Vec<u8>) -> Result<(), AllocError>
+    ensures { OnOk result (out.new.items ≡ out.old.items ++ codes "\"}}" ++ members_text (codes ",") (members_seen members.now) ++ codes "],\"body\":{\"stringValue\":\"") }
 {
     out.extend_from_slice(b"\"}}")?;
-    append_opened_members(b",{\"key\":\"", fields, out)?;
+    append_opened_members(b",{\"key\":\"", members, out)?;
     out.extend_from_slice(b"],\"body\":{\"stringValue\":\"")
 }

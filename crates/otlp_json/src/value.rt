@@ -5,8 +5,9 @@ ghost use Rattle.otlp_json.specs.Escaped.{escaped};
 ghost use Rattle.otlp_json.specs.HasFront.{HasFront};
 ghost use Rattle.otlp_json.specs.ValueText.{value_text, items_text, members_text};
 
-use crate::string::{append_escaped, append_integer};
-use entry_model::{Fields, Value, Values};
+use crate::string::{append_escaped, append_integer, append_run};
+use crate::text_member::append_text_member;
+use entry_model::{Fields, Text, Value, Values};
 use std::alloc::AllocError;
 
 #[cycle(value)]
@@ -29,9 +30,9 @@ pub fn append_value(value: &Value, out: &mut Vec<u8>) -> Result<(), AllocError>
             out.extend_from_slice(b"]}}")
         }
         Value::Map(fields) => {
-            out.extend_from_slice(b"{\"kvlistValue\":{\"values\":[")?;
-            append_members(fields, out)?;
-            out.extend_from_slice(b"]}}")
+            out.extend_from_slice(b"{\"kvlistValue\":{\"values\":")?;
+            append_fields(fields, out)?;
+            out.extend_from_slice(b"}}")
         }
     }
 }
@@ -44,52 +45,30 @@ fn append_items(values: &Values, out: &mut Vec<u8>) -> Result<(), AllocError>
 {
     let mut separator: &[u8] = b"";
     for value in values {
-        append_separator(separator, out)?;
+        append_run(separator, out)?;
         append_value(value, out)?;
         separator = b",";
     }
     Ok(())
 }
 
-// Appending nothing costs as much as appending a byte.
-fn append_separator(separator: &[u8], out: &mut Vec<u8>) -> Result<(), AllocError>
-    ensures ok { OnOk result (out.new.items ≡ out.old.items ++ separator.now) }
-    ensures front { HasFront out.old.items out.new.items }
-{
-    if separator.is_empty() {
-        return Ok(());
-    }
-    out.extend_from_slice(separator)
-}
-
+/// A list of the members.
 #[cycle(value)]
-pub fn append_members(fields: &Fields, out: &mut Vec<u8>) -> Result<(), AllocError>
+pub fn append_fields(fields: &Fields, out: &mut Vec<u8>) -> Result<(), AllocError>
     ensures ok { OnOk result (out.new.items
         ≡ out.old.items
-        ++ members_text [] (members_of (map (λ field. (field.0, datum field.1)) fields.now.entries))) }
+        ++ (codes "[" ++ members_text [] (members_of (map (λ field. (field.0, datum field.1)) fields.now.entries)) ++ codes "]")) }
     ensures front { HasFront out.old.items out.new.items }
 {
-    append_opened_members(b"{\"key\":\"", fields, out)
-}
-
-/// `opening` is what stands ahead of the first member's key.
-#[cycle(value)]
-pub fn append_opened_members(
-    opening: &[u8],
-    fields: &Fields,
-    out: &mut Vec<u8>,
-) -> Result<(), AllocError>
-    ensures ok { OnOk result ((before : List ℕ) → opening.now ≡ before ++ codes "{\"key\":\""
-        → out.new.items ≡ out.old.items
-        ++ members_text before (members_of (map (λ field. (field.0, datum field.1)) fields.now.entries))) }
-    ensures front { HasFront out.old.items out.new.items }
-{
-    let mut front = opening;
-    for (key, value) in fields {
+    if fields.is_empty() {
+        return out.extend_from_slice(b"[]");
+    }
+    let mut front: &[u8] = b"[{\"key\":\"";
+    for (key, value) in fields.members() {
         append_member(front, key.as_str(), value, out)?;
         front = b",{\"key\":\"";
     }
-    Ok(())
+    out.extend_from_slice(b"]")
 }
 
 #[cycle(value)]
@@ -103,6 +82,9 @@ fn append_member(
         ≡ out.old.items ++ front.now ++ escaped key.now ++ codes "\",\"value\":" ++ value_text (datum value.now) ++ codes "}") }
     ensures front { HasFront out.old.items out.new.items }
 {
+    if let Value::Text(text) = value {
+        return append_text_member(front, key.as_bytes(), text.as_str().as_bytes(), out);
+    }
     out.extend_from_slice(front)?;
     append_escaped(key.as_bytes(), out)?;
     append_member_value(value, out)
@@ -116,11 +98,6 @@ fn append_member_value(value: &Value, out: &mut Vec<u8>) -> Result<(), AllocErro
     ensures front { HasFront out.old.items out.new.items }
 {
     match value {
-        Value::Text(text) => {
-            out.extend_from_slice(b"\",\"value\":{\"stringValue\":\"")?;
-            append_escaped(text.as_str().as_bytes(), out)?;
-            out.extend_from_slice(b"\"}}")
-        }
         Value::Int(number) => append_member_int(*number, out),
         _ => {
             out.extend_from_slice(b"\",\"value\":")?;
@@ -128,6 +105,25 @@ fn append_member_value(value: &Value, out: &mut Vec<u8>) -> Result<(), AllocErro
             out.extend_from_slice(b"}")
         }
     }
+}
+
+/// `opening` is what stands ahead of the first member's key.
+pub fn append_opened_members(
+    opening: &[u8],
+    members: &[(Text, Value)],
+    out: &mut Vec<u8>,
+) -> Result<(), AllocError>
+    ensures ok { OnOk result ((before : List ℕ) → opening.now ≡ before ++ codes "{\"key\":\""
+        → out.new.items ≡ out.old.items
+        ++ members_text before (members_of (map (λ field. (field.0, datum field.1)) members.now))) }
+    ensures front { HasFront out.old.items out.new.items }
+{
+    let mut front = opening;
+    for (key, value) in members {
+        append_member(front, key.as_str(), value, out)?;
+        front = b",{\"key\":\"";
+    }
+    Ok(())
 }
 
 fn append_bool(flag: bool, out: &mut Vec<u8>) -> Result<(), AllocError>

@@ -33,7 +33,7 @@ fn write_values(values: &Values, out: &mut String) -> Result<(), AllocError> {
 pub fn write_members(members: &Fields, out: &mut String) -> Result<(), AllocError> {
     out.push('{')?;
     let mut first = true;
-    for (name, value) in members.iter() {
+    for (name, value) in members.members() {
         if !first {
             out.push(',')?;
         }

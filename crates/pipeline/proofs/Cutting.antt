@@ -1,12 +1,11 @@
 -- Every rule by which settings have tokens cut.
-use Rattle.std.proofs.Common.{◌≡◌, ℕ, ◌≤◌, List, Option, None, Some, IfNone, IfSome}
+use Rattle.std.proofs.Common.{◌≡◌, ℕ, ◌≤◌, List, Option, None, Some}
 use Rattle.line_splitter.specs.Cuts.{IsCutRule}
 use Rattle.line_splitter.specs.LineTokens as lines
 use Rattle.line_splitter.specs.declared.tokens.Token.{Token}
 use Rattle.multiline.specs.Cutting.{Cutting, starting, ending}
 use Rattle.multiline.specs.MultilineTokens as several
 use Rattle.multiline.specs.NextToken as next
-use Rattle.multiline.specs.NextToken.{cut_of}
 use Rattle.pipeline.specs.NextToken.{IsNext}
 use Rattle.multiline.specs.Searched as searched
 use Rattle.multiline.proofs.StopLemmas.{nothing_searched as nothing}
@@ -21,12 +20,6 @@ pub cut_by_a_rule : (max : ℕ) → IsCutRule (lines.first_cut max) → ((cuttin
 cut_by_a_rule max one many Lines = one
 cut_by_a_rule max one many (Start pattern) = many (starting pattern)
 cut_by_a_rule max one many (End pattern) = many (ending pattern)
-
-pub next_line : (max : ℕ) (b : List ℕ) (found : Option Token) → IfSome found (λ token. token.from ≡ 0) → IfSome found (λ token. token.to ≤ token.after)
-    → IfNone found (lines.HasNoToken max b) → IfSome found (λ token. lines.BeginsWith max b (cut_of b token)) → IsNext (first_cut_by Lines max) b found
-next_line max b None from to ends begins = ends.no_cuts
-next_line max b (Some token) from to ends begins =
-    record { from = from; to = to; begins = record { some_used = begins.some_used; within = begins.within; cuts_follow = begins.cuts_follow } }
 
 next_cut : (cutting : Cutting) (max : ℕ) (b : List ℕ) (found : Option Token) → next.IsNext cutting max b found → IsNext (several.first_cut cutting max) b found
 next_cut cutting max b None it = it.ends.no_cuts

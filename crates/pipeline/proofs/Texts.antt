@@ -1,5 +1,5 @@
 -- Lines of texts, without operators.
-use Rattle.std.proofs.Common.{◌≡◌, ℕ, pos, ◌+◌, ◌<◌, ◌≤◌, Bool, true, false, List, [], ◌∷◌, ◌++◌, ◌∙◌, Option, None, Some, OnOk, Result, Ok, Err, map, length, refl, sym, ap, subst, codes, arith, length-append, if◌then◌else◌}
+use Rattle.std.proofs.Common.{◌≡◌, ℕ, pos, ◌+◌, ◌<◌, ◌≤◌, Bool, true, false, List, [], ◌∷◌, ◌++◌, ◌∙◌, Option, None, Some, OnOk, Result, Ok, Err, map, length, refl, sym, ap, subst, codes, arith, if◌then◌else◌}
 use Rattle.std.proofs.lemmas.List.{append-nil}
 use Rattle.entry_model.specs.Datum.{int, Members}
 use Rattle.entry_model.specs.LogRecord.{LogRecord}
@@ -7,7 +7,6 @@ use Rattle.graph_core.specs.declared.NodeSpec.{NodeSpec}
 use Rattle.graph_core.specs.Traces.{network_of, inputs, Served}
 use Rattle.op_kinds.specs.Kept.{Kept, keeps_groups}
 use Rattle.op_kinds.specs.Operator.{Operator, behavior_of}
-use Rattle.otlp_json.specs.IsOneLine.{IsOneLine}
 use Rattle.otlp_json.specs.OutputLine.{output_line}
 use Rattle.otlp_json.specs.OutputLines.{output_lines}
 use Rattle.otlp_json.specs.Template.{numbered, text_record}
@@ -82,9 +81,3 @@ text_fed pipeline origin token text template s t o r one is have text_is some re
     (subst (λ (after : List Kept). Served (network pipeline) s.states.items [] (inputs (network pipeline) (item ∷ [])) after (item ∷ [])) (sym states) (through_none pipeline.graph s.states.items item is.0 have))
     records lines
     (written ∙ ap (λ line. o ++ line) (ap (output_line origin.id (s.lines + 1) origin.time) told ∙ sym (one.lines origin.id (s.lines + 1) origin.time item)))
-
--- a line is no fewer bytes than one
-pub line_counted : (id number : ℕ) (time : Option ℕ) (item : LogRecord) (o r : List ℕ) (before after : ℕ) → IsOneLine (output_line id number time item) → r ≡ o ++ output_line id number time item → after ≡ before + 1
-    → after + length o ≤ before + length r
-line_counted id number time item o r before after one written counted =
-    omega (arith, counted, ap length written, length-append o (output_line id number time item), ap length one.ends, length-append one.content (10 ∷ []))

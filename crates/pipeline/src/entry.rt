@@ -1,8 +1,5 @@
 // Entries of a file.
-ghost use Rattle.std.specs.Prelude.{◌≡◌, ℕ, pos, codes, ◌≤◌, ◌^◌, List, IfOk, OnOk};
-ghost use Rattle.std.specs.BTreeMap.{insert_entry};
-ghost use Rattle.std.specs.Cmp.Lexicographic.{slice_cmp};
-ghost use Rattle.std.specs.Ordering.{nat_cmp};
+ghost use Rattle.std.specs.Prelude.{◌≡◌, pos, codes, ◌≤◌, ◌^◌, IfOk};
 ghost use Rattle.entry_model.specs.Datum as model;
 ghost use Rattle.entry_model.specs.Datum.{datum};
 ghost use Rattle.entry_model.specs.LogRecord.{log_record};
@@ -107,15 +104,8 @@ fn text(alloc: Global, content: &str) -> Result<Value, AllocError>
 fn put(mut members: Fields, name: Text, value: Value) -> Result<Fields, AllocError>
     ensures { IfOk result (λ grown. members_seen grown.entries ≡ with_member name (datum value) (members_seen members.entries)) }
 {
-    insert(&mut members, name, value)?;
+    members.insert(name, value)?;
     Ok(members)
-}
-
-fn insert(fields: &mut Fields, name: Text, value: Value) -> Result<(), AllocError>
-    ensures { OnOk result (fields.new.entries ≡ insert_entry (slice_cmp nat_cmp) fields.old.entries name value) }
-{
-    fields.insert(name, value)?;
-    Ok(())
 }
 
 // What stands behind the last `/`.

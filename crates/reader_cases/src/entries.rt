@@ -38,7 +38,7 @@ fn parts_of(alloc: Global, text: &str) -> Parts {
         timestamp: None,
     };
     if let Ok(Value::Map(members)) = json_text::read(alloc, text) {
-        for (name, value) in members {
+        for (name, value) in members.into_members() {
             put_member(&mut parts, name.as_str(), value);
         }
     }

@@ -53,7 +53,7 @@ fn write_list(alloc: Global, values: &Values, out: &mut String) -> Result<(), Al
 #[cycle(write)]
 fn write_map(alloc: Global, fields: &Fields, out: &mut String) -> Result<(), AllocError> {
     let mut before = '{';
-    for (name, value) in fields.iter() {
+    for (name, value) in fields.members() {
         out.push(before)?;
         write_text(name.as_str(), out)?;
         out.push(':')?;

@@ -26,10 +26,12 @@ pub fn show_value(value: &Value, out: &mut String) -> Result<(), AllocError> {
 #[cycle(show)]
 pub fn show_fields(fields: &Fields, out: &mut String) -> Result<(), AllocError> {
     out.push_str("{")?;
-    for (index, (key, value)) in fields.iter().enumerate() {
-        if index > 0 {
+    let mut first = true;
+    for (key, value) in fields.members() {
+        if !first {
             out.push_str(", ")?;
         }
+        first = false;
         write!(out, "{key:?}: ")?;
         show_value(value, out)?;
     }

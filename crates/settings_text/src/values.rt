@@ -58,7 +58,7 @@ pub fn fields_of(
     for (key, value) in members.iter() {
         let key = Text::from_str(alloc, key.as_str())?;
         let copy = value_of(alloc, value)?;
-        drop(copies.insert(key, copy)?);
+        copies.insert(key, copy)?;
     }
     Ok(copies)
 }

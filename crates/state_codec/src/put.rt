@@ -104,7 +104,7 @@ fn put_map(alloc: Global, fields: &Fields, out: &mut Vec<u8>) -> Result<(), Allo
     ensures ascend { OnOk result (KeysAscend None (members_of (seen fields.now.entries))) }
 {
     put_count(alloc, fields.len(), out)?;
-    for (key, value) in fields {
+    for (key, value) in fields.members() {
         put_text(alloc, key, out)?;
         put_value(alloc, value, out)?;
     }

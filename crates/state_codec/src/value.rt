@@ -1,7 +1,7 @@
 // Readers of values, by their tags.
 ghost use Rattle.std.specs.Prelude.{◌≡◌, ◌∷◌, map, All};
 ghost use Rattle.std.specs.Bool.{OnTrue};
-ghost use Rattle.std.specs.BTreeMap.{keys};
+ghost use Rattle.std.specs.Map.{keys_of};
 ghost use Rattle.std.specs.Ordering.{nat_cmp};
 ghost use Rattle.std.specs.Cmp.Lexicographic.{slice_cmp};
 ghost use Rattle.std.specs.declared.cmp.Ordering.TheVariants.{Greater};
@@ -105,9 +105,9 @@ fn read_map(alloc: Global, room: usize, bytes: &[u8]) -> Result<(Fields, &[u8]),
 /// A key stands behind all keys of the map, in byte order.
 fn is_last(fields: &Fields, key: &Text) -> bool
     ensures test { result ≡ is_behind (last_key fields.now.entries) key.now }
-    ensures above { OnTrue result (All (λ k. slice_cmp nat_cmp key.now k ≡ Greater) (keys fields.now)) }
+    ensures above { OnTrue result (All (λ k. slice_cmp nat_cmp key.now k ≡ Greater) (keys_of fields.now.entries)) }
 {
-    match fields.last_key_value() {
+    match fields.members().last() {
         None => true,
         Some((last, _)) => last < key,
     }

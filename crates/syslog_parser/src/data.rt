@@ -9,13 +9,13 @@ use crate::cuts::{cut, split, stands, stands_either};
 use crate::fault::Stop;
 use crate::members::put_map;
 use crate::params::put_params;
-use entry_model::Fields;
+use entry_model::FieldsBuilder;
 use std::alloc::Global;
 
 /// Puts structured data into the members, unless they are `-`, and answers what stands behind them.
 pub(crate) fn put_data<'t>(
     alloc: Global,
-    members: &mut Fields,
+    members: &mut FieldsBuilder,
     text: &'t str,
 ) -> Result<&'t str, Stop>
     ensures ok { IfOk result (λ rest. PutsData text.now (seen members.old.entries) (seen members.new.entries) rest.now) }
@@ -25,17 +25,21 @@ pub(crate) fn put_data<'t>(
         let (_, rest) = cut(text, 0);
         return Ok(rest);
     }
-    let mut elements = Fields::new(alloc);
+    let mut elements = FieldsBuilder::new(alloc);
     let rest = match put_elements(alloc, &mut elements, text) {
         Ok(rest) => rest,
         Err(stop) => return Err(stop),
     };
-    put_map(alloc, members, "structured_data", elements)?;
+    put_map(alloc, members, "structured_data", elements.finish()?)?;
     Ok(rest)
 }
 
 /// Puts the elements into the members, by their ids, and answers what stands behind them.
-fn put_elements<'t>(alloc: Global, members: &mut Fields, text: &'t str) -> Result<&'t str, Stop>
+fn put_elements<'t>(
+    alloc: Global,
+    members: &mut FieldsBuilder,
+    text: &'t str,
+) -> Result<&'t str, Stop>
     ensures ok { IfOk result (λ rest. PutsElements text.now (seen members.old.entries) (seen members.new.entries) rest.now) }
     ensures fault { IfErr result (StopsWith (StopsInElement text.now)) }
 {
@@ -52,7 +56,11 @@ fn put_elements<'t>(alloc: Global, members: &mut Fields, text: &'t str) -> Resul
 }
 
 /// Puts an element into the members, as a map of its parameters, and answers what stands behind it.
-fn put_element<'t>(alloc: Global, members: &mut Fields, text: &'t str) -> Result<&'t str, Stop>
+fn put_element<'t>(
+    alloc: Global,
+    members: &mut FieldsBuilder,
+    text: &'t str,
+) -> Result<&'t str, Stop>
     ensures ok { IfOk result (λ rest. PutsElement text.now (seen members.old.entries) (seen members.new.entries) rest.now) }
     ensures fault { IfErr result (StopsWith (StopsInElement text.now)) }
 {
@@ -64,12 +72,12 @@ fn put_element<'t>(alloc: Global, members: &mut Fields, text: &'t str) -> Result
         Ok(read) => read,
         Err(stop) => return Err(stop),
     };
-    let mut params = Fields::new(alloc);
+    let mut params = FieldsBuilder::new(alloc);
     let rest = match put_params(alloc, &mut params, behind) {
         Ok(rest) => rest,
         Err(stop) => return Err(stop),
     };
-    put_map(alloc, members, id, params)?;
+    put_map(alloc, members, id, params.finish()?)?;
     Ok(rest)
 }
 

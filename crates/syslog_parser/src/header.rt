@@ -9,13 +9,13 @@ use crate::bytes::printable_count;
 use crate::cuts::{cut, stands};
 use crate::fault::Stop;
 use crate::members::put_text;
-use entry_model::{Fields, Text};
+use entry_model::{FieldsBuilder, Text};
 use std::alloc::Global;
 
 /// Puts HOSTNAME, APP-NAME, PROCID and MSGID into the members, each unless it is `-`, and answers what stands behind them.
 pub(crate) fn put_header<'t>(
     alloc: Global,
-    members: &mut Fields,
+    members: &mut FieldsBuilder,
     text: &'t str,
 ) -> Result<&'t str, Stop>
     ensures ok { IfOk result (λ rest. PutsHeader text.now (seen members.old.entries) (seen members.new.entries) rest.now) }
@@ -42,7 +42,7 @@ pub(crate) fn put_header<'t>(
 /// Puts a field of at most so many bytes into the members, unless it is `-`, and answers what stands behind its space.
 fn put_field<'t>(
     alloc: Global,
-    members: &mut Fields,
+    members: &mut FieldsBuilder,
     name: &str,
     most: usize,
     text: &'t str,

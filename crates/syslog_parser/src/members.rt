@@ -4,13 +4,13 @@ ghost use Rattle.entry_model.specs.Datum.{int, fields as map_datum, text as text
 ghost use Rattle.entry_model.specs.Seen.{seen};
 ghost use Rattle.syslog_parser.specs.Told.{put};
 
-use entry_model::{Fields, Text, Value};
+use entry_model::{Fields, FieldsBuilder, Text, Value};
 use std::alloc::{AllocError, Global};
 
 /// Puts a text into the members. That of an earlier one of the name goes.
 pub(crate) fn put_text(
     alloc: Global,
-    members: &mut Fields,
+    members: &mut FieldsBuilder,
     name: &str,
     value: Text,
 ) -> Result<(), AllocError>
@@ -24,7 +24,7 @@ pub(crate) fn put_text(
 /// As [`put_text`], of a number.
 pub(crate) fn put_number(
     alloc: Global,
-    members: &mut Fields,
+    members: &mut FieldsBuilder,
     name: &str,
     value: u8,
 ) -> Result<(), AllocError>
@@ -38,7 +38,7 @@ pub(crate) fn put_number(
 /// As [`put_text`], of a map.
 pub(crate) fn put_map(
     alloc: Global,
-    members: &mut Fields,
+    members: &mut FieldsBuilder,
     name: &str,
     value: Fields,
 ) -> Result<(), AllocError>

@@ -8,11 +8,11 @@ ghost use Rattle.syslog_parser.specs.Told.{put_all, told_message};
 use crate::cuts::{cut, stands};
 use crate::fault::Stop;
 use crate::members::put_text;
-use entry_model::{Fields, Text};
+use entry_model::{FieldsBuilder, Text};
 use std::alloc::{AllocError, Global};
 
 /// Puts the message that stands behind a space into the members, without a mark U+FEFF at its front.
-pub(crate) fn put_end(alloc: Global, members: &mut Fields, text: &str) -> Result<(), Stop>
+pub(crate) fn put_end(alloc: Global, members: &mut FieldsBuilder, text: &str) -> Result<(), Stop>
     ensures ok { OnOk result (PutsMessage text.now (seen members.old.entries) (seen members.new.entries)) }
     ensures fault { IfErr result (StopsWith (HasNoEnd text.now)) }
 {
@@ -28,7 +28,11 @@ pub(crate) fn put_end(alloc: Global, members: &mut Fields, text: &str) -> Result
 }
 
 /// Puts a message into the members, unless it is empty.
-pub(crate) fn put_message(alloc: Global, members: &mut Fields, text: &str) -> Result<(), AllocError>
+pub(crate) fn put_message(
+    alloc: Global,
+    members: &mut FieldsBuilder,
+    text: &str,
+) -> Result<(), AllocError>
     ensures { OnOk result (seen members.new.entries ≡ put_all (seen members.old.entries) (told_message text.now)) }
 {
     if text.is_empty() {

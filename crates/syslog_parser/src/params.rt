@@ -9,13 +9,13 @@ use crate::cuts::{cut, stands};
 use crate::escaped::read_value;
 use crate::fault::Stop;
 use crate::members::put_text;
-use entry_model::Fields;
+use entry_model::FieldsBuilder;
 use std::alloc::Global;
 
 /// Puts the parameters that stand behind an id into the members, and answers what stands behind their bracket.
 pub(crate) fn put_params<'t>(
     alloc: Global,
-    members: &mut Fields,
+    members: &mut FieldsBuilder,
     text: &'t str,
 ) -> Result<&'t str, Stop>
     ensures ok { IfOk result (λ rest. PutsParams text.now (seen members.old.entries) (seen members.new.entries) rest.now) }
@@ -39,7 +39,7 @@ pub(crate) fn put_params<'t>(
 }
 
 /// Puts a parameter into the members, and answers what stands behind its value.
-fn put_param<'t>(alloc: Global, members: &mut Fields, text: &'t str) -> Result<&'t str, Stop>
+fn put_param<'t>(alloc: Global, members: &mut FieldsBuilder, text: &'t str) -> Result<&'t str, Stop>
     ensures ok { IfOk result (λ rest. PutsParam text.now (seen members.old.entries) (seen members.new.entries) rest.now) }
     ensures fault { IfErr result (StopsWith (StopsInParam text.now)) }
 {

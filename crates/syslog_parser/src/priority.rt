@@ -10,7 +10,7 @@ ghost use Rattle.syslog_parser.specs.Told.{put_all, told_priority};
 
 use crate::cuts::{cut, stands};
 use crate::members::put_number;
-use entry_model::Fields;
+use entry_model::FieldsBuilder;
 use std::alloc::{AllocError, Global};
 
 /// The priority at the front of a text, and what stands behind it.
@@ -33,7 +33,7 @@ pub(crate) fn read_priority(text: &str) -> Option<(u8, &str)>
 /// Puts a priority, and the facility that it names, into the members.
 pub(crate) fn put_priority(
     alloc: Global,
-    members: &mut Fields,
+    members: &mut FieldsBuilder,
     priority: u8,
 ) -> Result<(), AllocError>
     ensures { OnOk result (seen members.new.entries ≡ put_all (seen members.old.entries) (told_priority priority)) }

@@ -11,7 +11,7 @@ use crate::priority::{put_priority, read_priority};
 use crate::senders::{Sender, read_sender};
 use crate::stamps::read_date;
 use crate::{Syslog, SyslogFault};
-use entry_model::{Fields, Text};
+use entry_model::{FieldsBuilder, Text};
 use std::alloc::{AllocError, Global};
 
 /// What a message of [RFC 3164](https://www.rfc-editor.org/rfc/rfc3164), section 4, tells: its priority and the facility in
@@ -37,18 +37,22 @@ pub fn read_3164(alloc: Global, text: &str, year: u16, location: i32) -> Result<
             return Err(SyslogFault::Header { at });
         }
     };
-    let mut fields = Fields::new(alloc);
+    let mut fields = FieldsBuilder::new(alloc);
     put_priority(alloc, &mut fields, priority)?;
     put_sender(alloc, &mut fields, sender)?;
     Ok(Syslog {
-        fields,
+        fields: fields.finish()?,
         timestamp: Some(instant),
         severity: priority % 8,
     })
 }
 
 /// Puts what stands behind the time into the members.
-fn put_sender(alloc: Global, members: &mut Fields, sender: Sender<'_>) -> Result<(), AllocError>
+fn put_sender(
+    alloc: Global,
+    members: &mut FieldsBuilder,
+    sender: Sender<'_>,
+) -> Result<(), AllocError>
     ensures { OnOk result (seen members.new.entries ≡ put_all (seen members.old.entries) (told_sender (tail_of sender.entry))) }
 {
     put_text(
@@ -68,7 +72,11 @@ fn put_sender(alloc: Global, members: &mut Fields, sender: Sender<'_>) -> Result
 }
 
 /// Puts a process into the members, where there is one.
-fn put_process(alloc: Global, members: &mut Fields, process: Option<&str>) -> Result<(), AllocError>
+fn put_process(
+    alloc: Global,
+    members: &mut FieldsBuilder,
+    process: Option<&str>,
+) -> Result<(), AllocError>
     ensures { OnOk result (seen members.new.entries ≡ put_all (seen members.old.entries) (told_process (option_map (λ own. own.now) process.entry))) }
 {
     match process {

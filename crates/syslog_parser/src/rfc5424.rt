@@ -13,7 +13,7 @@ use crate::message::put_end;
 use crate::priority::{put_priority, read_priority};
 use crate::stamps::{read_time, read_version};
 use crate::{Syslog, SyslogFault};
-use entry_model::Fields;
+use entry_model::FieldsBuilder;
 use std::alloc::Global;
 
 /// What a message of [RFC 5424](https://www.rfc-editor.org/rfc/rfc5424), section 6, tells: its priority and the facility in
@@ -37,7 +37,7 @@ pub fn read_5424(alloc: Global, text: &str) -> Result<Syslog, SyslogFault>
     let Some((timestamp, named)) = read_time(timed) else {
         return Err(SyslogFault::Time);
     };
-    let mut fields = Fields::new(alloc);
+    let mut fields = FieldsBuilder::new(alloc);
     put_priority(alloc, &mut fields, priority)?;
     put_number(alloc, &mut fields, "version", 1)?;
     let behind = match put_header(alloc, &mut fields, named) {
@@ -46,7 +46,7 @@ pub fn read_5424(alloc: Global, text: &str) -> Result<Syslog, SyslogFault>
     };
     match put_tail(alloc, &mut fields, behind) {
         Ok(()) => Ok(Syslog {
-            fields,
+            fields: fields.finish()?,
             timestamp,
             severity: priority % 8,
         }),
@@ -55,7 +55,7 @@ pub fn read_5424(alloc: Global, text: &str) -> Result<Syslog, SyslogFault>
 }
 
 /// Puts structured data and a message into the members.
-fn put_tail(alloc: Global, members: &mut Fields, text: &str) -> Result<(), Stop>
+fn put_tail(alloc: Global, members: &mut FieldsBuilder, text: &str) -> Result<(), Stop>
     ensures ok { OnOk result (PutsTail text.now (seen members.old.entries) (seen members.new.entries)) }
     ensures fault { IfErr result (StopsWith (StopsInData text.now)) }
 {

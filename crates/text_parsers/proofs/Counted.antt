@@ -5,7 +5,8 @@ use Rattle.json_text.specs.Grammar.{Member, put_all}
 use Rattle.text_parsers.specs.declared.fault.ParseFault.TheVariants.{FieldCount, Syntax}
 use Rattle.text_parsers.specs.declared.records.Split.{Split}
 use Rattle.text_parsers.specs.declared.records.Split.TheVariants.{Nothing, One, More}
-use Rattle.text_parsers.specs.CsvRecords.{Columns, records_of, parts_of, named, IsRecordText, IsRecordFault, no_record, other_count, second_record}
+use Rattle.text_parsers.specs.CsvRecords.{Columns, records_of, named, IsRecordText, IsRecordFault, no_record, other_count, second_record}
+use Rattle.text_parsers.specs.Inner.FieldSlices.{HasRecord}
 use Rattle.text_parsers.specs.Split.{IsSplit}
 
 abbrev columns_of : List (List ℕ) → ℕ → Columns
@@ -16,8 +17,8 @@ module _ (columns : Columns) (names : List (List ℕ)) (delimiter : ℕ) (same :
   there want got e f =
       subst (λ (c : Columns). IsRecordFault c front (FieldCount want got)) same (subst (λ n. IsRecordFault (columns_of names delimiter) front (FieldCount n got)) (sym e) f)
 
-  pub plain_split : records_of columns.delimiter front ≡ parts_of columns.delimiter front ∷ [] → records_of delimiter front ≡ parts_of delimiter front ∷ []
-  plain_split e = subst (λ n. records_of n front ≡ parts_of n front ∷ []) (sym (ap (λ (c : Columns). c.delimiter) same)) e
+  pub record_there : (count : ℕ) → HasRecord columns.delimiter front count → HasRecord delimiter front count
+  record_there count h = subst (λ n. HasRecord n front count) (sym (ap (λ (c : Columns). c.delimiter) same)) h
 
   pub told_none : (split : Split) (first : List (List ℕ)) → IsSplit (records_of delimiter front) split first → split ≡ Nothing → IsRecordFault columns front (FieldCount want 0)
   told_none Nothing first s e = there want 0 want_is (no_record s)

@@ -5,8 +5,10 @@ pub mod Taking
 pub mod Reading
 pub mod OneReading
 pub mod Parting
-pub mod PlainRecords
 pub mod ReadRecords
+pub mod FieldSlices
+pub mod FirstFields
 pub mod NamedFields
 pub mod Counted
 pub mod Matching
+pub mod Known

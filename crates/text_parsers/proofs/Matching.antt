@@ -1,5 +1,5 @@
 -- What the crate of regular expressions promises of groups, in the words of this crate.
-use Rattle.std.proofs.Common.{◌≡◌, ◌≢◌, ℕ, zero, suc, ◌+◌, ◌-◌, ◌*◌, ◌<◌, ◌≤◌, List, [], ◌∷◌, ◌∙◌, ap, sym, refl, subst, Bool, true, false, ◌==◌, ◌&&◌, cond, nat_le, length, drop, get_or, map, ◌++◌, Option, None, Some, option_map, is_some, IsSomeAnd, IfSome, ◌⊎◌, inl, inr, ⊎_elim, All, ne_eqb, arith}
+use Rattle.std.proofs.Common.{◌≡◌, ◌≢◌, ℕ, zero, suc, ◌+◌, ◌-◌, ◌*◌, ◌<◌, ◌≤◌, List, [], ◌∷◌, ◌∙◌, ap, sym, refl, subst, Bool, true, false, ◌==◌, ◌&&◌, cond, nat_le, length, drop, get_or, map, zip, ◌++◌, Option, None, Some, option_map, is_some, IsSomeAnd, IfSome, ◌⊎◌, inl, inr, ⊎_elim, All, ne_eqb, arith}
 use Rattle.std.proofs.Math.Logic.{∥∥₁_elim}
 use Rattle.std.proofs.lemmas.Bool.{cases_lt}
 use Rattle.std.proofs.lemmas.Bool.Decides.{nat_tests}
@@ -7,6 +7,7 @@ use Rattle.std.proofs.Common.{Global, String}
 use Rattle.std.proofs.lemmas.List.{append_assoc, drop-map, drop_more}
 use Rattle.std.specs.BTreeMap.{insert_entry}
 use Rattle.std.specs.Cmp.Lexicographic.{slice_cmp}
+use Rattle.std.specs.Map.{keys_of}
 use Rattle.std.specs.Ordering.{nat_cmp}
 use Rattle.std.specs.String.{string_bytes}
 use Rattle.std.specs.Coded.{coded_ℕ, coded_list, coded_option, coded×}
@@ -31,11 +32,10 @@ use Rattle.regex.specs.Utf8.{MatchesText}
 use Rattle.regex.specs.Writes.{both, group_of}
 use Rattle.entry_model.specs.Datum.{text, members_of}
 use Rattle.json_text.specs.Grammar.{Member, put_all}
-use Rattle.text_parsers.specs.Groups.{Reading, reading, is_shallow, names_in, groups_from, named_group, named_groups, NamedGroup, members_by, taken, found_in}
+use Rattle.text_parsers.specs.Groups.{Reading, reading, is_shallow, names_in, groups_from, named_groups, NamedGroup, members_by, taken, found_in}
 use Rattle.regex.specs.Names.{names_of}
 use Rattle.regex.specs.Strings.{regex_names, regex_source}
 use Rattle.regex.specs.declared.string.regex.Regex.{Regex}
-use Rattle.text_parsers.specs.declared.groups.Group.{Group}
 use Rattle.text_parsers.specs.ReadByDefault.{IsCleanSpan, IsReadByDefault}
 
 -- ---- what a pattern is read as
@@ -204,14 +204,30 @@ module _ {A B : Type 0} (f : A → B) (xs : List A) (i : ℕ) (x : A) (h : i < l
   mapped_left =
       drop-map f i xs ∙ ap (map f) (drop_more xs i x h ∙ ap (λ (y : A). y ∷ drop (i + 1) xs) (sym is)) ∙ ap (λ (l : List B). f x ∷ l) (sym (drop-map f (i + 1) xs))
 
-pub one_group_more : (span_of : ℕ → Option (ℕ × ℕ)) (front : List ℕ) (groups : List Group) (i : ℕ) (one : Group) → i < length groups → one ≡ get_or groups i one → (name found : List ℕ) → name ≡ one.name
-    → found ≡ taken front (span_of one.number) → (old new : List Member) → new ≡ insert_entry (slice_cmp nat_cmp) old name (text found) → (all : List Member)
-    → put_all old (members_by span_of front (drop i (map named_group groups))) ≡ all → put_all new (members_by span_of front (drop (i + 1) (map named_group groups))) ≡ all
-one_group_more span_of front groups i one h is name found name_is found_is old new put all before =
-    ap (λ (ms : List Member). put_all ms (members_by span_of front (drop (i + 1) (map named_group groups))))
-    (put ∙ ap (λ (n : List ℕ). insert_entry (slice_cmp nat_cmp) old n (text found)) name_is ∙ ap (λ (t : List ℕ). insert_entry (slice_cmp nat_cmp) old one.name (text t)) found_is)
-    ∙ ap (λ (gs : List NamedGroup). put_all old (members_by span_of front gs)) (sym (mapped_left named_group groups i one h is))
-    ∙ before
+pub keys-groups : (span_of : ℕ → Option (ℕ × ℕ)) (front : List ℕ) (numbers : List ℕ) (names : List (List ℕ)) → length numbers ≡ length names → keys_of (members_by span_of front (zip numbers names)) ≡ names
+keys-groups span_of front [] [] h = refl
+keys-groups span_of front [] (name ∷ names) h = absurd (omega (arith, h))
+keys-groups span_of front (number ∷ numbers) [] h = absurd (omega (arith, h))
+keys-groups span_of front (number ∷ numbers) (name ∷ names) h = ap (λ (l : List (List ℕ)). name ∷ l) (keys-groups span_of front numbers names (omega (arith, h)))
+
+-- one group more is put in
+pub one_group_more : (span_of : ℕ → Option (ℕ × ℕ)) (front : List ℕ) (numbers behind : List ℕ) (names rest : List (List ℕ)) (number : ℕ) (name found : List ℕ) (old new : List Member)
+    → numbers ≡ number ∷ behind → names ≡ name ∷ rest → found ≡ taken front (span_of number) → new ≡ insert_entry (slice_cmp nat_cmp) old name (text found)
+    → put_all new (members_by span_of front (zip behind rest)) ≡ put_all old (members_by span_of front (zip numbers names))
+one_group_more span_of front numbers behind names rest number name found old new e f is put =
+    ap (λ (ms : List Member). put_all ms (members_by span_of front (zip behind rest))) (put ∙ ap (λ (t : List ℕ). insert_entry (slice_cmp nat_cmp) old name (text t)) is)
+    ∙ sym (ap (λ (ns : List ℕ). put_all old (members_by span_of front (zip ns names))) e ∙ ap (λ (ns : List (List ℕ)). put_all old (members_by span_of front (zip (number ∷ behind) ns))) f)
+
+pub zip_push : (numbers : List ℕ) (names : List (List ℕ)) (number : ℕ) (name : List ℕ) → length numbers ≡ length names → zip (numbers ++ number ∷ []) (names ++ name ∷ []) ≡ zip numbers names ++ (number, name) ∷ []
+zip_push [] [] number name h = refl
+zip_push [] (n ∷ names) number name h = absurd (omega (arith, h))
+zip_push (k ∷ numbers) [] number name h = absurd (omega (arith, h))
+zip_push (k ∷ numbers) (n ∷ names) number name h = ap (λ (l : List NamedGroup). (k, n) ∷ l) (zip_push numbers names number name (omega (arith, h)))
+
+pub nothing_zipped : (numbers : List ℕ) (names : List (List ℕ)) → length numbers ≡ length names → zip numbers names ≡ [] → length numbers ≡ 0
+nothing_zipped [] names h e = refl
+nothing_zipped (k ∷ numbers) [] h e = absurd (omega (arith, h))
+nothing_zipped (k ∷ numbers) (n ∷ names) h e = absurd (cc e)
 
 module _ (names : List (Option (String Global))) (i : ℕ) (o : Option (String Global)) (h : i < length names) (is : o ≡ get_or names i o) (done all : List NamedGroup)
     (before : done ++ groups_from (i + 1) (drop i (names_of names)) ≡ all) where
@@ -221,9 +237,9 @@ module _ (names : List (Option (String Global))) (i : ℕ) (o : Option (String G
   pub no_name_more : o ≡ None → done ++ groups_from (i + 1 + 1) (drop (i + 1) (names_of names)) ≡ all
   no_name_more e = ap (λ (x : Option (String Global)). done ++ groups_from (i + 1) (option_map string_bytes x ∷ drop (i + 1) (names_of names))) (sym e) ∙ here
 
-  pub one_name_more : (s : String Global) → o ≡ Some s → (group : Group) → named_group group ≡ (i + 1, string_bytes s) → (done ++ named_group group ∷ []) ++ groups_from (i + 1 + 1) (drop (i + 1) (names_of names)) ≡ all
+  pub one_name_more : (s : String Global) → o ≡ Some s → (group : NamedGroup) → group ≡ (i + 1, string_bytes s) → (done ++ group ∷ []) ++ groups_from (i + 1 + 1) (drop (i + 1) (names_of names)) ≡ all
   one_name_more s e group is =
-      append_assoc done (named_group group ∷ []) (groups_from (i + 1 + 1) (drop (i + 1) (names_of names)))
+      append_assoc done (group ∷ []) (groups_from (i + 1 + 1) (drop (i + 1) (names_of names)))
       ∙ ap (λ (g : NamedGroup). done ++ g ∷ groups_from (i + 1 + 1) (drop (i + 1) (names_of names))) is
       ∙ ap (λ (x : Option (String Global)). done ++ groups_from (i + 1) (option_map string_bytes x ∷ drop (i + 1) (names_of names))) (sym e) ∙ here
 

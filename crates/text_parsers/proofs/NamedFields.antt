@@ -1,8 +1,8 @@
 -- Fields with their names, one after another.
-use Rattle.std.proofs.Common.{◌≡◌, ℕ, zero, suc, ◌+◌, ◌≤◌, ◌<◌, List, [], ◌∷◌, ◌++◌, ◌∙◌, ap, sym, refl, Bool, length, drop, get_or, None, Some, arith}
-use Rattle.std.proofs.lemmas.List.{drop_all, drop_more}
+use Rattle.std.proofs.Common.{◌≡◌, ℕ, zero, suc, ◌+◌, List, [], ◌∷◌, ◌++◌, ◌∙◌, ap, sym, refl, Bool, length, drop, None, Some, arith}
 use Rattle.std.specs.BTreeMap.{insert_entry}
 use Rattle.std.specs.Cmp.Lexicographic.{slice_cmp}
+use Rattle.std.specs.Map.{keys_of}
 use Rattle.std.specs.Ordering.{nat_cmp}
 use Rattle.std.specs.Str.Lossy.{utf8_lossy}
 use Rattle.csv.specs.Records.{field_at}
@@ -14,26 +14,26 @@ pub named-nil : (names : List (List ℕ)) → named names [] ≡ []
 named-nil [] = refl
 named-nil (name ∷ names) = refl
 
-module _ (names : List (List ℕ)) (i : ℕ) (name : List ℕ) (h : i < length names) (is : name ≡ get_or names i name) where
-  names_left : drop i names ≡ name ∷ drop (i + 1) names
-  names_left = drop_more names i name h ∙ ap (λ (l : List ℕ). l ∷ drop (i + 1) names) (sym is)
+pub keys-named : (names fields : List (List ℕ)) → length fields ≡ length names → keys_of (named names fields) ≡ names
+keys-named [] fields h = refl
+keys-named (name ∷ names) [] h = absurd (omega (arith, h))
+keys-named (name ∷ names) (field ∷ fields) h = ap (λ (l : List (List ℕ)). name ∷ l) (keys-named names fields (omega (arith, h)))
 
-  -- one field more is put in
-  pub one_named : (fields behind : List (List ℕ)) (field : List ℕ) (old new : List Member) → fields ≡ field ∷ behind → new ≡ insert_entry (slice_cmp nat_cmp) old name (text (utf8_lossy field))
-      → put_all new (named (drop (i + 1) names) behind) ≡ put_all old (named (drop i names) fields)
-  one_named fields behind field old new e put =
-      ap (λ (ms : List Member). put_all ms (named (drop (i + 1) names) behind)) put
-      ∙ ap (λ (ns : List (List ℕ)). put_all old (named ns (field ∷ behind))) (sym names_left)
-      ∙ ap (λ (fs : List (List ℕ)). put_all old (named (drop i names) fs)) (sym e)
+-- one field more is put in
+pub one_named : (names rest fields behind : List (List ℕ)) (name field : List ℕ) (old new : List Member) → names ≡ name ∷ rest → fields ≡ field ∷ behind
+    → new ≡ insert_entry (slice_cmp nat_cmp) old name (text (utf8_lossy field)) → put_all new (named rest behind) ≡ put_all old (named names fields)
+one_named names rest fields behind name field old new e f put =
+    ap (λ (ms : List Member). put_all ms (named rest behind)) put
+    ∙ sym (ap (λ (ns : List (List ℕ)). put_all old (named ns fields)) e ∙ ap (λ (fs : List (List ℕ)). put_all old (named (name ∷ rest) fs)) f)
 
 -- no field is left
-pub no_field_left : (names fields : List (List ℕ)) (i : ℕ) (ms all : List Member) → put_all ms (named (drop i names) fields) ≡ all → fields ≡ [] → ms ≡ all
-no_field_left names fields i ms all e none =
-    sym (ap (λ (fs : List (List ℕ)). put_all ms (named (drop i names) fs)) none ∙ ap (λ (l : List Member). put_all ms l) (named-nil (drop i names))) ∙ e
+pub no_field_left : (names fields : List (List ℕ)) (ms all : List Member) → put_all ms (named names fields) ≡ all → fields ≡ [] → ms ≡ all
+no_field_left names fields ms all e none =
+    sym (ap (λ (fs : List (List ℕ)). put_all ms (named names fs)) none ∙ ap (λ (l : List Member). put_all ms l) (named-nil names)) ∙ e
 
 -- no name is left
-pub no_name_left : (names fields : List (List ℕ)) (i : ℕ) (ms all : List Member) → put_all ms (named (drop i names) fields) ≡ all → length names ≤ i → ms ≡ all
-no_name_left names fields i ms all e past = sym (ap (λ (ns : List (List ℕ)). put_all ms (named ns fields)) (drop_all i names past)) ∙ e
+pub no_name_left : (names fields : List (List ℕ)) (ms all : List Member) → put_all ms (named names fields) ≡ all → names ≡ [] → ms ≡ all
+no_name_left names fields ms all e none = sym (ap (λ (ns : List (List ℕ)). put_all ms (named ns fields)) none) ∙ e
 
 pub field_here : (fields : List (List ℕ)) (i : ℕ) (field : List ℕ) → field_at fields i ≡ Some field → drop i fields ≡ field ∷ drop (i + 1) fields
 unfolding field_at

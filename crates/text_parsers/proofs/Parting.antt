@@ -1,24 +1,13 @@
 -- The parts of a text between delimiters.
-use Rattle.std.proofs.Common.{◌≡◌, ℕ, suc, ◌+◌, ◌<◌, ◌≤◌, List, [], ◌∷◌, ◌∙◌, ap, sym, refl, subst, Bool, true, false, not, ◌==◌, cond, length, take, drop, get_or, arith, eqb-true}
-use Rattle.std.proofs.lemmas.List.Sums.{prefix_len_stops, sum_by-cons}
+use Rattle.std.proofs.Common.{◌≡◌, ℕ, suc, ◌+◌, ◌<◌, ◌≤◌, List, [], ◌∷◌, ◌++◌, ◌∙◌, ap, sym, refl, subst, Bool, true, false, not, ◌==◌, cond, length, take, drop, get_or, arith, eqb-true}
+use Rattle.std.proofs.lemmas.List.{take-append-drop, drop_more}
+use Rattle.std.proofs.lemmas.List.Sums.{prefix_len_stops}
 use Rattle.std.proofs.lemmas.Str.{IsCharBoundary-before_ascii, IsCharBoundary-after_ascii}
-use Rattle.std.specs.List.{count_by, position_or_len}
+use Rattle.std.specs.Cmp.Derive.{both_true}
+use Rattle.std.specs.List.{list_all, position_or_len, prefix_len}
 use Rattle.std.specs.Str.{IsUtf8, IsCharBoundary}
 use Rattle.text_parsers.specs.CsvRecords.{in_front, parts_of}
-
-length-in_front : (byte : ℕ) (parts : List (List ℕ)) → length (in_front byte parts) ≡ length parts
-length-in_front byte [] = refl
-length-in_front byte (part ∷ parts) = refl
-
-pub part_count_is : (delimiter : ℕ) (text : List ℕ) → length (parts_of delimiter text) ≡ count_by (λ byte. byte == delimiter) text + 1
-part_count_is delimiter [] = refl
-part_count_is delimiter (byte ∷ rest) =
-    by (byte == delimiter) (part_count_is delimiter rest) ∙ ap (λ n. n + 1) (sym (sum_by-cons (λ b. cond (b == delimiter) 1 0) byte rest))
-  where
-    by : (b : Bool) → length (parts_of delimiter rest) ≡ count_by (λ byte. byte == delimiter) rest + 1
-        → length (cond b ([] ∷ parts_of delimiter rest) (in_front byte (parts_of delimiter rest))) ≡ (cond b 1 0 + count_by (λ byte. byte == delimiter) rest) + 1
-    by true e = omega arith
-    by false e = length-in_front byte (parts_of delimiter rest) ∙ e ∙ (omega arith)
+use Rattle.text_parsers.specs.Inner.FirstPart.{Lacks}
 
 abbrev first_place : ℕ → List ℕ → ℕ
 first_place delimiter text = position_or_len (λ byte. byte == delimiter) text
@@ -50,6 +39,22 @@ parts_whole delimiter (byte ∷ rest) h = by (byte == delimiter) h (parts_whole 
     by true h r = absurd (omega arith)
     by false h r = ap (in_front byte) (r (omega arith))
 
+pub front_passes : (p : ℕ → Bool) (xs : List ℕ) → list_all p (take (prefix_len p xs) xs) ≡ true
+front_passes p [] = refl
+front_passes p (x ∷ xs) = by (p x) refl (front_passes p xs)
+  where
+    by : (b : Bool) → p x ≡ b → list_all p (take (prefix_len p xs) xs) ≡ true → list_all p (take (cond b (1 + prefix_len p xs) 0) (x ∷ xs)) ≡ true
+    by true e r = let one : 1 + prefix_len p xs ≡ suc (prefix_len p xs) = omega arith in rw one (both_true e r)
+    by false e r = refl
+
+-- what a part up to a byte leaves, where the byte stands
+pub cut_there : (d : ℕ) (text behind : List ℕ) (n : ℕ) → n < length text → get_or text n 0 ≡ d → behind ≡ drop (n + 1) text → text ≡ take n text ++ d ∷ behind
+cut_there d text behind n h here is =
+    sym (take-append-drop n text)
+    ∙ ap (λ (l : List ℕ). take n text ++ l) (drop_more text n 0 h)
+    ∙ ap (λ (x : ℕ). take n text ++ x ∷ drop (n + 1) text) here
+    ∙ ap (λ (l : List ℕ). take n text ++ d ∷ l) (sym is)
+
 module _ (delimiter : ℕ) (text bytes : List ℕ) (n : ℕ) (same : bytes ≡ text) (is : n ≡ position_or_len (λ byte. byte == delimiter) bytes) where
   is_first : n ≡ first_place delimiter text
   is_first = is ∙ ap (first_place delimiter) same
@@ -71,6 +76,14 @@ module _ (delimiter : ℕ) (text bytes : List ℕ) (n : ℕ) (same : bytes ≡ t
       by : (b : Bool) → not b ≡ false → b ≡ true
       by true e = refl
       by false e = sym e
+
+  pub front_lacks : Lacks delimiter (take n text)
+  front_lacks =
+      let first = is_first in
+      ap (λ k. list_all (λ byte. not (byte == delimiter)) (take k text)) first ∙ front_passes (λ byte. not (byte == delimiter)) text
+
+  pub part_stands : n < length text → text ≡ take n text ++ delimiter ∷ drop (n + 1) text
+  part_stands h = cut_there delimiter text (drop (n + 1) text) n h (delimiter_at h) refl
 
   module _ (low : delimiter < 128) (h : n < length text) where
     byte_is_low : get_or text n 0 < 128

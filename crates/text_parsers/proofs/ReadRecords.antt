@@ -18,7 +18,6 @@ use Rattle.text_parsers.specs.declared.records.Place.{Place}
 use Rattle.text_parsers.specs.declared.records.Place.TheVariants.{Front, Between, Field, Quoted, Closed}
 use Rattle.text_parsers.specs.declared.records.Step.{Step}
 use Rattle.text_parsers.specs.declared.records.Step.TheVariants.{Skips, Adds, EndsField, EndsRecord}
-use Rattle.text_parsers.proofs.PlainRecords.{none_left}
 
 -- ---- one byte
 
@@ -311,13 +310,13 @@ no_records cfg xs e = let size : length xs + 1 ≡ suc (length xs) = omega arith
 
 only_record : (cfg : Config) (xs : List ℕ) (p : Read) → next_record cfg st.StartRecord [] [] xs ≡ Some p → next_record cfg p.1 [] [] p.2 ≡ None → records cfg xs ≡ p.0 ∷ []
 unfolding records_from
-only_record cfg [] p e n = let none : None ≡ Some p = sym (none_left cfg) ∙ e in absurd (cc none)
+only_record cfg [] p e n = let none : None ≡ Some p = sym (front_ends cfg [] []) ∙ e in absurd (cc none)
 only_record cfg (x ∷ xs) p e n = let size : length (x ∷ xs) + 1 ≡ suc (suc (length xs)) = omega arith in rw (size, e, n) refl
 
 more_records : (cfg : Config) (xs : List ℕ) (p q : Read) → next_record cfg st.StartRecord [] [] xs ≡ Some p → next_record cfg p.1 [] [] p.2 ≡ Some q
     → records cfg xs ≡ p.0 ∷ q.0 ∷ records_from cfg (length xs - 1) q.1 q.2
 unfolding records_from
-more_records cfg [] p q e n = let none : None ≡ Some p = sym (none_left cfg) ∙ e in absurd (cc none)
+more_records cfg [] p q e n = let none : None ≡ Some p = sym (front_ends cfg [] []) ∙ e in absurd (cc none)
 more_records cfg (x ∷ xs) p q e n = let size : length (x ∷ xs) + 1 ≡ suc (suc (length xs)) = omega arith in let back : suc (length xs) - 1 ≡ length xs = omega arith in rw (size, e, n, back) refl
 
 module _ (d : ℕ) (text bytes : List ℕ) (same : bytes ≡ strip_bom text) (fields : List (List ℕ)) where

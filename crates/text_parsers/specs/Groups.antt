@@ -12,7 +12,6 @@ use Rattle.text_parsers.specs.declared.fault.ParseFault.{ParseFault}
 use Rattle.text_parsers.specs.declared.fault.ParseFault.TheVariants.{NotText, NoMatch, Syntax, FieldCount, NoDelimiter, Memory}
 use Rattle.text_parsers.specs.declared.regex_fault.RegexFault.{RegexFault}
 use Rattle.text_parsers.specs.declared.regex_fault.RegexFault.TheVariants as refused
-use Rattle.text_parsers.specs.declared.groups.Group.{Group}
 
 -- a pattern as the grammar of patterns reads it, and the names of its groups, from group 0 on
 abbrev pub Reading : Type 0
@@ -33,9 +32,6 @@ names_in (Some pattern) = pattern.1
 -- a group that has a name: its number and its name
 abbrev pub NamedGroup : Type 0
 NamedGroup = ℕ × List ℕ
-
-abbrev pub named_group : Group → NamedGroup
-named_group group = (group.number, group.name)
 
 -- the groups that have names, where the first of these names is that of the group with this number
 abbrev pub groups_from : ℕ → Names → List NamedGroup

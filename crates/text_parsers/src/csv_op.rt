@@ -1,20 +1,21 @@
 // Members out of a CSV record.
-ghost use Rattle.std.specs.Prelude.{◌≡◌, ◌<◌, ◌∷◌, [], IfOk, IfErr, OnOk};
-ghost use Rattle.std.specs.BTreeMap.{insert_entry};
-ghost use Rattle.std.specs.Cmp.Lexicographic.{slice_cmp};
-ghost use Rattle.std.specs.Ordering.{nat_cmp};
+ghost use Rattle.std.specs.Prelude.{◌≡◌, ◌<◌, ℕ, List, [], length, IfOk, IfErr, OnOk};
 ghost use Rattle.std.specs.Str.Lossy.{utf8_lossy};
 ghost use Rattle.csv.specs.Records.{fields_of};
 ghost use Rattle.entry_model.specs.Datum.{datum, text as text_datum, members_of};
+ghost use Rattle.entry_model.specs.Places.{value_set_at};
 ghost use Rattle.entry_model.specs.Seen.{seen};
 ghost use Rattle.json_text.specs.Grammar.{put_all};
-ghost use Rattle.text_parsers.specs.CsvRecords.{IsRecordText, IsRecordFault, named, parts_of, records_of};
+ghost use Rattle.text_parsers.specs.CsvRecords.{IsRecordText, IsRecordFault, named, parts_of};
+ghost use Rattle.text_parsers.specs.Inner.FieldSlices.{AreFields, HasFields, HasRecord};
 ghost use Rattle.text_parsers.specs.TextValue.{IsTextWith, IsValueFault};
 
 use crate::ParseFault;
-use crate::members::put;
-use crate::parts::{first_part, part_count};
-use crate::records::{Split, has_plain_record, split_record};
+use crate::field_slices::{field_count, first_field};
+use crate::known_names::KnownNames;
+use crate::members::set;
+use crate::parts::first_part;
+use crate::records::{Split, split_record};
 use csv::ByteRecord;
 use entry_model::{Fields, Text, Value};
 use std::alloc::{AllocError, Global};
@@ -24,7 +25,7 @@ use std::str;
 /// Takes the fields of a text that is one CSV record, by the names of a header.
 #[derive(Drop)]
 pub struct CsvOp {
-    names: Vec<Text>,
+    names: KnownNames,
     delimiter: u8,
 }
 
@@ -34,7 +35,7 @@ impl Model for CsvOp {
 
     ghost Value = { Columns };
 
-    ghost view = { λ op. record { names = op.names.items; delimiter = op.delimiter } };
+    ghost view = { λ op. record { names = op.names; delimiter = op.delimiter } };
 
     ghost invariant = { λ op. op.delimiter < 128 };
 }
@@ -46,6 +47,7 @@ impl CsvOp {
         ensures { IfOk result (λ op. op ≡ record { names = parts_of delimiter header.now; delimiter = delimiter }) }
     {
         let names = names_of(alloc, header, delimiter)?;
+        let names = KnownNames::new(alloc, names.as_slice())?;
         Ok(CsvOp { names, delimiter })
     }
 
@@ -70,25 +72,23 @@ impl CsvOp {
         ensures ok { IfOk result (λ members. IsRecordText self.now (members_of (seen members.entries)) text.now) }
         ensures fault { IfErr result (IsRecordFault self.now text.now) }
     {
-        if has_plain_record(text) {
-            return self.plain_members(alloc, text);
+        match field_count(text, self.delimiter) {
+            Some(got) => self.sliced_members(alloc, text, got),
+            None => self.record_members(alloc, text),
         }
-        self.record_members(alloc, text)
     }
 
-    /// The parts of a text that is one record without quotes, by their names.
-    fn plain_members(&self, alloc: Global, text: &str) -> Result<Fields, ParseFault>
-        requires { records_of self.now.delimiter text.now ≡ parts_of self.now.delimiter text.now ∷ [] }
+    /// The fields of a text that is one record with so many that lie in it as they are, by their names.
+    fn sliced_members(&self, alloc: Global, text: &str, got: usize) -> Result<Fields, ParseFault>
+        requires { HasRecord self.now.delimiter text.now got }
         ensures ok { IfOk result (λ members. IsRecordText self.now (members_of (seen members.entries)) text.now) }
         ensures fault { IfErr result (IsRecordFault self.now text.now) }
     {
-        let names = self.names.as_slice();
-        let want = names.len();
-        let got = part_count(text, self.delimiter);
+        let want = self.names.len();
         if got != want {
             return Err(ParseFault::FieldCount { want, got });
         }
-        match name_parts(alloc, names, text, self.delimiter) {
+        match name_slices(alloc, &self.names, text, self.delimiter) {
             Ok(members) => Ok(members),
             Err(_) => Err(ParseFault::Memory),
         }
@@ -99,8 +99,7 @@ impl CsvOp {
         ensures ok { IfOk result (λ members. IsRecordText self.now (members_of (seen members.entries)) text.now) }
         ensures fault { IfErr result (IsRecordFault self.now text.now) }
     {
-        let names = self.names.as_slice();
-        let want = names.len();
+        let want = self.names.len();
         let mut row = ByteRecord::new(alloc);
         let Ok(split) = split_record(alloc, text, self.delimiter, &mut row) else {
             return Err(ParseFault::Memory);
@@ -115,32 +114,33 @@ impl CsvOp {
         if let Split::More = split {
             return Err(ParseFault::Syntax { at: 0 });
         }
-        match name_fields(alloc, names, &row) {
+        match name_fields(alloc, &self.names, &row) {
             Ok(members) => Ok(members),
             Err(_) => Err(ParseFault::Memory),
         }
     }
 }
 
-/// The parts of the text, each with its name.
-fn name_parts(
+/// The fields that lie in the text as they are, each with its name.
+fn name_slices(
     alloc: Global,
-    names: &[Text],
+    names: &KnownNames,
     text: &str,
     delimiter: u8,
 ) -> Result<Fields, AllocError>
-    requires { delimiter < 128 }
-    ensures { IfOk result (λ members. seen members.entries ≡ put_all [] (named names.now (parts_of delimiter text.now))) }
+    requires low { delimiter < 128 }
+    requires fields { HasFields delimiter text.now }
+    ensures { IfOk result (λ members. (fields : List (List ℕ)) → AreFields delimiter text.now fields → length fields ≡ length names.now → seen members.entries ≡ put_all [] (named names.now fields)) }
 {
-    let mut members = Fields::new(alloc);
+    let mut members = names.unset(alloc)?;
     let mut rest = text;
     let mut more = true;
-    for name in names {
+    for place in names.places() {
         if !more {
             break;
         }
-        let (part, behind, found) = first_part(rest, delimiter);
-        put_part(alloc, &mut members, name, part)?;
+        let (field, behind, found) = first_field(rest, delimiter);
+        set(alloc, &mut members, *place, field)?;
         rest = behind;
         more = found;
     }
@@ -148,38 +148,27 @@ fn name_parts(
 }
 
 /// The fields of the record, each with its name.
-fn name_fields(alloc: Global, names: &[Text], row: &ByteRecord) -> Result<Fields, AllocError>
+fn name_fields(alloc: Global, names: &KnownNames, row: &ByteRecord) -> Result<Fields, AllocError>
+    requires { length (fields_of row.now) ≡ length names.now }
     ensures { IfOk result (λ members. seen members.entries ≡ put_all [] (named names.now (fields_of row.now))) }
 {
-    let mut members = Fields::new(alloc);
-    for (index, name) in names.iter().enumerate() {
+    let mut members = names.unset(alloc)?;
+    let places = names.places();
+    for (index, place) in places.iter().enumerate() {
         let Some(field) = row.get(index) else {
             break;
         };
-        put_field(alloc, &mut members, name, field)?;
+        set_field(alloc, &mut members, *place, field)?;
     }
     Ok(members)
 }
 
-fn put_part(alloc: Global, members: &mut Fields, name: &Text, part: &str) -> Result<(), AllocError>
-    ensures { OnOk result (seen members.new.entries ≡ insert_entry (slice_cmp nat_cmp) (seen members.old.entries) name.now (text_datum (utf8_lossy part.now))) }
+fn set_field(alloc: Global, members: &mut Fields, at: usize, field: &[u8]) -> Result<(), AllocError>
+    requires { at < length members.old.entries }
+    ensures { OnOk result (seen members.new.entries ≡ value_set_at (seen members.old.entries) at (text_datum (utf8_lossy field.now))) }
 {
-    let key = name.share()?;
-    put(alloc, members, key, part)?;
-    Ok(())
-}
-
-fn put_field(
-    alloc: Global,
-    members: &mut Fields,
-    name: &Text,
-    field: &[u8],
-) -> Result<(), AllocError>
-    ensures { OnOk result (seen members.new.entries ≡ insert_entry (slice_cmp nat_cmp) (seen members.old.entries) name.now (text_datum (utf8_lossy field.now))) }
-{
-    let key = name.share()?;
     let value = text_of(alloc, field)?;
-    members.insert(key, Value::Text(value))?;
+    members.set_at(at, Value::Text(value));
     Ok(())
 }
 

@@ -1,59 +1,87 @@
 // The groups of a pattern that have names.
-ghost use Rattle.std.specs.Prelude.{ℕ, [], ◌≡◌, map, IfOk};
+ghost use Rattle.std.specs.Prelude.{ℕ, [], ◌≡◌, ◌↔◌, length, zip, IfOk, IsTrue};
 ghost use Rattle.regex.specs.Locations.{location};
 ghost use Rattle.entry_model.specs.Seen.{seen};
 ghost use Rattle.json_text.specs.Grammar.{put_all};
-ghost use Rattle.text_parsers.specs.Groups.{members_by, named_group, named_groups, taken};
+ghost use Rattle.text_parsers.specs.Groups.{members_by, named_groups, taken};
 ghost use Rattle.text_parsers.specs.ReadByDefault.{IsCleanSpan};
 ghost use Rattle.regex.specs.Strings.{regex_names};
 
-use crate::members::put;
+use crate::known_names::KnownNames;
+use crate::members::set;
 use entry_model::{Fields, Text};
 use regex::{CaptureLocations, Regex};
 use std::alloc::{AllocError, Global};
+use std::marker::Model;
 
-/// A group of a pattern that has a name.
+/// The groups of a pattern that have names, in their order.
 #[derive(Drop)]
-pub struct Group {
-    pub number: usize,
-    pub name: Text,
+pub struct Groups {
+    numbers: Vec<usize>,
+    names: KnownNames,
 }
 
-/// The groups of the pattern that have names, in their order.
-pub fn groups_of(alloc: Global, regex: &Regex) -> Result<Vec<Group>, AllocError>
-    ensures { IfOk result (λ groups. map named_group groups.items ≡ named_groups (regex_names regex.now)) }
+impl Model for Groups {
+    ghost use Rattle.std.specs.Prelude.{◌≡◌, List, length, zip};
+    ghost use Rattle.text_parsers.specs.Groups.{NamedGroup};
+
+    ghost Value = { List NamedGroup };
+
+    ghost view = { λ groups. zip groups.numbers.items groups.names };
+
+    ghost invariant = { λ groups. length groups.numbers.items ≡ length groups.names };
+}
+
+impl Groups {
+    pub fn is_empty(&self) -> bool
+        ensures { IsTrue result ↔ (self.now ≡ []) }
+    {
+        self.numbers.is_empty()
+    }
+}
+
+/// The groups of the pattern that have names.
+pub fn groups_of(alloc: Global, regex: &Regex) -> Result<Groups, AllocError>
+    ensures { IfOk result (λ groups. groups ≡ named_groups (regex_names regex.now)) }
 {
-    let mut groups = Vec::new(alloc);
-    let Some((_, names)) = regex.capture_names().split_first() else {
-        return Ok(groups);
+    let mut numbers = Vec::new(alloc);
+    let mut names = Vec::new(alloc);
+    let Some((_, all)) = regex.capture_names().split_first() else {
+        return with_names(alloc, numbers, &names);
     };
-    for (index, name) in names.iter().enumerate() {
+    for (index, name) in all.iter().enumerate() {
         if let Some(name) = name {
             let name = Text::from_str(alloc, name.as_str())?;
-            groups.push(Group {
-                number: index + 1,
-                name,
-            })?;
+            names.push(name)?;
+            numbers.push(index + 1)?;
         }
     }
-    Ok(groups)
+    with_names(alloc, numbers, &names)
+}
+
+fn with_names(alloc: Global, numbers: Vec<usize>, names: &[Text]) -> Result<Groups, AllocError>
+    requires { length numbers.items ≡ length names.now }
+    ensures { IfOk result (λ groups. groups ≡ zip numbers.items names.now) }
+{
+    let names = KnownNames::new(alloc, names)?;
+    Ok(Groups { numbers, names })
 }
 
 /// The texts at the spans of these groups.
 pub fn name_groups(
     alloc: Global,
-    groups: &[Group],
+    groups: &Groups,
     locations: &CaptureLocations,
     text: &str,
 ) -> Result<Fields, AllocError>
     requires { (number : ℕ) → IsCleanSpan text.now (location locations.now number) }
-    ensures { IfOk result (λ members. seen members.entries ≡ put_all [] (members_by (location locations.now) text.now (map named_group groups.now))) }
+    ensures { IfOk result (λ members. seen members.entries ≡ put_all [] (members_by (location locations.now) text.now groups.now)) }
 {
-    let mut members = Fields::new(alloc);
-    for group in groups {
-        let taken = group_text(locations, group.number, text);
-        let name = group.name.share()?;
-        put(alloc, &mut members, name, taken)?;
+    let mut members = groups.names.unset(alloc)?;
+    let places = groups.names.places();
+    for (index, number) in groups.numbers.iter().enumerate() {
+        let taken = group_text(locations, *number, text);
+        set(alloc, &mut members, places[index], taken)?;
     }
     Ok(members)
 }

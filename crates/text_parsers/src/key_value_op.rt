@@ -16,7 +16,7 @@ use crate::blanks::{blanks_before, trim};
 use crate::cuts::{Delimiter, first_cut};
 use crate::members::put;
 use crate::quotes::{unclosed_quote, unquote};
-use entry_model::{Fields, Text, Value};
+use entry_model::{Fields, FieldsBuilder, Text, Value};
 use std::alloc::{AllocError, Global};
 use std::marker::Model;
 
@@ -80,7 +80,7 @@ impl KeyValueOp {
         if let Some(at) = unclosed_quote(text) {
             return Err(ParseFault::Syntax { at });
         }
-        let mut members = Fields::new(alloc);
+        let mut members = FieldsBuilder::new(alloc);
         let mut rest = text;
         let mut at = 0;
         'pieces: while let Some(cut) = first_cut(&self.between, rest) {
@@ -97,7 +97,10 @@ impl KeyValueOp {
         if members.is_empty() {
             return Err(ParseFault::NoDelimiter { at: 0 });
         }
-        Ok(members)
+        match members.finish() {
+            Ok(members) => Ok(members),
+            Err(_) => Err(ParseFault::Memory),
+        }
     }
 }
 
@@ -105,7 +108,7 @@ impl KeyValueOp {
 fn take_piece(
     alloc: Global,
     within: &Delimiter,
-    members: &mut Fields,
+    members: &mut FieldsBuilder,
     at: usize,
     raw: &str,
 ) -> Result<(), ParseFault>

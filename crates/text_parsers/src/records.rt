@@ -1,11 +1,10 @@
 // The records of a CSV text.
-ghost use Rattle.std.specs.Prelude.{◌≡◌, ◌<◌, ◌==◌, ◌||◌, ◌∷◌, [], ℕ, length, slice_index, IsTrue, IfOk, IfErr};
-ghost use Rattle.std.specs.List.{list_all, list_any};
+ghost use Rattle.std.specs.Prelude.{◌≡◌, ◌||◌, [], ℕ, IfOk, IfErr};
+ghost use Rattle.std.specs.List.{list_any};
 ghost use Rattle.csv.specs.Machine as machine;
 ghost use Rattle.csv.specs.Reading.{strip_bom};
 ghost use Rattle.csv.specs.Records.{fields_of, partial_of};
-ghost use Rattle.text_parsers.specs.CsvRecords.{config_with, records_of, parts_of};
-ghost use Rattle.text_parsers.specs.Inner.Plain.{is_plain as is_plain_byte};
+ghost use Rattle.text_parsers.specs.CsvRecords.{config_with, records_of};
 ghost use Rattle.text_parsers.specs.Split.{IsSplit};
 ghost use Rattle.text_parsers.specs.FirstRecord.{state_of, is_line_end as ends_line, is_other, IsStep, Takes, IsFirst, HasEnded};
 ghost use Rattle.text_parsers.specs.declared.fault.ParseFault.TheVariants.{Memory};
@@ -54,41 +53,6 @@ pub struct Reading {
     field: Vec<u8>,
     /// The fields before it.
     row: ByteRecord,
-}
-
-/// Whether the text is one record whose fields are its parts between delimiters, whatever the delimiter: one that isn't
-/// empty, without a quote, CR, LF or a byte order mark in front.
-pub fn has_plain_record(text: &str) -> bool
-    ensures { IsTrue result → (delimiter : ℕ) → records_of delimiter text.now ≡ parts_of delimiter text.now ∷ [] }
-{
-    let bytes = text.as_bytes();
-    if bytes.is_empty() {
-        return false;
-    }
-    if may_be_mark(bytes) {
-        return false;
-    }
-    is_plain_text(bytes)
-}
-
-/// Whether it begins with the first byte of a byte order mark.
-fn may_be_mark(bytes: &[u8]) -> bool
-    requires { 0 < length bytes.now }
-    ensures { result ≡ (slice_index bytes.now 0 == 239) }
-{
-    bytes[0] == 0xef
-}
-
-fn is_plain_text(bytes: &[u8]) -> bool
-    ensures { result ≡ list_all is_plain_byte bytes.now }
-{
-    bytes.iter().all(|byte| is_plain(*byte))
-}
-
-fn is_plain(byte: u8) -> bool
-    ensures { result ≡ is_plain_byte byte }
-{
-    byte != b'"' && byte != b'\r' && byte != b'\n'
 }
 
 /// The first record of the text as the crate `csv` reads it, and whether there are more.

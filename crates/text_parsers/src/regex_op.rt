@@ -5,7 +5,7 @@ ghost use Rattle.entry_model.specs.Seen.{seen};
 ghost use Rattle.text_parsers.specs.Groups.{named_groups, is_shallow, names_in, reading, IsMatchedText, IsMatchFault, IsRefused};
 ghost use Rattle.text_parsers.specs.TextValue.{IsTextWith, IsValueFault};
 
-use crate::groups::{Group, groups_of};
+use crate::groups::{Groups, groups_of};
 use crate::search::{Pattern, Search};
 use crate::{ParseFault, RegexFault};
 use entry_model::{Fields, Value};
@@ -18,20 +18,20 @@ use std::marker::Model;
 pub struct RegexOp {
     /// Never freed, so that a search can be kept beside it.
     pattern: &'static Pattern,
-    groups: Vec<Group>,
+    groups: Groups,
     kept: RefCell<Search<'static>>,
 }
 
 impl Model for RegexOp {
-    ghost use Rattle.std.specs.Prelude.{◌≡◌, ℕ, List, map};
+    ghost use Rattle.std.specs.Prelude.{◌≡◌, ℕ, List};
     ghost use Rattle.regex.specs.Strings.{regex_source, regex_names};
-    ghost use Rattle.text_parsers.specs.Groups.{named_groups, named_group};
+    ghost use Rattle.text_parsers.specs.Groups.{named_groups};
 
     ghost Value = { List ℕ };
 
     ghost view = { λ op. regex_source op.pattern.now.regex };
 
-    ghost invariant = { λ op. map named_group op.groups.items ≡ named_groups (regex_names op.pattern.now.regex) };
+    ghost invariant = { λ op. op.groups ≡ named_groups (regex_names op.pattern.now.regex) };
 }
 
 impl RegexOp {

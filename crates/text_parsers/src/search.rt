@@ -4,7 +4,7 @@ ghost use Rattle.regex.specs.Locations.{location_count};
 ghost use Rattle.regex.specs.Strings.{matcher_pattern, regex_pattern, group_count};
 ghost use Rattle.text_parsers.specs.ReadByDefault.{IsReadByDefault};
 
-use crate::groups::{Group, name_groups};
+use crate::groups::{Groups, name_groups};
 use crate::{ParseFault, RegexFault};
 use entry_model::Fields;
 use regex::{CaptureLocations, Matcher, Regex};
@@ -52,11 +52,11 @@ impl Pattern {
 }
 
 impl<'p> Search<'p> {
-    ghost use Rattle.std.specs.Prelude.{map, IfOk, IfErr};
+    ghost use Rattle.std.specs.Prelude.{IfOk, IfErr};
     ghost use Rattle.regex.specs.Strings.{regex_source, regex_names};
     ghost use Rattle.entry_model.specs.Datum.{members_of};
     ghost use Rattle.entry_model.specs.Seen.{seen};
-    ghost use Rattle.text_parsers.specs.Groups.{named_groups, named_group, IsMatchedText, IsMatchFault};
+    ghost use Rattle.text_parsers.specs.Groups.{named_groups, IsMatchedText, IsMatchFault};
 
     pub fn new(alloc: Global, pattern: &'p Pattern) -> Result<Search<'p>, AllocError>
         ensures { IfOk result (λ search. search.pattern.now ≡ pattern.now) }
@@ -74,10 +74,10 @@ impl<'p> Search<'p> {
     pub fn members(
         &mut self,
         alloc: Global,
-        groups: &[Group],
+        groups: &Groups,
         text: &str,
     ) -> Result<Fields, ParseFault>
-        requires { map named_group groups.now ≡ named_groups (regex_names self.old.pattern.now.regex) }
+        requires { groups.now ≡ named_groups (regex_names self.old.pattern.now.regex) }
         ensures ok { IfOk result (λ members. IsMatchedText (regex_source self.old.pattern.now.regex) (members_of (seen members.entries)) text.now) }
         ensures fault { IfErr result (IsMatchFault (regex_source self.old.pattern.now.regex) text.now) }
     {

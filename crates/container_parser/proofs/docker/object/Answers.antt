@@ -1,5 +1,5 @@
 use Rattle.std.proofs.Common.{ℕ, List, ◌∙◌, ap, sym, subst}
-use Rattle.std.specs.BTreeMap.{BTreeMap}
+use Rattle.entry_model.specs.ByName.{ByName}
 use Rattle.entry_model.proofs.Data.{datum_map}
 use Rattle.entry_model.specs.Datum.{Datum, datum, fields, members_of}
 use Rattle.entry_model.specs.Seen.{seen}
@@ -11,5 +11,5 @@ pub returns-in-Ok-Map-clause-ok : goal.returns-in-Ok-Map-clause-ok
 returns-in-Ok-Map-clause-ok c =
     let arm = c.in-Ok-Map in
     subst (λ (d : Datum). IsText 64 c.args.text.now d)
-    (ap datum arm.field-0-is ∙ datum_map arm.members ∙ ap (λ (m : BTreeMap (List ℕ) Value). fields (members_of (seen m.entries))) (sym arm.members-is))
+    (ap datum arm.field-0-is ∙ datum_map arm.members ∙ ap (λ (m : ByName Value). fields (members_of (seen m.entries))) (sym arm.members-is))
     arm.ensures.ok

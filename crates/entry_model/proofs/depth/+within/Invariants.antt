@@ -12,6 +12,6 @@ invariant-values_within-loop-value l = record {
 
 abbrev pub invariant-fields_within-loop-key : goal.invariant-fields_within-loop-key
 invariant-fields_within-loop-key l = record {
-  depth : (members_nesting (members_of (seen l.key-iterator)) ≤ l.levels) ↔ (members_nesting (members_of (seen l.fields.entries)) ≤ l.levels);
-  lawful : AreLawfulMembers (members_of (seen l.key-iterator)) → AreLawfulMembers (members_of (seen l.fields.entries));
+  depth : (members_nesting (members_of (seen (drop l.key-index l.key-items))) ≤ l.levels) ↔ (members_nesting (members_of (seen l.key-items)) ≤ l.levels);
+  lawful : AreLawfulMembers (members_of (seen (drop l.key-index l.key-items))) → AreLawfulMembers (members_of (seen l.key-items));
 }

@@ -29,5 +29,5 @@ returns-clause-ok c =
     let there = held (datum c.args.holder.now) c.in-Map.members c.args.name.now same ∙ ap (option_map datum) (sym c.in-Some.ensures.value) in (
       members_seen c.in-Map-member.raised.entries,
       there ∙ ap (λ (v : Value). Some (datum v)) c.in-Map-member.is ∙ ap Some (datum_map c.in-Map-member.raised),
-      raised_held (datum c.args.holder.now) c.in-Map.members c.remove.new.self c.raise.new.members c.in-Map-member.raised c.args.name.now same c.remove.ensures.entries c.in_ok-raise.ensures,
+      raised_held (datum c.args.holder.now) c.in-Map.members c.remove.new.self c.in_ok-all.all c.in-Map-member.raised c.args.name.now same c.remove.ensures.entries c.in_ok-all.ensures,
     )

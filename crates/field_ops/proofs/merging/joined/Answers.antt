@@ -5,4 +5,4 @@ pub put_absent-requires-clause-held : goal.put_absent-requires-clause-held
 put_absent-requires-clause-held c = keys_ascend c.in-Some-Map.held.entries c.len.ensures.ordered
 
 pub put_absent-requires-clause-members : goal.put_absent-requires-clause-members
-put_absent-requires-clause-members c = keys_ascend c.args.members.entries c.len-2.ensures.ordered
+put_absent-requires-clause-members c = keys_ascend c.args.members.entries c.len-then-len-le-FEW-2.ensures.ordered

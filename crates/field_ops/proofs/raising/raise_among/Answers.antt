@@ -11,8 +11,8 @@ put-requires c =
     let nulled = members_seen c.take_map.new.members.entries in
     null_there c.args.name.now (members_seen c.args.members.now.entries) nulled nulled c.in_ok-raised.ensures.taken refl
 
-pub returns-then-not-are_disjoint-clause-unchanged : goal.returns-then-not-are_disjoint-clause-unchanged
-returns-then-not-are_disjoint-clause-unchanged c = λ _.
+pub returns-then-not-fit_in_place-clause-unchanged : goal.returns-then-not-fit_in_place-clause-unchanged
+returns-then-not-fit_in_place-clause-unchanged c = λ _.
     let raised = c.in_ok-raised.raised in
     let nulled = members_seen c.take_map.new.members.entries in
     put_back c.args.name.now (datum (value.Map raised)) (members_seen c.args.members.now.entries) nulled nulled (members_seen c.put.new.members.entries)
@@ -37,5 +37,5 @@ returns-clause-ok c = λ _.
       c.in_ok-raised.ensures.ok,
       raised_in_place c.args.name.now raised (members_seen c.args.members.now.entries) (members_seen c.take_map.new.members.entries)
           (members_seen c.reserve.new.members.entries) (members_seen c.fill.new.members.entries) (members_seen c.remove.new.members.entries) c.in_ok-raised.ensures.ascend
-          (c.are_disjoint.ensures c.if-not-are_disjoint.false) c.in_ok-raised.ensures.taken c.in_default.ensures.put c.fill.ensures c.remove.ensures,
+          (c.fit_in_place.ensures c.if-not-fit_in_place.false) c.in_ok-raised.ensures.taken c.in_default.ensures.put c.fill.ensures c.remove.ensures,
     )

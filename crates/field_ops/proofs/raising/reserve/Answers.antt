@@ -1,15 +1,14 @@
-use Rattle.std.proofs.Common.{◌∙◌, ap, subst, ℕ, List}
+use Rattle.std.proofs.Common.{◌+◌, ◌∙◌, ap, subst, drop, ℕ, List}
+use Rattle.std.proofs.lemmas.List.{drop_all}
 use Rattle.entry_model.specs.declared.value.Value.{Value}
 use Rattle.field_paths.specs.MapOf.{members_seen}
 use Rattle.field_ops.specs.Inner.Names.{without_members}
 use Rattle.field_ops.proofs.Raised.{Put, none_put, all_put, disjoint_left}
-use Rattle.field_ops.proofs.Entered.{one_reserved}
+use Rattle.field_ops.proofs.Entered.{left_from, one_reserved}
 use Rattle.field_ops.proofs.raising.reserve.Goals as goal
 
 pub loop-name-init : goal.loop-name-init
-loop-name-init c =
-    rw (c.into_iter-name-iterator.ensures.into_iter_gives, c.iter-name-items.ensures.rest)
-    (none_put (members_seen c.args.raised.now.entries) (members_seen c.args.members.now.entries))
+loop-name-init c = rw c.members-name-items.ensures.members (none_put (members_seen c.args.raised.now.entries) (members_seen c.args.members.now.entries))
 
 pub returns-in-Err-clause-err : goal.returns-in-Err-clause-err
 returns-in-Err-clause-err c =
@@ -19,9 +18,12 @@ returns-in-Err-clause-err c =
 
 pub loop-name-preserved : goal.loop-name-preserved
 loop-name-preserved c =
-    one_reserved c.in-Some.name.now c.in-Some._value.now c.loop-name.name-iterator c.next.new.self
-    (members_seen c.args.raised.now.entries) (members_seen c.args.members.now.entries) (members_seen c.loop-name.members.entries) (members_seen c.reserve_name.new.members.entries)
-    c.in-Some.ensures.steps c.in_default.ensures.ok c.in_default.ensures.ascend c.loop-name.invariant
+    let all = c.members-name-items.result.now in
+    let i = c.loop-name.name-index in
+    let e = c.loop-name-item.result in
+    one_reserved e.0 e.1 (drop i all) (drop (i + 1) all) (members_seen c.args.raised.now.entries) (members_seen c.args.members.now.entries)
+    (members_seen c.loop-name.members.entries) (members_seen c.reserve_name.new.members.entries) (left_from all i e c.loop-name-test.true c.loop-name-item.is)
+    c.in_default.ensures.ok c.in_default.ensures.ascend c.loop-name.invariant
 
 pub returns-clause-put : goal.returns-clause-put
 returns-clause-put c = c.loop-name.invariant.put
@@ -31,4 +33,5 @@ returns-clause-named c =
     let raised = members_seen c.args.raised.now.entries in
     let before = members_seen c.args.members.now.entries in
     let now = members_seen c.loop-name.members.entries in
-    all_put raised before now (subst (λ (left : List (List ℕ × Value)). Put raised before (members_seen left) now) c.in-None.ensures.steps.0 c.loop-name.invariant)
+    all_put raised before now
+    (subst (λ (left : List (List ℕ × Value)). Put raised before (members_seen left) now) (drop_all c.loop-name.name-index c.members-name-items.result.now c.loop-name-test.false) c.loop-name.invariant)

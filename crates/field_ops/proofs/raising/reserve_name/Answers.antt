@@ -21,7 +21,7 @@ returns-clause-ok c =
     on_ok_weaker c.insert.result
     (λ put. ap members_seen (put ∙ ap (λ (name : List ℕ). insert_entry (slice_cmp nat_cmp) es name value.Null) c.in_ok-share.ensures) ∙ sym (with_member-seen c.args.name.now value.Null es)
     ∙ ap (λ (d : Datum). with_member c.args.name.now d (members_seen es)) datum_null)
-    c.insert.ensures.ok
+    c.insert.ensures.entries
 
 pub returns-clause-ascend : goal.returns-clause-ascend
 returns-clause-ascend c = keys_ascend c.args.members.now.entries c.len-len.ensures.ordered

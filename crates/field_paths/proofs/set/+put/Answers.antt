@@ -1,5 +1,6 @@
 use Rattle.std.proofs.Common.{◌≡◌, ◌∷◌, ◌∙◌, ap, None, sym, ℕ, List, length}
-use Rattle.std.specs.BTreeMap.{BTreeMap, insert_entry}
+use Rattle.std.specs.BTreeMap.{insert_entry}
+use Rattle.entry_model.specs.ByName.{ByName}
 use Rattle.std.specs.Ordering.{nat_cmp}
 use Rattle.std.specs.Cmp.Lexicographic.{slice_cmp}
 use Rattle.entry_model.specs.declared.value.Value.{Value}
@@ -48,6 +49,6 @@ put_member-returns-clause-ok t c =
     let name = c.args.name.now in
     let made = c.in_ok-member.member in
     let same = c.in_ok-insert-2.ensures.ok
-    ∙ ap (λ (members : BTreeMap (List ℕ) Value). insert_entry (slice_cmp nat_cmp) members.entries name made) c.get_mut.follows.holds-at-none in
+    ∙ ap (λ (members : ByName Value). insert_entry (slice_cmp nat_cmp) members.entries name made) c.get_mut.follows.holds-at-none in
     member_made name c.args.members.now.entries c.insert-2.new.fields.entries made c.args.names.now (datum c.args.value)
     (sym c.in_default.ensures.value) same c.in_ok-member.ensures

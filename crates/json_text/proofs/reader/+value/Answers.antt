@@ -48,7 +48,7 @@ list-returns t c =
 
 pub map-returns-then-stands : goal.map-returns-then-stands
 map-returns-then-stands t c =
-    reads_as c.args.text.now c.args.at (c.skip_blanks-at.result + 1) (suc c.args.room) (λ frames. state opened_map frames c.args.room) _ _ (no_members_in c.new.result c.new.ensures.empty)
+    reads_as c.args.text.now c.args.at (c.skip_blanks-at.result + 1) (suc c.args.room) (λ frames. state opened_map frames c.args.room) _ _ (no_members_in c.new.result c.new.ensures)
     (map_empty c.args.text.now c.args.at c.skip_blanks-at.result c.args.room (let l : c.args.at ≤ length c.args.text.now = omega arith in l) c.skip_blanks-at.ensures (sym c.stands.ensures ∙ c.if-stands.true))
 
 pub map-returns : goal.map-returns
@@ -78,7 +78,7 @@ members-returns-in-Err-value t c =
 pub members-returns-then-stands : goal.members-returns-then-stands
 members-returns-then-stands t c =
     reads_as c.args.text.now c.args.at (c.skip_blanks-end.result + 1) (suc c.args.room) (λ frames. state (wants_name []) frames c.args.room) _ _
-    (map_put c.put.new.fields c.loop-read.fields.entries c.in-Ok.read.0 c.in-Ok-value.read.0 c.in_ok-put.ensures)
+    (map_put c.in_ok-members.members c.loop-read.fields.entries c.in-Ok.read.0 c.in-Ok-value.read.0 (c.in_ok-members.ensures ∙ c.in_ok-put.ensures))
     (map_closed c.args.text.now c.args.at c.in-Ok.read.1 c.in-Ok-value.read.1 c.skip_blanks-end.result c.args.room (datum c.in-Ok-value.read.0) (seen c.loop-read.fields.entries) c.in-Ok.read.0
     (λ frames. state (wants_name []) frames c.args.room)
     (named c.args.text.now c.args.at c.loop-read.place c.in-Ok.read.1 c.args.room (seen c.loop-read.fields.entries) c.in-Ok.read.0 c.loop-read.invariant.leads (c.in-Ok.ensures c.args.room))

@@ -9,4 +9,4 @@ invariant-items_have_integers-loop-value l =
 
 abbrev pub invariant-members_have_integers-loop-key : goal.invariant-members_have_integers-loop-key
 invariant-members_have_integers-loop-key l =
-    MembersHaveIntegers (members_of (map (λ field. (field.0, datum field.1)) l._key-iterator)) → MembersHaveIntegers (members_of (map (λ field. (field.0, datum field.1)) l.fields.entries))
+    MembersHaveIntegers (members_of (map (λ field. (field.0, datum field.1)) (drop l._key-index l._key-items))) → MembersHaveIntegers (members_of (map (λ field. (field.0, datum field.1)) l._key-items))

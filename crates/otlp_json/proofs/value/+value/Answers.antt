@@ -1,8 +1,11 @@
-use Rattle.std.proofs.Common.{rules, ◌≡◌, ◌++◌, ◌∙◌, ap, map, codes}
+use Rattle.std.proofs.Common.{arith, ◌≤◌, ◌++◌, ◌∙◌, ℕ, List, ap, codes, length}
 use Rattle.std.proofs.lemmas.List.{append_assoc}
-use Rattle.otlp_json.proofs.Appended.{last_extended, front_kept, front_trans}
-use Rattle.entry_model.specs.Datum.{datum, members_of}
-use Rattle.otlp_json.proofs.Opened.{opened, opened_is}
+use Rattle.otlp_json.proofs.Appended.{last_appended, last_extended, front_kept, front_trans}
+use Rattle.entry_model.specs.declared.value.Value.{Value, size-Value}
+use Rattle.field_paths.specs.MapOf.{members_seen}
+use Rattle.entry_model.proofs.Places.{lighter}
+use Rattle.std.proofs.lemmas.Bool.{false≢true}
+use Rattle.otlp_json.proofs.Opened.{opened, opened_is, bracketed, all_opened}
 use Rattle.entry_model.proofs.Data.{datum_text, datum_list, datum_map}
 use Rattle.otlp_json.proofs.value.+value.Goals as goal
 
@@ -10,12 +13,12 @@ pub append_items-returns-in_err-append_value-clause-front : goal.append_items-re
 append_items-returns-in_err-append_value-clause-front t c =
     let start = c.args.out.now.items in
     let now = c.loop-value.out.items in
-    let one = c.append_separator.new.out.items in
+    let one = c.append_run.new.out.items in
     let two = c.append_value.new.out.items in
-    front_trans start now two c.loop-value.invariant.front (front_kept now one two _ c.in_ok-append_separator.ensures.ok c.in_err-append_value.ensures.front)
+    front_trans start now two c.loop-value.invariant.front (front_kept now one two _ c.in_ok-append_run.ensures.ok c.in_err-append_value.ensures.front)
 
-pub append_opened_members-returns-in_err-append_member-clause-front : goal.append_opened_members-returns-in_err-append_member-clause-front
-append_opened_members-returns-in_err-append_member-clause-front t c =
+pub append_fields-returns-in_err-append_member-clause-front : goal.append_fields-returns-in_err-append_member-clause-front
+append_fields-returns-in_err-append_member-clause-front t c =
     front_trans c.args.out.now.items c.loop-key.out.items c.append_member.new.out.items c.loop-key.invariant.front c.in_err-append_member.ensures.front
 
 pub append_value-returns-in_ok-append_escaped-in-Text-clause-ok : goal.append_value-returns-in_ok-append_escaped-in-Text-clause-ok
@@ -32,16 +35,39 @@ append_value-returns-in_ok-append_items-in-List-clause-ok t c =
     (last_extended last.result c.append_items.new.out.items last.new.self.items (codes "]}}") _ last.ensures.items
     (rw (c.in_ok-append_items-in-List.ensures.ok, c.in_ok-extend_from_slice-in-List.ensures.items) (simp append_assoc)))
 
-pub append_value-returns-in_ok-append_members-in-Map-clause-ok : goal.append_value-returns-in_ok-append_members-in-Map-clause-ok
-append_value-returns-in_ok-append_members-in-Map-clause-ok t c =
+pub append_value-returns-in_ok-append_fields-in-Map-clause-ok : goal.append_value-returns-in_ok-append_fields-in-Map-clause-ok
+append_value-returns-in_ok-append_fields-in-Map-clause-ok t c =
     let last = c.extend_from_slice-in-Map-2 in
     rw (c.in-Map.is, datum_map c.in-Map.fields)
-    (last_extended last.result c.append_members.new.out.items last.new.self.items (codes "]}}") _ last.ensures.items
-    (rw (c.in_ok-append_members-in-Map.ensures.ok, c.in_ok-extend_from_slice-in-Map.ensures.items) (simp append_assoc)))
+    (last_extended last.result c.append_fields.new.out.items last.new.self.items (codes "}}") _ last.ensures.items
+    (rw (c.in_ok-append_fields-in-Map.ensures.ok, c.in_ok-extend_from_slice-in-Map.ensures.items) (simp append_assoc)))
 
-pub append_opened_members-returns-clause-ok : goal.append_opened_members-returns-clause-ok
-append_opened_members-returns-clause-ok t c before opening =
+pub append_fields-append_member-requires : goal.append_fields-append_member-requires
+append_fields-append_member-requires t c =
+    let light = lighter size-Value c.members-key-items.result.now c.args.fields.now.entries c.loop-key.key-index c.loop-key-item.result c.members-key-items.ensures.members c.loop-key-test.true c.loop-key-item.is in
+    omega (arith, light, c.decreases)
+
+pub append_fields-returns-clause-ok : goal.append_fields-returns-clause-ok
+append_fields-returns-clause-ok t c =
     let start = c.args.out.now.items in
-    let members = members_of (map (λ field. (field.0, datum field.1)) c.args.fields.now.entries) in
-    let whole : c.loop-key.out.items ≡ start ++ opened c.args.opening.now members = search rules in
-    whole ∙ ap (λ front. start ++ opened front members) opening ∙ ap (λ text. start ++ text) (opened_is before members)
+    let es = c.members-key-items.result.now in
+    let none_left : length es ≤ c.loop-key.key-index = omega (arith, c.loop-key-test.false) in
+    let whole =
+    all_opened c.loop-key.front.now (codes "[{\"key\":\"") start c.loop-key.out.items es c.loop-key.key-index none_left c.loop-key.invariant.so_far
+    ∙ ap (λ (es : List (List ℕ × Value)). start ++ opened (codes "[{\"key\":\"") (members_seen es)) c.members-key-items.ensures.members
+    ∙ ap (λ text. start ++ text) (opened_is (codes "[") (members_seen c.args.fields.now.entries))
+    ∙ ap (λ text. start ++ text) (bracketed c.args.fields.now.entries (λ none. false≢true (c.if-is_empty.ensures.1 none))) in
+    let last = c.extend_from_slice-2 in
+    last_extended last.result c.loop-key.out.items last.new.self.items (codes "]") _ last.ensures.items (rw whole (simp append_assoc))
+
+pub append_member-returns : goal.append_member-returns
+append_member-returns t c =
+    let start = c.args.out.now.items in
+    let opened = c.extend_from_slice.new.self.items in
+    let keyed = c.append_escaped.new.out.items in
+    let last = c.append_member_value in
+    record {
+      ok = last_appended last.result keyed last.new.out.items _ _ last.ensures.ok
+          (rw (c.in_ok-append_escaped.ensures.ok, c.in_ok-extend_from_slice.ensures.items, c.as_bytes-2.ensures.value) (simp append_assoc));
+      front = front_kept start opened last.new.out.items _ c.in_ok-extend_from_slice.ensures.items (front_kept opened keyed last.new.out.items _ c.in_ok-append_escaped.ensures.ok last.ensures.front);
+    }

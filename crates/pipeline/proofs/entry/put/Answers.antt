@@ -3,4 +3,4 @@ use Rattle.field_paths.proofs.Entries.{with_member-seen}
 use Rattle.pipeline.proofs.entry.put.Goals as goal
 
 pub returns : goal.returns
-returns c = rw c.in_ok-insert.ensures (sym (with_member-seen c.args.name c.args.value c.args.members.entries))
+returns c = rw c.in_ok-insert.ensures.entries (sym (with_member-seen c.args.name c.args.value c.args.members.entries))

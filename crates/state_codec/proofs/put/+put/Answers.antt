@@ -1,9 +1,11 @@
-use Rattle.std.proofs.Common.{◌<◌, ◌^◌, List, length, map, None}
+use Rattle.std.proofs.Common.{◌<◌, ◌^◌, List, length, map, None, arith}
 use Rattle.std.proofs.lemmas.List.{length-map}
 use Rattle.entry_model.specs.Datum.{Datum, datum, items_of, members_of}
 use Rattle.entry_model.specs.Seen.{seen}
 use Rattle.entry_model.proofs.Data.{datum_list, datum_map}
 use Rattle.entry_model.specs.Lawful.{KeysAscend}
+use Rattle.entry_model.specs.declared.value.Value.{size-Value}
+use Rattle.entry_model.proofs.Places.{lighter}
 use Rattle.state_codec.specs.Rules.{AreSpellable, AreSpellableMembers}
 use Rattle.state_codec.proofs.Counts.{keys_ascend, item_count-items_of, member_count-members_of, length-seen}
 use Rattle.state_codec.proofs.PutLemmas.{tagged, both_on_ok}
@@ -36,3 +38,8 @@ put_value-returns-in_ok-extend_from_slice-in-Map-clause-lawful t c =
 
 pub put_map-returns-clause-ascend : goal.put_map-returns-clause-ascend
 put_map-returns-clause-ascend t c = keys_ascend c.args.fields.now.entries c.len.ensures.ordered
+
+pub put_map-put_value-requires : goal.put_map-put_value-requires
+put_map-put_value-requires t c =
+    let light = lighter size-Value c.members-key-items.result.now c.args.fields.now.entries c.loop-key.key-index c.loop-key-item.result c.members-key-items.ensures.members c.loop-key-test.true c.loop-key-item.is in
+    omega (arith, light, c.decreases)

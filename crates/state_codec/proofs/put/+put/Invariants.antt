@@ -14,6 +14,6 @@ invariant-put_list-loop-value l = record {
 
 abbrev pub invariant-put_map-loop-key : goal.invariant-put_map-loop-key
 invariant-put_map-loop-key l = record {
-  so_far : l.out.items ++ members_spelling (members_of (seen l.key-iterator)) ≡ l.initial.out.items ++ members_spelling (members_of (seen l.fields.entries));
-  lawful : AreSpellableMembers (members_of (seen l.key-iterator)) → AreSpellableMembers (members_of (seen l.fields.entries));
+  so_far : l.out.items ++ members_spelling (members_of (seen (drop l.key-index l.key-items))) ≡ l.initial.out.items ++ members_spelling (members_of (seen l.key-items));
+  lawful : AreSpellableMembers (members_of (seen (drop l.key-index l.key-items))) → AreSpellableMembers (members_of (seen l.key-items));
 }

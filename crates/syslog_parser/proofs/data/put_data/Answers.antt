@@ -1,6 +1,9 @@
-use Rattle.std.proofs.Common.{◌∙◌, ap, sym}
+use Rattle.std.proofs.Common.{ℕ, List, ◌∙◌, ap, sym, codes}
+use Rattle.entry_model.specs.Datum.{fields, members_of}
 use Rattle.entry_model.specs.Seen.{seen}
+use Rattle.entry_model.specs.declared.value.Value.{Value}
 use Rattle.syslog_parser.specs.Inner.Reads.{StopsInElement, StopsInData}
+use Rattle.syslog_parser.specs.Told.{put}
 use Rattle.syslog_parser.proofs.ReadingData.{dash_read, data_fault, data_read}
 use Rattle.syslog_parser.proofs.Stops.{stops_so}
 use Rattle.syslog_parser.proofs.Words.{first_is}
@@ -19,4 +22,5 @@ pub returns-clause-ok : goal.returns-clause-ok
 returns-clause-ok c =
     data_read c.args.text.now (sym c.stands.ensures ∙ c.if-stands.false) c.in-Ok.rest.now
     (seen c.new-elements.result.entries) (seen c.put_elements.new.members.entries) (seen c.args.members.now.entries) (seen c.put_map.new.members.entries)
-    (ap seen c.new-elements.ensures.empty) c.in-Ok.ensures.ok c.in_ok-put_map.ensures
+    (ap seen c.new-elements.ensures) c.in-Ok.ensures.ok
+    (c.in_ok-put_map.ensures ∙ ap (λ (es : List (List ℕ × Value)). put (seen c.args.members.now.entries) (codes "structured_data", fields (members_of (seen es)))) c.in_ok-finish.ensures)

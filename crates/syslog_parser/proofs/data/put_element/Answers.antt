@@ -1,7 +1,10 @@
-use Rattle.std.proofs.Common.{◌∙◌, ap, sym}
+use Rattle.std.proofs.Common.{ℕ, List, ◌∙◌, ap, sym}
+use Rattle.entry_model.specs.Datum.{fields, members_of}
 use Rattle.entry_model.specs.Seen.{seen}
+use Rattle.entry_model.specs.declared.value.Value.{Value}
 use Rattle.syslog_parser.specs.Bytes.{is_name_byte}
 use Rattle.syslog_parser.specs.Inner.Reads.{HasNoWord, ends_id, StopsInParams, StopsInElement}
+use Rattle.syslog_parser.specs.Told.{put}
 use Rattle.syslog_parser.proofs.ReadingData.{bracket_fault, id_fault, params_fault, element_read}
 use Rattle.syslog_parser.proofs.Stops.{stops_so}
 use Rattle.syslog_parser.proofs.Words.{first_is}
@@ -28,4 +31,5 @@ returns-clause-ok c =
     element_read c.args.text.now c.cut.result.1.now (first_is c.args.text.now c.cut.result.1.now 91 (sym c.stands.ensures ∙ c.if-not-stands.false) c.cut.ensures.behind)
     c.in-Ok.read.0.now c.in-Ok.read.1.now c.in-Ok.ensures.ok c.in-Ok-put_params.rest.now
     (seen c.new-params.result.entries) (seen c.put_params.new.members.entries) (seen c.args.members.now.entries) (seen c.put_map.new.members.entries)
-    (ap seen c.new-params.ensures.empty) c.in-Ok-put_params.ensures.ok c.in_ok-put_map.ensures
+    (ap seen c.new-params.ensures) c.in-Ok-put_params.ensures.ok
+    (c.in_ok-put_map.ensures ∙ ap (λ (es : List (List ℕ × Value)). put (seen c.args.members.now.entries) (c.in-Ok.read.0.now, fields (members_of (seen es)))) c.in_ok-finish.ensures)

@@ -8,4 +8,4 @@ use Rattle.syslog_parser.proofs.members.put_map.Goals as goal
 pub returns : goal.returns
 returns c =
     seen_put c.insert.new.self.entries c.args.members.now.entries c.in_ok-name.name c.args.name.now (value.Map c.args.value) (fields (members_of (seen c.args.value.entries)))
-    c.in_ok-insert.ensures.entries c.in_ok-name.ensures (datum_map c.args.value)
+    c.in_ok-insert.ensures c.in_ok-name.ensures (datum_map c.args.value)

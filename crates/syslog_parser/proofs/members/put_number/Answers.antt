@@ -12,4 +12,4 @@ pub returns : goal.returns
 returns c =
     let same : to_z w64 c.args.value ≡ pos c.args.value = omega (arith, ints, c.ranges.value) in
     seen_put c.insert.new.self.entries c.args.members.now.entries c.in_ok-name.name c.args.name.now (value.Int (to_z w64 c.args.value)) (int (pos c.args.value))
-    c.in_ok-insert.ensures.entries c.in_ok-name.ensures (datum_int (to_z w64 c.args.value) ∙ ap int same)
+    c.in_ok-insert.ensures c.in_ok-name.ensures (datum_int (to_z w64 c.args.value) ∙ ap int same)

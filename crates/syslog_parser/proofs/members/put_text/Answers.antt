@@ -7,4 +7,4 @@ use Rattle.syslog_parser.proofs.members.put_text.Goals as goal
 pub returns : goal.returns
 returns c =
     seen_put c.insert.new.self.entries c.args.members.now.entries c.in_ok-name.name c.args.name.now (value.Text c.args.value) (text c.args.value)
-    c.in_ok-insert.ensures.entries c.in_ok-name.ensures (datum_text c.args.value)
+    c.in_ok-insert.ensures c.in_ok-name.ensures (datum_text c.args.value)

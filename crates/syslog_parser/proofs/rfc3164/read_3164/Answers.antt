@@ -1,4 +1,4 @@
-use Rattle.std.proofs.Common.{List, ℕ, ℤ, ap, subst}
+use Rattle.std.proofs.Common.{List, ℕ, ℤ, ◌∙◌, ap, subst}
 use Rattle.std.proofs.lemmas.Int.{to_z-of_z}
 use mir.Syntax.{w32}
 use Rattle.entry_model.specs.Seen.{seen}
@@ -33,5 +33,5 @@ pub returns-clause-ok : goal.returns-clause-ok
 returns-clause-ok c =
     tells_3164 c.args.year c.args.location c.args.text.now c.in-Some.dated.now c.in-Some-read_date.named.now c.in-Some.priority c.in-Some-read_date.instant c.in-Some.ensures.some
     (subst (λ (z : ℤ). IsDate c.args.year z c.in-Some.dated.now c.in-Some-read_date.instant c.in-Some-read_date.named.now) (to_z-of_z w32 c.args.location c.ranges.location) c.in-Some-read_date.ensures.some)
-    (tail_of c.in-Ok.sender) (seen c.new-fields.result.entries) (seen c.put_priority.new.members.entries) (seen c.put_sender.new.members.entries)
-    c.in-Ok.ensures.ok (ap seen c.new-fields.ensures.empty) c.in_ok-put_priority.ensures c.in_ok-put_sender.ensures
+    (tail_of c.in-Ok.sender) (seen c.new-fields.result.entries) (seen c.put_priority.new.members.entries) (seen c.in_ok-finish.field-0.entries)
+    c.in-Ok.ensures.ok (ap seen c.new-fields.ensures) c.in_ok-put_priority.ensures (ap seen c.in_ok-finish.ensures ∙ c.in_ok-put_sender.ensures)

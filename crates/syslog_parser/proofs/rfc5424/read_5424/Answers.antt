@@ -1,7 +1,9 @@
-use Rattle.std.proofs.Common.{None, ap, sym, subst}
+use Rattle.std.proofs.Common.{ℕ, List, None, ap, sym, subst}
 use Rattle.entry_model.specs.Seen.{seen}
+use Rattle.entry_model.specs.declared.value.Value.{Value}
 use Rattle.syslog_parser.specs.declared.fault.SyslogFault.{SyslogFault}
 use Rattle.syslog_parser.specs.Faults.{IsFault5424}
+use Rattle.syslog_parser.specs.Inner.Reads.{PutsTail}
 use Rattle.syslog_parser.proofs.Tops.{no_time, header_within, header_faulty, data_within, data_faulty, tells_5424}
 use Rattle.syslog_parser.proofs.rfc5424.read_5424.Goals as goal
 
@@ -30,12 +32,13 @@ in_structured-requires c =
     data_within c.args.text.now c.in-Some.versioned.now c.in-Some-read_version.timed.now c.in-Some-read_time.named.now c.in-Some.priority c.in-Some-read_time.timestamp c.in-Some.ensures.some c.in-Some-read_version.ensures.some c.in-Some-read_time.ensures.some
     c.in-Ok.rest.now c.in-Ok.ensures.ok.values c.in-Ok.ensures.ok.fields c.in-Err-put_tail.stop c.in-Err-put_tail.ensures.fault
 
-pub returns-in-Ok-put_tail-clause-ok : goal.returns-in-Ok-put_tail-clause-ok
-returns-in-Ok-put_tail-clause-ok c =
+pub returns-in_ok-finish-in-Ok-put_tail-clause-ok : goal.returns-in_ok-finish-in-Ok-put_tail-clause-ok
+returns-in_ok-finish-in-Ok-put_tail-clause-ok c =
     tells_5424 c.args.text.now c.in-Some.versioned.now c.in-Some-read_version.timed.now c.in-Some-read_time.named.now c.in-Some.priority c.in-Some-read_time.timestamp c.in-Some.ensures.some c.in-Some-read_version.ensures.some c.in-Some-read_time.ensures.some
     c.in-Ok.rest.now c.in-Ok.ensures.ok.values c.in-Ok.ensures.ok.fields
-    (seen c.new-fields.result.entries) (seen c.put_priority.new.members.entries) (seen c.put_number.new.members.entries) (seen c.put_header.new.members.entries) (seen c.put_tail.new.members.entries)
-    (ap seen c.new-fields.ensures.empty) c.in_ok-put_priority.ensures c.in_ok-put_number.ensures c.in-Ok.ensures.ok.told c.in-Ok-put_tail.ensures.ok
+    (seen c.new-fields.result.entries) (seen c.put_priority.new.members.entries) (seen c.put_number.new.members.entries) (seen c.put_header.new.members.entries) (seen c.in_ok-finish-in-Ok-put_tail.field-0.entries)
+    (ap seen c.new-fields.ensures) c.in_ok-put_priority.ensures c.in_ok-put_number.ensures c.in-Ok.ensures.ok.told
+    (subst (λ (es : List (List ℕ × Value)). PutsTail c.in-Ok.rest.now (seen c.put_header.new.members.entries) (seen es)) (sym c.in_ok-finish-in-Ok-put_tail.ensures) c.in-Ok-put_tail.ensures.ok)
 
 pub returns-in-Err-put_tail-clause-fault : goal.returns-in-Err-put_tail-clause-fault
 returns-in-Err-put_tail-clause-fault c =

@@ -1,4 +1,4 @@
-use Rattle.std.proofs.Common.{ap, sym, drop, ◌∙◌}
+use Rattle.std.proofs.Common.{ap, sym, ◌∙◌}
 use Rattle.std.proofs.lemmas.List.{take_rest}
 use Rattle.std.specs.List.{list_any}
 use Rattle.text_parsers.specs.FirstRecord.{is_other}

@@ -1,8 +1,9 @@
-use Rattle.std.proofs.Common.{◌+◌, ◌∙◌, ap, sym, length, length-drop, arith}
+use Rattle.std.proofs.Common.{ℕ, List, ◌+◌, ◌∙◌, ap, sym, subst, length, length-drop, arith}
 use Rattle.std.proofs.lemmas.Bool.{false≢true}
-use Rattle.std.proofs.lemmas.List.{nil_from_length}
+use Rattle.entry_model.specs.Datum.{members_of}
 use Rattle.entry_model.specs.Seen.{seen}
-use Rattle.text_parsers.specs.Pairs.{unclosed}
+use Rattle.entry_model.specs.declared.value.Value.{Value}
+use Rattle.text_parsers.specs.Pairs.{IsPairsText, no_memory, unclosed}
 use Rattle.text_parsers.proofs.Ends.{front_is}
 use Rattle.text_parsers.proofs.Taking.{nothing_read, or_memory}
 use Rattle.text_parsers.proofs.Reading.{read_more, fault_in_piece, fault_at_end, none_at_all, all_pairs}
@@ -15,7 +16,7 @@ pub pieces-init : goal.pieces-init
 pieces-init c = record {
   utf8 = c.utf8.text;
   size = omega arith;
-  read = nothing_read c.args.self.now c.args.text.now (seen c.new-members.result.entries) (ap seen c.new-members.ensures.empty);
+  read = nothing_read c.args.self.now c.args.text.now (seen c.new-members.result.entries) (ap seen c.new-members.ensures);
 }
 
 pub returns-in-Err-clause-fault : goal.returns-in-Err-clause-fault
@@ -50,10 +51,14 @@ pub returns-then-is_empty-clause-fault : goal.returns-then-is_empty-clause-fault
 returns-then-is_empty-clause-fault c =
     none_at_all c.args.self.now c.self.inside.within c.self.inside.between c.self.view_is c.args.text.now c.pieces.rest.now c.pieces.at (seen c.pieces.members.entries) c.pieces.invariant.read
     c.in_default-first_cut.ensures.uncut c.in_default.ensures.closed c.take_piece-2.new.members.entries c.in_default-take_piece-2.ensures.ok
-    (nil_from_length c.take_piece-2.new.members.entries (c.is_empty.ensures.0 c.if-is_empty.true))
+    (c.is_empty.ensures.0 c.if-is_empty.true)
 
-pub returns-clause-ok : goal.returns-clause-ok
-returns-clause-ok c =
-    all_pairs c.args.self.now c.self.inside.within c.self.inside.between c.self.view_is c.args.text.now c.pieces.rest.now c.pieces.at (seen c.pieces.members.entries) c.pieces.invariant.read
+pub returns-in-Ok-clause-ok : goal.returns-in-Ok-clause-ok
+returns-in-Ok-clause-ok c =
+    subst (λ (es : List (List ℕ × Value)). IsPairsText c.args.self.now (members_of (seen es)) c.args.text.now) (sym c.in-Ok.ensures)
+    (all_pairs c.args.self.now c.self.inside.within c.self.inside.between c.self.view_is c.args.text.now c.pieces.rest.now c.pieces.at (seen c.pieces.members.entries) c.pieces.invariant.read
     c.in_default-first_cut.ensures.uncut c.in_default.ensures.closed c.take_piece-2.new.members.entries c.in_default-take_piece-2.ensures.ok
-    (λ e. false≢true (sym c.if-is_empty.false ∙ c.is_empty.ensures.1 (ap length e)))
+    (λ e. false≢true (sym c.if-is_empty.false ∙ c.is_empty.ensures.1 e)))
+
+pub returns-in-Err-finish-clause-fault : goal.returns-in-Err-finish-clause-fault
+returns-in-Err-finish-clause-fault c = no_memory

@@ -1,8 +1,7 @@
-use Rattle.std.proofs.Common.{ℕ, List, [], ◌∷◌, ◌+◌, ◌∙◌, ap, sym, refl, drop, length, Some, arith}
+use Rattle.std.proofs.Common.{ℕ, List, ◌+◌, ◌∙◌, ap, sym, refl, drop, length, Some, arith}
 use Rattle.std.proofs.lemmas.List.{at_drop_more, at_drop_all, drop_all}
 use Rattle.csv.specs.Machine.{next_record}
 use Rattle.csv.specs.Records.{fields_of}
-use Rattle.csv.specs.declared.parser.State.TheVariants as st
 use Rattle.text_parsers.specs.CsvRecords.{config_with}
 use Rattle.text_parsers.specs.FirstRecord.{state_of}
 use Rattle.text_parsers.proofs.records.Reading.first.Goals as goal

@@ -1,4 +1,4 @@
-use Rattle.std.proofs.Common.{ℕ, List, [], ◌∷◌, ◌++◌, ◌∙◌, ap, sym, refl, Some}
+use Rattle.std.proofs.Common.{ℕ, List, [], ◌∙◌, ap, sym, refl, Some}
 use Rattle.csv.specs.Machine.{next_record, step}
 use Rattle.csv.specs.Records.{fields_of}
 use Rattle.csv.specs.declared.parser.State.TheVariants as st

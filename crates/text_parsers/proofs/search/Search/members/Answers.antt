@@ -1,4 +1,4 @@
-use Rattle.std.proofs.Common.{◌≡◌, ℕ, ◌<◌, ◌∙◌, ap, sym, subst, List, All, Option, None, Some, length, map, option_map, arith}
+use Rattle.std.proofs.Common.{◌≡◌, ℕ, ◌<◌, ◌∙◌, ap, sym, subst, List, All, Option, None, Some, length, option_map, arith}
 use Rattle.std.proofs.Math.Logic.{∥∥₁_elim}
 use Rattle.std.proofs.lemmas.List.{get_or_default, get_or_past, length-map}
 use Rattle.std.specs.String.{string_bytes}
@@ -11,7 +11,7 @@ use Rattle.regex.specs.Strings.{matcher_pattern, regex_source}
 use Rattle.regex.specs.Views.{engine_width}
 use Rattle.entry_model.specs.Code.{members_code}
 use Rattle.entry_model.specs.Seen.{seen}
-use Rattle.text_parsers.specs.Groups.{named_group, reading, found_in}
+use Rattle.text_parsers.specs.Groups.{reading, found_in}
 use Rattle.std.specs.Str.{IsCharBoundary}
 use Rattle.text_parsers.specs.ReadByDefault.{IsCleanSpan}
 use Rattle.text_parsers.proofs.Matching.{no_match, some_match, matched, none_of, some_of, locations_are_clean}
@@ -60,5 +60,5 @@ returns-in-Ok-clause-ok c =
       is = n.1;
       members_are = ∥∥₁_elim search.same (Coded-set members_code _ _) (λ same. ∥∥₁_elim search.pattern.now.read (Coded-set members_code _ _) (λ read.
           matched (regex_source regex) text regex.pattern.program.hir names small (rw read.0 at read.1) (matcher_pattern search.matcher) same found.0 found.1 n.0 n.1
-          (location locations) (location_count locations) count found.2.1.1 (map named_group c.args.groups.now) c.requires (seen c.in-Ok.members.entries) c.in-Ok.ensures));
+          (location locations) (location_count locations) count found.2.1.1 c.args.groups.now c.requires (seen c.in-Ok.members.entries) c.in-Ok.ensures));
     }

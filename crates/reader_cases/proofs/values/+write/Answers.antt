@@ -1,0 +1,9 @@
+use Rattle.std.proofs.Common.{arith}
+use Rattle.entry_model.specs.declared.value.Value.{size-Value}
+use Rattle.entry_model.proofs.Places.{lighter}
+use Rattle.reader_cases.proofs.values.+write.Goals as goal
+
+pub write_map-write_value-requires : goal.write_map-write_value-requires
+write_map-write_value-requires t c =
+    let light = lighter size-Value c.members-name-items.result.now c.args.fields.now.entries c.loop-name.name-index c.loop-name-item.result c.members-name-items.ensures.members c.loop-name-test.true c.loop-name-item.is in
+    omega (arith, light, c.decreases)
