@@ -1,3 +1,4 @@
+pub mod CopiedBytes
 pub mod Data
 pub mod Ends
 pub mod Equality

@@ -1,5 +1,5 @@
 // Where the bytes of texts lie.
-ghost use Rattle.std.specs.Prelude.{◌≡◌, IfOk, string_bytes};
+ghost use Rattle.std.specs.Prelude.{◌≡◌, ◌≤◌, IfOk, length, string_bytes};
 ghost use Rattle.entry_model.specs.Content.{bytes_in, bytes_counted};
 
 use crate::short::ShortText;
@@ -42,15 +42,6 @@ impl Drop for Counted {
 }
 
 impl Content {
-    pub(crate) fn from_str(alloc: Global, text: &str) -> Result<Content, AllocError>
-        ensures { IfOk result (λ content. bytes_in content ≡ text.now) }
-    {
-        match ShortText::from_str(text) {
-            Some(short) => Ok(Content::Short(short)),
-            None => Ok(Content::Counted(Counted::from_str(alloc, text)?)),
-        }
-    }
-
     pub(crate) fn from_string(text: String) -> Result<Content, AllocError>
         ensures { IfOk result (λ content. bytes_in content ≡ string_bytes text) }
     {
@@ -80,21 +71,13 @@ impl Content {
 }
 
 impl Counted {
-    fn from_str(alloc: Global, text: &str) -> Result<Counted, AllocError>
+    pub(crate) fn from_str(alloc: Global, text: &str) -> Result<Counted, AllocError>
         ensures { IfOk result (λ counted. bytes_counted counted ≡ text.now) }
     {
-        match ArrayString::from(text) {
-            Ok(part) => Ok(Counted::Part(Rc::new(alloc, part)?)),
-            Err(_) => Counted::of_line(alloc, text),
-        }
-    }
-
-    fn of_line(alloc: Global, text: &str) -> Result<Counted, AllocError>
-        ensures { IfOk result (λ counted. bytes_counted counted ≡ text.now) }
-    {
-        match ArrayString::from(text) {
-            Ok(line) => Ok(Counted::Line(Rc::new(alloc, line)?)),
-            Err(_) => Ok(Counted::Long(RcStr::from_str(alloc, text)?)),
+        match text.len() {
+            0..=PART_ROOM => Ok(Counted::Part(in_one_piece(alloc, text)?)),
+            0..=LINE_ROOM => Ok(Counted::Line(in_one_piece(alloc, text)?)),
+            _ => Ok(Counted::Long(RcStr::from_str(alloc, text)?)),
         }
     }
 
@@ -117,4 +100,21 @@ impl Counted {
             Counted::Long(text) => text.as_str(),
         }
     }
+}
+
+// The text is put where it stays.
+#[inline(always)]
+fn in_one_piece<const ROOM: usize>(
+    alloc: Global,
+    text: &str,
+) -> Result<Rc<ArrayString<ROOM>>, AllocError>
+    requires { length text.now ≤ ROOM }
+    ensures { IfOk result (λ piece. piece.value.bytes ≡ text.now) }
+{
+    let mut piece = Rc::new(alloc, ArrayString::new())?;
+    match Rc::get_mut(&mut piece) {
+        Some(held) => held.push_str(text),
+        None => return Err(AllocError),
+    }
+    Ok(piece)
 }

@@ -37,6 +37,7 @@ impl Entry {
 }
 
 #[cycle(copy)]
+#[inline(always)]
 fn copy_value(alloc: Global, value: &Value) -> Result<Value, AllocError>
     ensures { IfOk result (λ copy. datum copy ≡ datum value.now) }
 {
@@ -46,11 +47,12 @@ fn copy_value(alloc: Global, value: &Value) -> Result<Value, AllocError>
         Value::Int(number) => Ok(Value::Int(*number)),
         Value::Text(text) => Ok(Value::Text(text.share()?)),
         Value::List(values) => Ok(Value::List(copy_values(alloc, values)?)),
-        Value::Map(fields) => Ok(Value::Map(copy_members(alloc, fields)?)),
+        Value::Map(fields) => Ok(Value::Map(copy_members(alloc, fields, 0)?)),
     }
 }
 
 #[cycle(copy)]
+#[inline(never)]
 fn copy_values(alloc: Global, values: &Values) -> Result<Values, AllocError>
     ensures { IfOk result (λ copies. map datum copies.items ≡ map datum values.now.items) }
 {
@@ -61,11 +63,14 @@ fn copy_values(alloc: Global, values: &Values) -> Result<Values, AllocError>
     Ok(copies)
 }
 
+// With room for so many members more.
 #[cycle(copy)]
-fn copy_members(alloc: Global, fields: &Fields) -> Result<Fields, AllocError>
+#[inline(never)]
+fn copy_members(alloc: Global, fields: &Fields, more: usize) -> Result<Fields, AllocError>
     ensures { IfOk result (λ copies. seen copies.entries ≡ seen fields.now.entries) }
 {
-    let mut copies = Vec::with_capacity(alloc, fields.len())?;
+    let room = fields.len().saturating_add(more);
+    let mut copies = Vec::with_capacity(alloc, room)?;
     for (key, value) in fields.members() {
         let copy = copy_value(alloc, value)?;
         copies.push((key.share()?, copy))?;
@@ -78,11 +83,19 @@ fn copy_members(alloc: Global, fields: &Fields) -> Result<Fields, AllocError>
 pub fn copy_fields(alloc: Global, fields: &Fields) -> Result<Fields, AllocError>
     ensures { IfOk result (λ copies. seen copies.entries ≡ seen fields.now.entries) }
 {
+    copy_for_more(alloc, fields, 0)
+}
+
+/// Members equal to these, with room for so many more where there are any.
+#[inline(always)]
+pub fn copy_for_more(alloc: Global, fields: &Fields, more: usize) -> Result<Fields, AllocError>
+    ensures { IfOk result (λ copies. seen copies.entries ≡ seen fields.now.entries) }
+{
     // Most resources have none, and then nothing is called.
     if fields.is_empty() {
         return Ok(Fields::new(alloc));
     }
-    copy_members(alloc, fields)
+    copy_members(alloc, fields, more)
 }
 
 /// The names of these members, each with `Null`. There is room for as many as the first member of a map makes it for.

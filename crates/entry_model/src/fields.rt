@@ -11,6 +11,7 @@ ghost use Rattle.std.specs.Option.{option_copied, option_copied_mut};
 ghost use Rattle.std.specs.Prelude.{◌≡◌, ◌↔◌, ◌<◌, ◌≤◌, [], Some, is_ok, is_some, IfErr, IfNone, IfOk, IsTrue, OnErr, OnOk, length, slice_get};
 
 use crate::Text;
+use crate::text::order;
 use std::alloc::{AllocError, Global};
 use std::cmp::Ordering;
 use std::marker::Model;
@@ -146,9 +147,10 @@ fn search_back<V>(members: &[(Text, V)], name: &Text) -> Result<usize, usize>
     ensures found { IfOk result (StandsAt name.now members.now) }
     ensures missing { IfErr result (FitsAt name.now members.now) }
 {
+    let wanted = name.as_str();
     let mut at = members.len();
     while at > 0 {
-        match name.cmp(&members[at - 1].0) {
+        match order(wanted, members[at - 1].0.as_str()) {
             Ordering::Greater => return Err(at),
             Ordering::Equal => return Ok(at - 1),
             Ordering::Less => at -= 1,
@@ -157,6 +159,8 @@ fn search_back<V>(members: &[(Text, V)], name: &Text) -> Result<usize, usize>
     Err(0)
 }
 
+// Apart, so that `place` is small where it is called.
+#[inline(never)]
 fn search<V>(members: &[(Text, V)], name: &Text) -> Result<usize, usize>
     requires { NamesAscend members.now }
     ensures found { IfOk result (StandsAt name.now members.now) }

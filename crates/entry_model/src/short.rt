@@ -1,11 +1,12 @@
 // Texts that stand in their own place.
-ghost use Rattle.std.specs.Prelude.{◌≡◌, [], IfSome};
+ghost use Rattle.std.specs.Prelude.{◌≡◌, ◌≤◌, [], IfSome, length};
 
+use crate::copies::put_lanes;
 use std::marker::Model;
 use std::str;
 
 /// The most bytes of such a text. With room for them a text takes 24 bytes.
-const ROOM: usize = 22;
+pub(crate) const ROOM: usize = 22;
 
 /// A text of at most 22 bytes.
 #[derive(Clone, Copy)]
@@ -47,16 +48,23 @@ impl ShortText {
     pub(crate) fn from_str(text: &str) -> Option<ShortText>
         ensures { IfSome result (λ short. short.bytes ≡ text.now) }
     {
-        let len = text.len();
-        if len > ROOM {
+        if text.len() > ROOM {
             return None;
         }
+        Some(ShortText::of(text))
+    }
+
+    #[inline(always)]
+    pub(crate) fn of(text: &str) -> ShortText
+        requires { length text.now ≤ 22 }
+        ensures { result.bytes ≡ text.now }
+    {
         let mut cells = [0; ROOM];
-        cells[..len].copy_from_slice(text.as_bytes());
-        Some(ShortText {
+        put_lanes(text.as_bytes(), &mut cells, 0);
+        ShortText {
             cells,
-            len: len as u8,
-        })
+            len: text.len() as u8,
+        }
     }
 
     pub(crate) fn as_str(&self) -> &str

@@ -3,8 +3,8 @@ ghost use Rattle.std.specs.Cmp.Lexicographic.{slice_cmp};
 ghost use Rattle.std.specs.Ordering.{nat_cmp};
 ghost use Rattle.std.specs.Prelude.{◌≡◌, IfOk, IsTrue, ◌↔◌, [], length, string_bytes};
 
-use crate::content::Content;
-use crate::short::ShortText;
+use crate::content::{Content, Counted};
+use crate::short::{ROOM, ShortText};
 use std::alloc::{AllocError, Global};
 use std::cmp::Ordering;
 use std::fmt;
@@ -48,8 +48,20 @@ impl Text {
     pub fn from_str(alloc: Global, content: &str) -> Result<Text, AllocError>
         ensures { IfOk result (λ text. text ≡ content.now) }
     {
+        if content.len() > ROOM {
+            return Text::counted(alloc, content);
+        }
         Ok(Text {
-            content: Content::from_str(alloc, content)?,
+            content: Content::Short(ShortText::of(content)),
+        })
+    }
+
+    #[inline(never)]
+    fn counted(alloc: Global, content: &str) -> Result<Text, AllocError>
+        ensures { IfOk result (λ text. text ≡ content.now) }
+    {
+        Ok(Text {
+            content: Content::Counted(Counted::from_str(alloc, content)?),
         })
     }
 
@@ -136,7 +148,8 @@ impl Ord for Text {
 }
 
 // Two keys of a map mostly differ in their first byte.
-fn order(one: &str, other: &str) -> Ordering
+#[inline(always)]
+pub(crate) fn order(one: &str, other: &str) -> Ordering
     ensures { result ≡ slice_cmp nat_cmp one.now other.now }
 {
     match (one.as_bytes().first(), other.as_bytes().first()) {

@@ -1,6 +1,5 @@
 pub mod Appended
 pub mod Blocks
-pub mod Copies
 pub mod Digits
 pub mod Escapes
 pub mod Members

@@ -1,5 +1,6 @@
 pub mod Escaped
 pub mod HasFront
+pub mod Inner
 pub mod IsOneLine
 pub mod IsOf64Bits
 pub mod ObservedTime

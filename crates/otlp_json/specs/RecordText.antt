@@ -9,6 +9,10 @@ use Rattle.otlp_json.specs.ValueText.{value_text, members_text}
 abbrev pub attributes_text : Members → List ℕ
 attributes_text members = codes "[" ++ members_text [] members ++ codes "]"
 
+-- the same without the bracket that ends it
+abbrev pub opened_attributes : Members → List ℕ
+opened_attributes members = codes "[" ++ members_text [] members
+
 -- the member `body`, left out where there is none
 abbrev pub body_text : Datum → List ℕ
 body_text null = []

@@ -1,6 +1,6 @@
 // Where the first byte stands that a JSON string escapes. Up to 32 bytes are looked at at once; the last look at a text
 // ends with it, over bytes that were looked at before.
-ghost use Rattle.std.specs.Prelude.{◌≡◌, ◌≤◌, length, map, position};
+ghost use Rattle.std.specs.Prelude.{◌≡◌, ◌<◌, ◌≤◌, ◌*◌, length, map, position};
 ghost use Rattle.std.specs.List.{position_or_len};
 ghost use Rattle.std.specs.Simd.Lanes.{mask_l};
 ghost use Rattle.otlp_json.specs.Escaped.{needs_escape};
@@ -21,9 +21,10 @@ fn plain_length(text: &[u8]) -> usize
     ensures { result ≡ position_or_len needs_escape text.now }
 {
     match text.len() {
-        0..8 => plain_length_of_few(text),
-        8..16 => plain_length_by_8(text),
-        16..32 => plain_length_by_16(text),
+        0..4 => plain_length_of_few(text),
+        4..8 => plain_length_by_ends::<4>(text),
+        8..16 => plain_length_by_ends::<8>(text),
+        16..32 => plain_length_by_ends::<16>(text),
         _ => plain_length_by_32(text),
     }
 }
@@ -45,34 +46,20 @@ pub fn is_escaped(byte: u8) -> bool
     byte == b'"' || byte == b'\\' || byte < 0x20
 }
 
-fn plain_length_by_8(text: &[u8]) -> usize
-    requires few { length text.now ≤ 16 }
-    requires many { 8 ≤ length text.now }
+/// By looks at the first and at the last bytes, which are all.
+#[inline(always)]
+pub fn plain_length_by_ends<const N: usize>(text: &[u8]) -> usize
+    requires lanes { (0 < N) × (N ≤ 64) }
+    requires few { length text.now ≤ 2 * N }
+    requires many { N ≤ length text.now }
     ensures { result ≡ position_or_len needs_escape text.now }
 {
-    let found = escaped_of_8(u8x8::from_slice(text));
+    let found = escaped_of(Simd::<u8, N>::from_slice(text));
     if found != 0 {
         return found.trailing_zeros() as usize;
     }
-    let last = text.len() - 8;
-    let found = escaped_of_8(u8x8::from_slice(&text[last..]));
-    if found != 0 {
-        return last + found.trailing_zeros() as usize;
-    }
-    text.len()
-}
-
-fn plain_length_by_16(text: &[u8]) -> usize
-    requires few { length text.now ≤ 32 }
-    requires many { 16 ≤ length text.now }
-    ensures { result ≡ position_or_len needs_escape text.now }
-{
-    let found = escaped_of_16(u8x16::from_slice(text));
-    if found != 0 {
-        return found.trailing_zeros() as usize;
-    }
-    let last = text.len() - 16;
-    let found = escaped_of_16(u8x16::from_slice(&text[last..]));
+    let last = text.len() - N;
+    let found = escaped_of(Simd::<u8, N>::from_slice(&text[last..]));
     if found != 0 {
         return last + found.trailing_zeros() as usize;
     }
@@ -86,13 +73,13 @@ fn plain_length_by_32(text: &[u8]) -> usize
     let last = text.len() - 32;
     let mut at = 0;
     while at < last {
-        let found = escaped_of_32(u8x32::from_slice(&text[at..]));
+        let found = escaped_of(u8x32::from_slice(&text[at..]));
         if found != 0 {
             return at + found.trailing_zeros() as usize;
         }
         at += 32;
     }
-    let found = escaped_of_32(u8x32::from_slice(&text[last..]));
+    let found = escaped_of(u8x32::from_slice(&text[last..]));
     if found != 0 {
         return last + found.trailing_zeros() as usize;
     }
@@ -105,7 +92,7 @@ pub fn plain_of_16(lanes: u8x16) -> usize
     ensures run { result ≡ position_or_len needs_escape lanes }
     ensures fits { result ≤ 16 }
 {
-    let found = escaped_of_16(lanes);
+    let found = escaped_of(lanes);
     if found == 0 {
         return 16;
     }
@@ -114,28 +101,11 @@ pub fn plain_of_16(lanes: u8x16) -> usize
 
 // The lanes of bytes that are escaped, as the bits of a number.
 #[inline(always)]
-fn escaped_of_8(lanes: u8x8) -> u64
-    ensures { result ≡ mask_l (map needs_escape lanes) }
+fn escaped_of<const N: usize>(lanes: Simd<u8, N>) -> u64
+    requires { N ≤ 64 }
+    ensures { result ≡ mask_l (map needs_escape lanes.entry) }
 {
-    (lanes.simd_eq(u8x8::splat(b'"'))
-        | lanes.simd_eq(u8x8::splat(b'\\'))
-        | lanes.simd_lt(u8x8::splat(0x20))).to_bitmask()
-}
-
-#[inline(always)]
-fn escaped_of_16(lanes: u8x16) -> u64
-    ensures { result ≡ mask_l (map needs_escape lanes) }
-{
-    (lanes.simd_eq(u8x16::splat(b'"'))
-        | lanes.simd_eq(u8x16::splat(b'\\'))
-        | lanes.simd_lt(u8x16::splat(0x20))).to_bitmask()
-}
-
-#[inline(always)]
-fn escaped_of_32(lanes: u8x32) -> u64
-    ensures { result ≡ mask_l (map needs_escape lanes) }
-{
-    (lanes.simd_eq(u8x32::splat(b'"'))
-        | lanes.simd_eq(u8x32::splat(b'\\'))
-        | lanes.simd_lt(u8x32::splat(0x20))).to_bitmask()
+    (lanes.simd_eq(Simd::splat(b'"'))
+        | lanes.simd_eq(Simd::splat(b'\\'))
+        | lanes.simd_lt(Simd::splat(0x20))).to_bitmask()
 }

@@ -19,11 +19,11 @@ mod escape;
 pub mod integers;
 mod lanes;
 pub mod laws;
+mod member;
 mod record;
 mod scope;
 mod string;
 mod template;
-mod text_member;
 mod value;
 
 use entry_model::{Entry, Value};
@@ -97,7 +97,7 @@ fn append_resource(resource: &Value, out: &mut Vec<u8>) -> Result<(), AllocError
     }
     out.extend_from_slice(b"{\"resourceLogs\":[{\"resource\":{\"attributes\":")?;
     record::append_attributes(resource, out)?;
-    out.extend_from_slice(b"},\"scopeLogs\":[{\"logRecords\":[{\"attributes\":")
+    out.extend_from_slice(b"]},\"scopeLogs\":[{\"logRecords\":[{\"attributes\":")
 }
 
 // From the record's closing brace up to the line's number.

@@ -1,9 +1,9 @@
 // A LogRecord, and the attributes of a record or a resource.
-ghost use Rattle.std.specs.Prelude.{◌≡◌, ◌++◌, IsTrue, OnOk};
+ghost use Rattle.std.specs.Prelude.{◌≡◌, ◌++◌, IsTrue, OnOk, codes};
 ghost use Rattle.entry_model.specs.Datum.{datum, no_members};
 ghost use Rattle.entry_model.specs.LogRecord.{log_record, members_in};
 ghost use Rattle.otlp_json.specs.HasFront.{HasFront};
-ghost use Rattle.otlp_json.specs.RecordText.{attributes_text, body_text, severity_number_text, severity_name_text, nanoseconds_text};
+ghost use Rattle.otlp_json.specs.RecordText.{opened_attributes, body_text, severity_number_text, severity_name_text, nanoseconds_text};
 ghost use Rattle.otlp_json.specs.Scope.{record_members};
 
 use crate::string::{append_decimal, append_escaped};
@@ -28,13 +28,14 @@ pub fn append_record_members(
     append_nanoseconds(b",\"timeUnixNano\":\"", entry.timestamp, out)
 }
 
+/// The attributes without the bracket that ends their list.
 pub fn append_attributes(attributes: &Value, out: &mut Vec<u8>) -> Result<(), AllocError>
     ensures ok { OnOk result (out.new.items
-        ≡ out.old.items ++ attributes_text (members_in (datum attributes.now))) }
+        ≡ out.old.items ++ opened_attributes (members_in (datum attributes.now))) }
     ensures front { HasFront out.old.items out.new.items }
 {
     let Value::Map(fields) = attributes else {
-        return out.extend_from_slice(b"[]");
+        return out.extend_from_slice(b"[");
     };
     append_fields(fields, out)
 }
@@ -50,19 +51,20 @@ pub fn has_none(attributes: &Value) -> bool
     }
 }
 
+// From the bracket on that ends the attributes.
 fn append_body(body: &Value, out: &mut Vec<u8>) -> Result<(), AllocError>
-    ensures ok { OnOk result (out.new.items ≡ out.old.items ++ body_text (datum body.now)) }
+    ensures ok { OnOk result (out.new.items ≡ out.old.items ++ codes "]" ++ body_text (datum body.now)) }
     ensures front { HasFront out.old.items out.new.items }
 {
     match body {
-        Value::Null => Ok(()),
+        Value::Null => out.extend_from_slice(b"]"),
         Value::Text(text) => {
-            out.extend_from_slice(b",\"body\":{\"stringValue\":\"")?;
+            out.extend_from_slice(b"],\"body\":{\"stringValue\":\"")?;
             append_escaped(text.as_str().as_bytes(), out)?;
             out.extend_from_slice(b"\"}")
         }
         _ => {
-            out.extend_from_slice(b",\"body\":")?;
+            out.extend_from_slice(b"],\"body\":")?;
             append_value(body, out)
         }
     }

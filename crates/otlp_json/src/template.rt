@@ -44,7 +44,7 @@ impl Template {
         let mut front = Vec::new(alloc);
         front.extend_from_slice(b"{\"resourceLogs\":[{\"resource\":{\"attributes\":")?;
         append_fields(resource, &mut front)?;
-        front.extend_from_slice(b"},\"scopeLogs\":[{\"logRecords\":[{\"attributes\":[")?;
+        front.extend_from_slice(b"]},\"scopeLogs\":[{\"logRecords\":[{\"attributes\":[")?;
         let numbered = number.is_some();
         let behind = append_attributes(alloc, attributes, number, &mut front)?;
         let mut back = Vec::new(alloc);

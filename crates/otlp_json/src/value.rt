@@ -5,8 +5,8 @@ ghost use Rattle.otlp_json.specs.Escaped.{escaped};
 ghost use Rattle.otlp_json.specs.HasFront.{HasFront};
 ghost use Rattle.otlp_json.specs.ValueText.{value_text, items_text, members_text};
 
+use crate::member::{append_int_member, append_text_member};
 use crate::string::{append_escaped, append_integer, append_run};
-use crate::text_member::append_text_member;
 use entry_model::{Fields, Text, Value, Values};
 use std::alloc::AllocError;
 
@@ -32,7 +32,7 @@ pub fn append_value(value: &Value, out: &mut Vec<u8>) -> Result<(), AllocError>
         Value::Map(fields) => {
             out.extend_from_slice(b"{\"kvlistValue\":{\"values\":")?;
             append_fields(fields, out)?;
-            out.extend_from_slice(b"}}")
+            out.extend_from_slice(b"]}}")
         }
     }
 }
@@ -52,23 +52,23 @@ fn append_items(values: &Values, out: &mut Vec<u8>) -> Result<(), AllocError>
     Ok(())
 }
 
-/// A list of the members.
+/// The members behind the bracket that opens their list.
 #[cycle(value)]
 pub fn append_fields(fields: &Fields, out: &mut Vec<u8>) -> Result<(), AllocError>
     ensures ok { OnOk result (out.new.items
         ≡ out.old.items
-        ++ (codes "[" ++ members_text [] (members_of (map (λ field. (field.0, datum field.1)) fields.now.entries)) ++ codes "]")) }
+        ++ (codes "[" ++ members_text [] (members_of (map (λ field. (field.0, datum field.1)) fields.now.entries)))) }
     ensures front { HasFront out.old.items out.new.items }
 {
     if fields.is_empty() {
-        return out.extend_from_slice(b"[]");
+        return out.extend_from_slice(b"[");
     }
     let mut front: &[u8] = b"[{\"key\":\"";
     for (key, value) in fields.members() {
         append_member(front, key.as_str(), value, out)?;
         front = b",{\"key\":\"";
     }
-    out.extend_from_slice(b"]")
+    Ok(())
 }
 
 #[cycle(value)]
@@ -85,26 +85,14 @@ fn append_member(
     if let Value::Text(text) = value {
         return append_text_member(front, key.as_bytes(), text.as_str().as_bytes(), out);
     }
+    if let Value::Int(number) = value {
+        return append_int_member(front, key.as_bytes(), *number, out);
+    }
     out.extend_from_slice(front)?;
     append_escaped(key.as_bytes(), out)?;
-    append_member_value(value, out)
-}
-
-// From behind the key on.
-#[cycle(value)]
-fn append_member_value(value: &Value, out: &mut Vec<u8>) -> Result<(), AllocError>
-    ensures ok { OnOk result (out.new.items
-        ≡ out.old.items ++ (codes "\",\"value\":" ++ value_text (datum value.now) ++ codes "}")) }
-    ensures front { HasFront out.old.items out.new.items }
-{
-    match value {
-        Value::Int(number) => append_member_int(*number, out),
-        _ => {
-            out.extend_from_slice(b"\",\"value\":")?;
-            append_value(value, out)?;
-            out.extend_from_slice(b"}")
-        }
-    }
+    out.extend_from_slice(b"\",\"value\":")?;
+    append_value(value, out)?;
+    out.extend_from_slice(b"}")
 }
 
 /// `opening` is what stands ahead of the first member's key.
@@ -144,14 +132,4 @@ fn append_int(number: i64, out: &mut Vec<u8>) -> Result<(), AllocError>
     out.extend_from_slice(b"{\"intValue\":\"")?;
     append_integer(number, out)?;
     out.extend_from_slice(b"\"}")
-}
-
-fn append_member_int(number: i64, out: &mut Vec<u8>) -> Result<(), AllocError>
-    ensures ok { OnOk result (out.new.items
-        ≡ out.old.items ++ (codes "\",\"value\":" ++ value_text (int number) ++ codes "}")) }
-    ensures front { HasFront out.old.items out.new.items }
-{
-    out.extend_from_slice(b"\",\"value\":{\"intValue\":\"")?;
-    append_integer(number, out)?;
-    out.extend_from_slice(b"\"}}")
 }

@@ -12,8 +12,11 @@ ghost use Rattle.pipeline.specs.Sources.{IsShared};
 
 use crate::Pipeline;
 use crate::source::Shared;
-use entry_model::{Entry, Fields, Severity, Text, Value, copy_fields};
+use entry_model::{Entry, Fields, Severity, Text, Value, copy_fields, copy_for_more};
 use std::alloc::{AllocError, Global};
+
+// How many attributes an entry has room for besides those of its file.
+const MORE: usize = 3;
 
 impl Pipeline {
     /// What each entry of a file has.
@@ -57,7 +60,7 @@ impl Pipeline {
         ensures { IfOk result (λ members. (origin : Origin) → IsShared (settings_of self.now) origin shared.now
             → members_seen members.entries ≡ attributes_at (settings_of self.now) origin.path number) }
     {
-        let attributes = copy_fields(alloc, &shared.attributes)?;
+        let attributes = copy_for_more(alloc, &shared.attributes, MORE)?;
         let Some(name) = &shared.number else {
             return Ok(attributes);
         };

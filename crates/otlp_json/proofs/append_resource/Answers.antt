@@ -16,5 +16,5 @@ pub returns-clause-ok : goal.returns-clause-ok
 unfolding resource_text
 returns-clause-ok c =
     let last = c.extend_from_slice-3 in
-    last_extended last.result c.append_attributes.new.out.items last.new.self.items (codes "},\"scopeLogs\":[{\"logRecords\":[{\"attributes\":") _ last.ensures.items
+    last_extended last.result c.append_attributes.new.out.items last.new.self.items (codes "]},\"scopeLogs\":[{\"logRecords\":[{\"attributes\":") _ last.ensures.items
     (rw (c.in_ok-append_attributes.ensures.ok, c.in_ok-extend_from_slice.ensures.items) (simp append_assoc))

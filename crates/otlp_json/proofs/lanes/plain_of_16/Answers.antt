@@ -9,13 +9,13 @@ use Rattle.otlp_json.proofs.lanes.plain_of_16.Goals as goal
 pub returns-then-found-eq0-clause-run : goal.returns-then-found-eq0-clause-run
 returns-then-found-eq0-clause-run c =
     let lanes = c.args.lanes in
-    sym (leading_from_mask_l needs_escape lanes (sym c.escaped_of_16-found.ensures ∙ c.if-found-eq0.true) ∙ c.fits-lanes.0)
+    sym (leading_from_mask_l needs_escape lanes (sym c.escaped_of-found.ensures ∙ c.if-found-eq0.true) ∙ c.fits-lanes.0)
 
 pub returns-clause-run : goal.returns-clause-run
 returns-clause-run c =
     let lanes = c.args.lanes in
     let long = c.fits-lanes.0 in
-    let is = c.escaped_of_16-found.ensures in
+    let is = c.escaped_of-found.ensures in
     let some = c.if-found-eq0.false in
     ap (count_trailing_zeros 64) is ∙ trailing_mask_l needs_escape 64 lanes (omega arith) (omega arith)
 

@@ -11,4 +11,4 @@ pub returns-in_default-clause-ok : goal.returns-in_default-clause-ok
 returns-in_default-clause-ok c =
     let last = c.extend_from_slice in
     rw (no_members_in c.args.attributes.now c.in_default.not-Map)
-    (last_extended last.result c.args.out.now.items last.new.self.items (codes "[]") _ last.ensures.items refl)
+    (last_extended last.result c.args.out.now.items last.new.self.items (codes "[") _ last.ensures.items refl)

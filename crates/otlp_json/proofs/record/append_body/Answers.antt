@@ -9,7 +9,7 @@ use Rattle.otlp_json.proofs.record.append_body.Goals as goal
 
 pub returns-in_ok-append_escaped-in-Text-clause-ok : goal.returns-in_ok-append_escaped-in-Text-clause-ok
 returns-in_ok-append_escaped-in-Text-clause-ok c =
-    let last = c.extend_from_slice-in-Text in
+    let last = c.extend_from_slice-in-Text-2 in
     rw (c.in-Text.is, datum_text c.in-Text.text)
     (last_extended last.result c.append_escaped.new.out.items last.new.self.items (codes "\"}") _ last.ensures.items
     (rw (c.in_ok-append_escaped-in-Text.ensures.ok, c.in_ok-extend_from_slice-in-Text.ensures.items, c.as_bytes.ensures.value, c.as_str.ensures) (simp append_assoc)))
@@ -23,5 +23,5 @@ returns-in_ok-extend_from_slice-in_default c =
     let added = c.in_ok-extend_from_slice-in_default.ensures.items in
     record {
       ok = last_appended last.result mid last.new.out.items body _ last.ensures.ok (rw (body_there c.args.body.now c.in_default.not-Null, added) (simp append_assoc));
-      front = front_kept start mid last.new.out.items (codes ",\"body\":") added last.ensures.front;
+      front = front_kept start mid last.new.out.items (codes "],\"body\":") added last.ensures.front;
     }

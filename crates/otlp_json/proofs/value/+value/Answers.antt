@@ -1,6 +1,6 @@
 use Rattle.std.proofs.Common.{arith, ◌≤◌, ◌++◌, ◌∙◌, ℕ, List, ap, codes, length}
 use Rattle.std.proofs.lemmas.List.{append_assoc}
-use Rattle.otlp_json.proofs.Appended.{last_appended, last_extended, front_kept, front_trans}
+use Rattle.otlp_json.proofs.Appended.{last_extended, front_kept, front_trans}
 use Rattle.entry_model.specs.declared.value.Value.{Value, size-Value}
 use Rattle.field_paths.specs.MapOf.{members_seen}
 use Rattle.entry_model.proofs.Places.{lighter}
@@ -39,7 +39,7 @@ pub append_value-returns-in_ok-append_fields-in-Map-clause-ok : goal.append_valu
 append_value-returns-in_ok-append_fields-in-Map-clause-ok t c =
     let last = c.extend_from_slice-in-Map-2 in
     rw (c.in-Map.is, datum_map c.in-Map.fields)
-    (last_extended last.result c.append_fields.new.out.items last.new.self.items (codes "}}") _ last.ensures.items
+    (last_extended last.result c.append_fields.new.out.items last.new.self.items (codes "]}}") _ last.ensures.items
     (rw (c.in_ok-append_fields-in-Map.ensures.ok, c.in_ok-extend_from_slice-in-Map.ensures.items) (simp append_assoc)))
 
 pub append_fields-append_member-requires : goal.append_fields-append_member-requires
@@ -52,22 +52,7 @@ append_fields-returns-clause-ok t c =
     let start = c.args.out.now.items in
     let es = c.members-key-items.result.now in
     let none_left : length es ≤ c.loop-key.key-index = omega (arith, c.loop-key-test.false) in
-    let whole =
     all_opened c.loop-key.front.now (codes "[{\"key\":\"") start c.loop-key.out.items es c.loop-key.key-index none_left c.loop-key.invariant.so_far
     ∙ ap (λ (es : List (List ℕ × Value)). start ++ opened (codes "[{\"key\":\"") (members_seen es)) c.members-key-items.ensures.members
     ∙ ap (λ text. start ++ text) (opened_is (codes "[") (members_seen c.args.fields.now.entries))
-    ∙ ap (λ text. start ++ text) (bracketed c.args.fields.now.entries (λ none. false≢true (c.if-is_empty.ensures.1 none))) in
-    let last = c.extend_from_slice-2 in
-    last_extended last.result c.loop-key.out.items last.new.self.items (codes "]") _ last.ensures.items (rw whole (simp append_assoc))
-
-pub append_member-returns : goal.append_member-returns
-append_member-returns t c =
-    let start = c.args.out.now.items in
-    let opened = c.extend_from_slice.new.self.items in
-    let keyed = c.append_escaped.new.out.items in
-    let last = c.append_member_value in
-    record {
-      ok = last_appended last.result keyed last.new.out.items _ _ last.ensures.ok
-          (rw (c.in_ok-append_escaped.ensures.ok, c.in_ok-extend_from_slice.ensures.items, c.as_bytes-2.ensures.value) (simp append_assoc));
-      front = front_kept start opened last.new.out.items _ c.in_ok-extend_from_slice.ensures.items (front_kept opened keyed last.new.out.items _ c.in_ok-append_escaped.ensures.ok last.ensures.front);
-    }
+    ∙ ap (λ text. start ++ text) (bracketed c.args.fields.now.entries (λ none. false≢true (c.if-is_empty.ensures.1 none)))

@@ -1,4 +1,5 @@
 use Rattle.std.proofs.Common.{◌≡◌, [], ◌++◌, ◌∙◌, ap, refl, codes}
+use Rattle.std.proofs.lemmas.List.{append_assoc}
 use Rattle.field_paths.specs.MapOf.{members_seen}
 use Rattle.otlp_json.specs.RecordText.{attributes_text}
 use Rattle.otlp_json.specs.Template.{numbered, number_text}
@@ -12,7 +13,7 @@ returns c =
     let front = c.append_attributes.new.front.items in
     let behind = c.in_ok-behind.behind.items in
     let begun : c.extend_from_slice-2.new.self.items ≡ codes "{\"resourceLogs\":[{\"resource\":{\"attributes\":" ++ attributes_text (members_seen c.args.resource.now.entries) ++ codes "},\"scopeLogs\":[{\"logRecords\":[{\"attributes\":[" =
-    rw (c.in_ok-extend_from_slice-2.ensures.items, c.in_ok-append_fields.ensures.ok, c.in_ok-extend_from_slice.ensures.items, c.new-front.ensures.items) refl in
+    rw (c.in_ok-extend_from_slice-2.ensures.items, c.in_ok-append_fields.ensures.ok, c.in_ok-extend_from_slice.ensures.items, c.new-front.ensures.items) (simp append_assoc) in
     filled_in c.args.id c.args.observed (members_seen c.args.resource.now.entries) attributes c.args.number _
     (λ n.
     ap (λ has. front ++ number_text has behind n) c.is_some-numbered.ensures

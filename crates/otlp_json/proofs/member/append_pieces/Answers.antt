@@ -1,7 +1,7 @@
 use Rattle.std.proofs.Common.{codes}
 use Rattle.std.proofs.lemmas.List.{append_assoc}
 use Rattle.otlp_json.proofs.Appended.{last_extended}
-use Rattle.otlp_json.proofs.text_member.append_pieces.Goals as goal
+use Rattle.otlp_json.proofs.member.append_pieces.Goals as goal
 
 pub returns-clause-ok : goal.returns-clause-ok
 returns-clause-ok c =

@@ -2,8 +2,8 @@ use Rattle.std.proofs.Common.{◌+◌, ◌∙◌, arith, take}
 use Rattle.std.proofs.lemmas.List.{length-take-le}
 use Rattle.std.proofs.lemmas.Simd.{length-put_chunk}
 use lib.Lanes.{chunk}
-use Rattle.otlp_json.proofs.Copies.{copied_on, copied_last}
-use Rattle.otlp_json.proofs.text_member.put_by_16.Goals as goal
+use Rattle.entry_model.proofs.CopiedBytes.{copied_on, copied_last}
+use Rattle.entry_model.proofs.copies.put_by_16.Goals as goal
 
 pub loop-at-preserved : goal.loop-at-preserved
 loop-at-preserved c =

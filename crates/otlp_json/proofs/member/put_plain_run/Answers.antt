@@ -1,6 +1,6 @@
 use Rattle.std.proofs.Common.{◌++◌, ◌∙◌, sym, ap, take}
 use Rattle.otlp_json.proofs.Escapes.{no_escapes}
-use Rattle.otlp_json.proofs.text_member.put_plain.Goals as goal
+use Rattle.otlp_json.proofs.member.put_plain_run.Goals as goal
 
 pub returns-in-None-clause-bytes : goal.returns-in-None-clause-bytes
 returns-in-None-clause-bytes c =

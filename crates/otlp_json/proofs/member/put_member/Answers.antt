@@ -1,6 +1,6 @@
 use Rattle.std.proofs.Common.{◌≡◌, length, take, arith}
 use Rattle.std.proofs.lemmas.List.{append_assoc, take_all, length-take-le}
-use Rattle.otlp_json.proofs.text_member.put_member.Goals as goal
+use Rattle.otlp_json.proofs.member.put_member.Goals as goal
 
 pub put-made-requires-2 : goal.put-made-requires-2
 put-made-requires-2 c =

@@ -1,5 +1,5 @@
-use Rattle.otlp_json.proofs.Copies.{copied_ends}
-use Rattle.otlp_json.proofs.text_member.put_ends.Goals as goal
+use Rattle.entry_model.proofs.CopiedBytes.{copied_ends}
+use Rattle.entry_model.proofs.copies.put_ends.Goals as goal
 
 pub returns-clause-bytes : goal.returns-clause-bytes
 returns-clause-bytes g c =

@@ -1,0 +1,2 @@
+-- What only contracts within the crate cite.
+pub mod WithQuoted
