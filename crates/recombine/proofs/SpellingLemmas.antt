@@ -24,8 +24,7 @@ use Rattle.recombine.specs.Group.{Group}
 use Rattle.recombine.specs.Reading.{such_that, number_within, source_at, group_at, groups_behind, groups_at}
 use Rattle.recombine.specs.Restores.{IsPart, IsDeadEnd, FailsAt, Restores}
 use Rattle.recombine.specs.Inner.Told.{IsRead, IsRefused, Finds}
-use Rattle.recombine.specs.Table.{IsAt, IsOpen, AreOpen, groups_seen}
-use Rattle.recombine.specs.declared.group.OpenGroup.{OpenGroup}
+use Rattle.recombine.specs.Table.{Held, IsAt, IsOpen, AreOpen, groups_seen}
 use Rattle.recombine.specs.Rules.{KeepsRules, KeepRules, AreSpellable}
 use Rattle.recombine.specs.Sources.{is_of, AreOfOthers}
 use Rattle.recombine.specs.Spelling.{group_spelling, groups_spelling}
@@ -480,7 +479,7 @@ pub keep_all : (gs : List Group) → AreOpen gs → EachKeeps gs → KeepRules g
 keep_all [] are each = tt
 keep_all (g ∷ gs) are each = (each.0, (are.1.0, keep_all gs are.1.1 each.1))
 
-pub each_all : (items : List OpenGroup) (gs : List Group) (n : ℕ) → length items ≤ n → groups_seen items ≡ gs → EachKeeps (groups_seen (take n items)) → EachKeeps gs
+pub each_all : (items : List Held) (gs : List Group) (n : ℕ) → length items ≤ n → groups_seen items ≡ gs → EachKeeps (groups_seen (take n items)) → EachKeeps gs
 each_all items gs n all seen each = subst EachKeeps (ap groups_seen (take_all n items all) ∙ seen) each
 
 pub start_so_far : (bytes : List ℕ) (at count first todo : ℕ) (gs : List Group) → gs ≡ [] → todo ≡ count → IsRead (number_within 0 group_limit) bytes at count first → SoFar bytes at gs todo first

@@ -1,5 +1,6 @@
 -- Open groups in memory, and what holds of them at any time.
 use Rattle.std.specs.Prelude.{◌≡◌, ◌⊎◌, ℕ, ◌≤◌, ◌<◌, ◌+◌, ◌*◌, ◌%◌, slice_index_or, take, Option, None, Some, List, [], ◌∷◌, ◌++◌, length, map, Bool, true, false, if◌then◌else◌, string_bytes, ⊤}
+use Rattle.std.specs.Global.{Box}
 use Rattle.entry_model.specs.Lawful.{NestsWithin}
 use Rattle.entry_model.specs.LogRecord.{log_record}
 use Rattle.entry_model.specs.declared.entry.Entry.{Entry}
@@ -16,8 +17,15 @@ use Rattle.recombine.specs.Steps.{has_no_room, text_bytes}
 abbrev pub group_seen : OpenGroup → Group
 group_seen group = record { source = group.source; entries = group.entries; text = string_bytes group.text; base = log_record group.base }
 
-abbrev pub groups_seen : List OpenGroup → List Group
-groups_seen groups = map group_seen groups
+-- a group in a place of its own
+abbrev pub Held : Type 0
+Held = Box OpenGroup
+
+abbrev pub held_seen : Held → Group
+held_seen held = group_seen held.value
+
+abbrev pub groups_seen : List Held → List Group
+groups_seen groups = map held_seen groups
 
 abbrev pub item_seen : Coming → Item
 item_seen x = record { source = x.source; text = x.text; mark = x.mark; entry = log_record x.entry }
@@ -56,14 +64,14 @@ pub record IsTable (groups : List Group) (bytes : ℕ) (marks : List ℕ) : Type
 -- ---- where the group of a source is
 
 -- the group at this place in memory is that of the source, and none in front of it is
-pub record IsFoundAt (source : List ℕ) (items : List OpenGroup) (place : ℕ) : Type 0 where
-  pub group : OpenGroup
+pub record IsFoundAt (source : List ℕ) (items : List Held) (place : ℕ) : Type 0 where
+  pub group : Held
   pub in_range : place < length items
   pub is : group ≡ slice_index_or items place group
-  pub own : is_of source (group_seen group) ≡ true
+  pub own : is_of source (held_seen group) ≡ true
   pub before : AreOfOthers source (groups_seen (take place items))
 
-abbrev pub IsFound : List ℕ → List OpenGroup → Option ℕ → Type 0
+abbrev pub IsFound : List ℕ → List Held → Option ℕ → Type 0
 IsFound source items None = AreOfOthers source (groups_seen items)
 IsFound source items (Some place) = IsFoundAt source items place
 

@@ -6,7 +6,7 @@ ghost use Rattle.state_codec.specs.Limits.{levels};
 ghost use Rattle.recombine.specs.Limits.{group_limit, batch_limit};
 ghost use Rattle.recombine.specs.Sources.{AreOfOthers};
 ghost use Rattle.recombine.specs.Steps.{text_bytes};
-ghost use Rattle.recombine.specs.Table.{group_seen, groups_seen, IsOpen, AreOpen, IsFound, IsPlace, Changes, Tells, marks_of, mark_of as mark_of_bytes, with_piece, with_entries, with_base, without};
+ghost use Rattle.recombine.specs.Table.{held_seen, groups_seen, IsOpen, AreOpen, IsFound, IsPlace, Changes, Tells, marks_of, mark_of as mark_of_bytes, with_piece, with_entries, with_base, without};
 
 use crate::group::OpenGroup;
 use entry_model::{Entry, Text};
@@ -19,7 +19,8 @@ use std::mem;
 /// what they are, so that groups that were restored equal those that were saved.
 #[derive(Drop)]
 pub struct Groups {
-    in_order: Vec<OpenGroup>,
+    // Each in a place of its own, so that little is moved where one in front is taken out.
+    in_order: Vec<Box<OpenGroup>>,
     // A mark of each source, by which most sources are told apart.
     marks: Vec<u8>,
     // How many bytes their texts have together.
@@ -77,7 +78,7 @@ impl Groups {
     }
 
     /// The groups, in order.
-    pub(crate) fn in_order(&self) -> &[OpenGroup]
+    pub(crate) fn in_order(&self) -> &[Box<OpenGroup>]
         ensures seen { groups_seen result.now ≡ self.now }
         ensures are_open { AreOpen self.now }
     {
@@ -133,10 +134,10 @@ impl Groups {
     }
 
     /// Takes the group at a place out.
-    pub(crate) fn remove(&mut self, place: usize) -> OpenGroup
+    pub(crate) fn remove(&mut self, place: usize) -> Box<OpenGroup>
         requires in_range { place < length self.old }
         ensures left { Changes self.old place without self.new }
-        ensures taken { Tells self.old place (λ group. group ≡ group_seen result) }
+        ensures taken { Tells self.old place (λ group. group ≡ held_seen result) }
     {
         let _mark = self.marks.remove(place);
         let group = self.in_order.remove(place);
@@ -145,12 +146,12 @@ impl Groups {
     }
 
     /// Puts a group behind the others. Where memory runs out all is as it was.
-    pub(crate) fn push(&mut self, group: OpenGroup) -> Result<(), AllocError>
-        requires new { AreOfOthers group.source self.old }
-        requires is_open { IsOpen (group_seen group) }
+    pub(crate) fn push(&mut self, group: Box<OpenGroup>) -> Result<(), AllocError>
+        requires new { AreOfOthers group.value.source self.old }
+        requires is_open { IsOpen (held_seen group) }
         requires few { length self.old < group_limit }
-        requires fits { text_bytes self.old + length (string_bytes group.text) < 2 ^ 64 }
-        ensures { OnOk result (self.new ≡ self.old ++ group_seen group ∷ []) }
+        requires fits { text_bytes self.old + length (string_bytes group.value.text) < 2 ^ 64 }
+        ensures { OnOk result (self.new ≡ self.old ++ held_seen group ∷ []) }
     {
         let size = group.text.as_str().len();
         let mark = mark_of(group.source.as_str().as_bytes());
@@ -168,7 +169,7 @@ impl Groups {
     }
 
     /// Takes all groups out, in order.
-    pub(crate) fn take_all(&mut self, alloc: Global) -> Vec<OpenGroup>
+    pub(crate) fn take_all(&mut self, alloc: Global) -> Vec<Box<OpenGroup>>
         ensures taken { groups_seen result.items ≡ self.old }
         ensures left { self.new ≡ [] }
     {
@@ -178,7 +179,7 @@ impl Groups {
 }
 
 // Where the group of the source is. Sources are compared where their marks are the same, and where no group is open none is looked for.
-fn place_in(groups: &[OpenGroup], marks: &[u8], source: &Text) -> Option<usize>
+fn place_in(groups: &[Box<OpenGroup>], marks: &[u8], source: &Text) -> Option<usize>
     requires { marks.now ≡ marks_of (groups_seen groups.now) }
     ensures { IsFound source.now groups.now result }
 {

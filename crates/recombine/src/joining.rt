@@ -8,7 +8,7 @@ ghost use Rattle.recombine.specs.Item.{is_first};
 ghost use Rattle.recombine.specs.Recombined.{joined_text, text_in, recombined, entries_of};
 ghost use Rattle.recombine.specs.Steps.{is_done};
 ghost use Rattle.recombine.specs.Stepped.{IsStepped, effect, seen};
-ghost use Rattle.recombine.specs.Table.{group_seen, item_seen};
+ghost use Rattle.recombine.specs.Table.{held_seen, item_seen};
 
 use crate::group::{Coming, OpenGroup};
 use crate::{Groups, StepFault};
@@ -109,11 +109,12 @@ impl Recombine {
     pub(crate) fn send(
         &self,
         alloc: Global,
-        group: OpenGroup,
+        group: Box<OpenGroup>,
         out: &mut Vec<Entry>,
     ) -> Result<(), AllocError>
-        ensures { OnOk result (seen out.new.items ≡ seen out.old.items ++ entries_of self.now (group_seen group ∷ [])) }
+        ensures { OnOk result (seen out.new.items ≡ seen out.old.items ++ entries_of self.now (held_seen group ∷ [])) }
     {
+        let group = Box::into_inner(group);
         let text = Text::new(group.text)?;
         self.send_with(alloc, text, group.base, out)
     }

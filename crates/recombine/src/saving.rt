@@ -5,7 +5,7 @@ ghost use Rattle.recombine.specs.Reading.{number_within, source_at, group_at};
 ghost use Rattle.recombine.specs.Restores.{Restores};
 ghost use Rattle.recombine.specs.Rules.{AreSpellable, KeepsRules};
 ghost use Rattle.recombine.specs.Spelling.{group_spelling, groups_spelling};
-ghost use Rattle.recombine.specs.Table.{group_seen, IsOpen};
+ghost use Rattle.recombine.specs.Table.{group_seen, held_seen, IsOpen};
 ghost use Rattle.recombine.specs.Inner.Told.{Finds};
 
 use crate::group::OpenGroup;
@@ -65,8 +65,8 @@ fn get_group(
     bytes: &[u8],
     at: usize,
     before: &Groups,
-) -> Result<(OpenGroup, usize), CodecFault>
-    ensures { Finds group_seen (group_at before.now) bytes.now at result }
+) -> Result<(Box<OpenGroup>, usize), CodecFault>
+    ensures { Finds held_seen (group_at before.now) bytes.now at result }
 {
     let (source, next) = get_source(alloc, bytes, at, before)?;
     let (entries, next) = get_entries(bytes, next)?;
@@ -80,7 +80,10 @@ fn get_group(
                 text,
                 base,
             };
-            Ok((group, next))
+            match Box::new(alloc, group) {
+                Ok(group) => Ok((group, next)),
+                Err(_) => Err(CodecFault::Memory),
+            }
         }
         Err(AllocError) => Err(CodecFault::Memory),
     }

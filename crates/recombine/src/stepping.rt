@@ -121,7 +121,7 @@ impl Recombine {
             text: String::from_str(alloc, x.text.as_str())?,
             base: x.entry,
         };
-        groups.push(group)
+        groups.push(Box::new(alloc, group)?)
     }
 
     /// The third and fourth step, where its group is at this place.

@@ -1,8 +1,8 @@
-use Rattle.std.proofs.Common.{ℕ, ◌∙◌, ◌+◌, ◌-◌, ◌<◌, ◌≤◌, ap, sym, subst, take, drop, length, arith}
-use Rattle.std.proofs.lemmas.List.{take_rest, length-take, length-drop}
+use Rattle.std.proofs.Common.{◌∙◌, ◌+◌, ◌-◌, ap, sym, take, drop, length, arith}
+use Rattle.std.proofs.lemmas.List.{take_rest}
+use Rattle.recombine.specs.declared.group.OpenGroup.{OpenGroup}
 use Rattle.recombine.specs.Sources.{is_of}
 use Rattle.recombine.specs.Table.{group_seen, mark_of as mark_of_bytes}
-use Rattle.recombine.specs.declared.group.OpenGroup.{OpenGroup}
 use Rattle.recombine.proofs.TableLemmas.{others_over, others_next, all_others, reaches, ends_at, lengths}
 use Rattle.recombine.proofs.groups.place_in.Goals as goal
 
@@ -19,7 +19,7 @@ returns-then-eq c =
       group = c.index-groups-place.result;
       in_range = in_range;
       is = c.index-groups-place.is;
-      own = ap (λ (g : OpenGroup). is_of c.args.source.now (group_seen g)) c.index-groups-place.is ∙ (sym c.eq.ensures ∙ c.if-eq.true);
+      own = sym (ap (λ (o : OpenGroup). is_of c.args.source.now (group_seen o)) c.deref.ensures) ∙ sym c.eq.ensures ∙ c.if-eq.true;
       before = others_over c.args.source.now c.args.groups.now c.args.marks.now c.requires c.places.from c.mark_of-mark.result (take (length c.args.marks.now - c.places.from) (drop c.places.from c.args.marks.now)) (take_rest c.args.marks.now c.places.from)
           (c.mark_of-mark.ensures ∙ ap mark_of_bytes (c.as_bytes.ensures.value ∙ c.as_str.ensures)) c.places.invariant.others c.in-Some.step (omega (arith, in_range)) c.in-Some.ensures.0.before;
     }
@@ -30,7 +30,7 @@ places-preserved c =
     (c.mark_of-mark.ensures ∙ ap mark_of_bytes (c.as_bytes.ensures.value ∙ c.as_str.ensures)) c.places.invariant.others c.in-Some.step c.in-Some.ensures.0.high in
     record {
       within = omega (arith, in_range, lengths c.args.groups.now c.args.marks.now c.requires);
-      others = others_next c.args.source.now c.args.groups.now (c.places.from + c.in-Some.step) c.index-groups-place.result in_range c.index-groups-place.is (ap (λ (g : OpenGroup). is_of c.args.source.now (group_seen g)) c.index-groups-place.is ∙ (sym c.eq.ensures ∙ c.if-eq.false))
+      others = others_next c.args.source.now c.args.groups.now (c.places.from + c.in-Some.step) c.index-groups-place.result in_range c.index-groups-place.is (sym (ap (λ (o : OpenGroup). is_of c.args.source.now (group_seen o)) c.deref.ensures) ∙ sym c.eq.ensures ∙ c.if-eq.false)
           (others_over c.args.source.now c.args.groups.now c.args.marks.now c.requires c.places.from c.mark_of-mark.result (take (length c.args.marks.now - c.places.from) (drop c.places.from c.args.marks.now)) (take_rest c.args.marks.now c.places.from)
           (c.mark_of-mark.ensures ∙ ap mark_of_bytes (c.as_bytes.ensures.value ∙ c.as_str.ensures)) c.places.invariant.others c.in-Some.step (omega (arith, in_range)) c.in-Some.ensures.0.before);
     }

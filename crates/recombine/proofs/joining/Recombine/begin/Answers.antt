@@ -3,7 +3,7 @@ use Rattle.recombine.specs.Group.{Group}
 use Rattle.recombine.specs.Sources.{AreOfOthers}
 use Rattle.recombine.specs.Steps.{ended_by_mark}
 use Rattle.recombine.specs.Stepped.{seen}
-use Rattle.recombine.specs.Table.{IsPlace, group_seen, item_seen}
+use Rattle.recombine.specs.Table.{IsPlace, held_seen, item_seen}
 use Rattle.recombine.proofs.StepLemmas.{mark_unmarked, mark_none, mark_at, others_left, sent_none, sent_some}
 use Rattle.recombine.proofs.joining.Recombine.begin.Goals as goal
 
@@ -34,7 +34,7 @@ returns-clause-groups c =
 pub returns-clause-sent : goal.returns-clause-sent
 returns-clause-sent c =
     let a = subst (IsPlace c.args.x.now.source c.args.groups.now) c.in-Some.is c.requires in
-    sent_some c.args.self.now (seen c.args.out.now.items) (seen c.send.new.out.items) (ended_by_mark c.args.self.now c.args.groups.now (item_seen c.args.x.now)) (group_seen c.remove-group.result ∷ [])
+    sent_some c.args.self.now (seen c.args.out.now.items) (seen c.send.new.out.items) (ended_by_mark c.args.self.now c.args.groups.now (item_seen c.args.x.now)) (held_seen c.remove-group.result ∷ [])
     ((mark_at c.args.self.now (item_seen c.args.x.now) c.args.groups.now c.in-Some.place (sym c.is_first.ensures ∙ c.if-not-is_first.false) a).1
     ∙ ap (λ (g : Group). g ∷ []) (c.remove-group.ensures.taken a.before a.behind a.group a.parts a.place_is)) c.in_ok-send.ensures
 

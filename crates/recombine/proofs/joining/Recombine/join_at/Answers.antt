@@ -2,7 +2,7 @@ use Rattle.std.proofs.Common.{◌≡◌, ◌+◌, ◌++◌, ◌∷◌, [], true,
 use Rattle.entry_model.specs.LogRecord.{LogRecord}
 use Rattle.recombine.specs.Steps.{joined, with_item, is_done, ended_by_end}
 use Rattle.recombine.specs.Stepped.{seen}
-use Rattle.recombine.specs.Table.{item_seen, group_seen}
+use Rattle.recombine.specs.Table.{item_seen, held_seen}
 use Rattle.recombine.proofs.StepLemmas.{end_at, has_bytes_left, first_piece, second_piece, piece_fits, rebased, recounted, uncounted, sent_at_end, on_ok, on_ok_then, sent_none, sent_some}
 use Rattle.recombine.proofs.joining.Recombine.join_at.Goals as goal
 
@@ -46,7 +46,7 @@ returns-then-done-clause-sent c =
     (ended_by_end c.args.self.now (joined c.args.self.now c.args.groups.now (item_seen c.args.x)) (item_seen c.args.x))
     (with_item c.args.self.now c.requires.at.group (item_seen c.args.x) ∷ []) (end_at c.args.self.now (item_seen c.args.x) c.args.groups.now c.args.place c.requires.at true done).1
     (sent ∙ ap (λ (l : List LogRecord). seen c.args.out.now.items ++ l)
-    (sent_at_end c.args.self.now (item_seen c.args.x) c.args.groups.now c.args.place c.requires.at (group_seen c.remove-group.result)
+    (sent_at_end c.args.self.now (item_seen c.args.x) c.args.groups.now c.args.place c.requires.at (held_seen c.remove-group.result)
     (c.remove-group.ensures.taken c.requires.at.before c.requires.at.behind (uncounted c.args.self.now c.requires.at.group (item_seen c.args.x)) three c.requires.at.place_is)))) c.send.ensures
 
 pub returns-clause-groups : goal.returns-clause-groups

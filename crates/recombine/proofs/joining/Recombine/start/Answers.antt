@@ -3,7 +3,8 @@ use Rattle.std.proofs.lemmas.List.{append-nil}
 use Rattle.entry_model.specs.LogRecord.{log_record}
 use Rattle.recombine.specs.Steps.{opened, joined, ended_by_end}
 use Rattle.recombine.specs.Stepped.{seen}
-use Rattle.recombine.specs.Table.{item_seen}
+use Rattle.recombine.specs.Table.{group_seen, item_seen}
+use Rattle.recombine.specs.declared.group.OpenGroup.{OpenGroup}
 use Rattle.recombine.proofs.StepLemmas.{end_alone, has_place_left, short_text, on_ok, on_ok_then, sent_none, sent_some}
 use Rattle.recombine.proofs.joining.Recombine.start.Goals as goal
 
@@ -35,6 +36,7 @@ pub returns-clause-groups : goal.returns-clause-groups
 returns-clause-groups c =
     on_ok_then c.push.result _ _
     (λ put. put
+    ∙ ap (λ (o : OpenGroup). c.args.groups.now ++ group_seen o ∷ []) c.in_ok-new.ensures.ok
     ∙ ap (λ (t : List ℕ). c.args.groups.now ++ record { source = c.args.x.source; entries = 1; text = t; base = log_record c.args.x.entry } ∷ []) (c.in_ok-from_str.ensures.ok ∙ c.as_str.ensures)
     ∙ sym (end_alone c.args.self.now (item_seen c.args.x) c.args.groups.now c.requires.new false (sym c.is_done.ensures.value ∙ c.if-is_done.false)).0) c.push.ensures
 
