@@ -13,3 +13,4 @@ pub mod LinesRead
 pub mod PodsTold
 pub mod Resources
 pub mod TimeForms
+pub mod AsWritten

@@ -1,5 +1,5 @@
 -- A map without members.
-use Rattle.std.proofs.Common.{◌≡◌, ℕ, List, [], ap, ◌∙◌}
+use Rattle.std.proofs.Common.{◌≡◌, [], ap, ◌∙◌}
 use Rattle.entry_model.specs.ByName.{ByName}
 use Rattle.entry_model.specs.declared.value.Value.{Value}
 use Rattle.entry_model.specs.declared.value.Value.TheVariants.{Map}

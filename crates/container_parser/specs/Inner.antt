@@ -1,3 +1,4 @@
 -- What only contracts within the crate cite.
 pub mod Asked
 pub mod Common
+pub mod Strings

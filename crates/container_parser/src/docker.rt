@@ -7,6 +7,7 @@ ghost use Rattle.container_parser.specs.DockerLines.{IsObjectOf, text_in, text_a
 ghost use Rattle.container_parser.specs.Lines.{IsLine, IsDockerFaultOf, IsRecordOf, told};
 ghost use Rattle.container_parser.specs.declared.format.Format.TheVariants.{Docker};
 
+use crate::written::written_line;
 use crate::{ContainerFault, ContainerLine};
 use entry_model::{Fields, Text, Value};
 use json_text::JsonFault;
@@ -14,6 +15,17 @@ use std::alloc::{AllocError, Global};
 use time_layout::rfc3339;
 
 pub fn docker_line(alloc: Global, text: &str) -> Result<ContainerLine, ContainerFault>
+    ensures ok { IfOk result (λ line. IsLine Docker text.now line) }
+    ensures fault { IfErr result (IsDockerFaultOf text.now) }
+{
+    match written_line(alloc, text)? {
+        Some(line) => Ok(line),
+        None => line_of_object(alloc, text),
+    }
+}
+
+/// A line whose members are in any order, or more than the three.
+fn line_of_object(alloc: Global, text: &str) -> Result<ContainerLine, ContainerFault>
     ensures ok { IfOk result (λ line. IsLine Docker text.now line) }
     ensures fault { IfErr result (IsDockerFaultOf text.now) }
 {

@@ -32,6 +32,7 @@ mod reading;
 mod split;
 mod stream;
 mod tag;
+mod written;
 
 pub use entry::told_by;
 pub use fault::ContainerFault;

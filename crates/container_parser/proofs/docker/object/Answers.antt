@@ -1,4 +1,4 @@
-use Rattle.std.proofs.Common.{ℕ, List, ◌∙◌, ap, sym, subst}
+use Rattle.std.proofs.Common.{◌∙◌, ap, sym, subst}
 use Rattle.entry_model.specs.ByName.{ByName}
 use Rattle.entry_model.proofs.Data.{datum_map}
 use Rattle.entry_model.specs.Datum.{Datum, datum, fields, members_of}

@@ -4,7 +4,7 @@ use Rattle.entry_model.specs.Seen.{seen}
 use Rattle.container_parser.specs.declared.fault.ContainerFault.{ContainerFault}
 use Rattle.container_parser.specs.Lines.{IsDockerFaultOf}
 use Rattle.container_parser.proofs.Records.{other_is_no_line, told_is, record_is_missing}
-use Rattle.container_parser.proofs.docker.docker_line.Goals as goal
+use Rattle.container_parser.proofs.docker.line_of_object.Goals as goal
 
 pub returns-in-Err-clause-fault : goal.returns-in-Err-clause-fault
 returns-in-Err-clause-fault c =
