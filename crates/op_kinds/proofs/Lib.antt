@@ -6,6 +6,7 @@ pub mod States
 pub mod StateTexts
 pub mod Joined
 pub mod PartLemmas
+pub mod WholeParts
 pub mod Said
 pub mod Parsers
 pub mod Syslog

@@ -57,7 +57,7 @@ pod_nests (Some pod) resource =
       text_nests (codes "k8s.pod.uid") pod.uid four,
     )
 
-told_nests : (by_path : Bool) (line : ContainerLine) (entry : LogRecord) → NestsWithin levels entry → NestsWithin levels (told_by by_path line entry)
+pub told_nests : (by_path : Bool) (line : ContainerLine) (entry : LogRecord) → NestsWithin levels entry → NestsWithin levels (told_by by_path line entry)
 unfolding told_by
 told_nests by_path line entry n = record {
   body = omega arith;
@@ -67,7 +67,7 @@ told_nests by_path line entry n = record {
 
 -- ---- the body is the text that is joined
 
-told_text : (by_path : Bool) (line : ContainerLine) (entry : LogRecord) → joined_text parts_joined (told_by by_path line entry) ≡ Some line.text
+pub told_text : (by_path : Bool) (line : ContainerLine) (entry : LogRecord) → joined_text parts_joined (told_by by_path line entry) ≡ Some line.text
 unfolding told_by joined_text
 told_text by_path line entry = refl
 

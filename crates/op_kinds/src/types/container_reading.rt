@@ -10,6 +10,7 @@ ghost use Rattle.op_kinds.specs.declared.cause.OpCause.TheVariants.{Memory};
 
 use crate::action::Applied;
 use crate::joining::join;
+use crate::state::is_fresh;
 use crate::{OpCause, OpState, Record};
 use container_parser::{ContainerLine, ContainerOp, Format, Pods};
 use entry_model::Text;
@@ -128,6 +129,9 @@ impl Container {
     {
         if !item.entry().nests_within(LEVELS as u32) {
             return Ok(Applied::Faulty(item));
+        }
+        if !line.partial && is_fresh(state) {
+            return self.put_whole(alloc, state, line, item, out);
         }
         let source = line.stream.share()?;
         let last = !line.partial;
